@@ -1,0 +1,4 @@
+pub mod Widths
+pub mod Congruences
+pub mod Units
+mod Remainders

@@ -1,0 +1,24 @@
+-- `field::reduce` meets its contract.
+use mathlib.Core.Path.{ap}
+use Prim.Native.Nat.{ℕ, _%_}
+use native.Mathlib.Omega.{arith}
+use borrow.Author.Needs.{needs}
+use Rattle.field.proofs.Widths.{bounds}
+use Rattle.field.proofs.Remainders.{remainder}
+use Rattle.field.proofs.reduce.Statement.{statement}
+use Rattle.field.proofs.reduce.Tie as tie
+
+modulus-of-requires : tie.Need-modulus-of-requires
+modulus-of-requires c κs = search needs
+
+rem-result : tie.Need-rem-result
+rem-result c = omega (arith, bounds (c .before .before .pre))
+
+returns : tie.Need-returns
+returns c = remainder 0 (omega arith) (omega arith)
+
+returns-2 : tie.Need-returns-2
+returns-2 c = ap (λ (p : ℕ). c .before .before .args .w % p) (c .before .modulus-of .ensures)
+
+pub reduce-spec : {M : Type 1} → statement M
+reduce-spec = tie.close (tie.spec modulus-of-requires rem-result returns returns-2)

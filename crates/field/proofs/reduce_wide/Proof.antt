@@ -1,0 +1,60 @@
+-- `field::reduce_wide` meets its contract: two folds bring a sum of four products below p + 5.
+use mathlib.Core.Path.{_≡_, ap, _∙_}
+use Prim.Native.Nat.{ℕ, _+_, _*_, _/_, _%_, _^_, _<_}
+use native.Mathlib.Omega.{arith}
+use borrow.Author.Needs.{needs}
+use Rattle.field.specs.Width.{modulus, listed}
+use Rattle.field.proofs.Widths.{Bounds, bounds}
+use Rattle.field.proofs.Remainders.{remainder, fold-same, once, twice}
+use Rattle.field.proofs.reduce_wide.Statement.{statement}
+use Rattle.field.proofs.reduce_wide.Tie as tie
+
+-- what two folds give: `rest`, after `part`
+record Folded (n x rest : ℕ) : Type 0 where
+  turns : ℕ
+  same : x ≡ rest + modulus n * turns
+  few : rest < modulus n + 5
+
+folds : (n x part rest : ℕ) → Bounds n → x < 4 * (modulus n * modulus n) → part ≡ x % 2 ^ n + x / 2 ^ n
+    → rest ≡ part % 2 ^ n + part / 2 ^ n → Folded n x rest
+folds n x part rest b l ep er =
+    let first : part < 5 * modulus n = omega (arith, once n b x l) in
+    record {
+      turns = part / 2 ^ n + x / 2 ^ n;
+      same = omega (arith, fold-same n b x, fold-same n b part);
+      few = omega (arith, twice n b part first);
+    }
+
+cast-rest : tie.Need-cast-rest
+cast-rest c =
+    let s = c .before .before .before in
+    let b = bounds {n = s .args .n} (s .pre .0) in
+    omega (arith, folds (s .args .n) (s .args .x) _ _ b (s .pre .1) (c .before .folded .ensures) (c .folded2 .ensures))
+
+modulus-of-requires : tie.Need-modulus-of-requires
+modulus-of-requires c κs = search needs
+
+folded-requires : tie.Need-folded-requires
+folded-requires c κs = search needs
+
+folded-requires-2 : tie.Need-folded-requires-2
+folded-requires-2 c κs = search needs
+
+returns : tie.Need-returns
+returns c =
+    let s = c .before .before .before .before in
+    let b = bounds {n = s .args .n} (s .pre .0) in
+    let f = folds (s .args .n) (s .args .x) _ _ b (s .pre .1) (c .before .before .folded .ensures) (c .before .folded2 .ensures) in
+    remainder (f .turns) (f .same) (omega arith)
+
+returns-2 : tie.Need-returns-2
+returns-2 c =
+    let s = c .before .before .before .before in
+    let b = bounds {n = s .args .n} (s .pre .0) in
+    let f = folds (s .args .n) (s .args .x) _ _ b (s .pre .1) (c .before .before .folded .ensures) (c .before .folded2 .ensures) in
+    remainder (f .turns + 1) (omega arith) (omega arith)
+
+pub reduce-wide-spec : {M : Type 1} → statement M
+reduce-wide-spec =
+    tie.close
+    (tie.spec modulus-of-requires folded-requires folded-requires-2 cast-rest returns returns-2)

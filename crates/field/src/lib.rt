@@ -1,0 +1,87 @@
+// Arithmetic modulo p = 2^n - 1 on words, for the widths n that document 01 lists.
+ghost use mathlib.Core.Path.{_≡_};
+ghost use mathlib.Core.Bool.{true};
+ghost use Prim.Native.Nat.{_+_, _-_, _*_, _/_, _%_, _^_, _<_};
+ghost use lib.Dec.{ltb};
+ghost use Rattle.field.specs.Width.{listed, modulus};
+
+// Whether n is a width of document 01.
+pub fn is_listed(n: u32) -> bool
+    ensures { λ r. ⌜ r ≡ listed n ⌝ }
+{
+    match n {
+        3 | 5 | 7 | 13 | 17 | 19 | 31 => true,
+        _ => false,
+    }
+}
+
+// p.
+pub fn modulus_of(n: u32) -> u32
+    requires { ⌜ listed n ≡ true ⌝ }
+    ensures { λ r. ⌜ r ≡ modulus n ⌝ }
+{
+    (1u32 << n) - 1
+}
+
+// Whether a word is below p.
+pub fn in_range(n: u32, w: u32) -> bool
+    requires { ⌜ listed n ≡ true ⌝ }
+    ensures { λ r. ⌜ r ≡ ltb w (modulus n) ⌝ }
+{
+    w < modulus_of(n)
+}
+
+pub fn add(n: u32, a: u32, b: u32) -> u32
+    requires { ⌜ (listed n ≡ true) × (a < modulus n) × (b < modulus n) ⌝ }
+    ensures { λ r. ⌜ r ≡ (a + b) % modulus n ⌝ }
+{
+    let p = modulus_of(n);
+    let sum = a + b;
+    if sum < p { sum } else { sum - p }
+}
+
+pub fn sub(n: u32, a: u32, b: u32) -> u32
+    requires { ⌜ (listed n ≡ true) × (a < modulus n) × (b < modulus n) ⌝ }
+    ensures { λ r. ⌜ r ≡ (a + (modulus n - b)) % modulus n ⌝ }
+{
+    if b <= a {
+        a - b
+    } else {
+        a + (modulus_of(n) - b)
+    }
+}
+
+// One step of the reduction: 2^n is 1 modulo p, so the words above and below bit n are added.
+fn folded(n: u32, x: u64) -> u64
+    requires { ⌜ listed n ≡ true ⌝ }
+    ensures { λ r. ⌜ r ≡ x % 2 ^ n + x / 2 ^ n ⌝ }
+{
+    let p = modulus_of(n) as u64;
+    (x & p) + (x >> n)
+}
+
+// A sum of up to four products of words below p, reduced without a division.
+pub fn reduce_wide(n: u32, x: u64) -> u32
+    requires { ⌜ (listed n ≡ true) × (x < 4 * (modulus n * modulus n)) ⌝ }
+    ensures { λ r. ⌜ r ≡ x % modulus n ⌝ }
+{
+    let p = modulus_of(n);
+    let rest = folded(n, folded(n, x)) as u32;
+    if rest < p { rest } else { rest - p }
+}
+
+pub fn mul(n: u32, a: u32, b: u32) -> u32
+    requires { ⌜ (listed n ≡ true) × (a < modulus n) × (b < modulus n) ⌝ }
+    ensures { λ r. ⌜ r ≡ (a * b) % modulus n ⌝ }
+{
+    reduce_wide(n, (a as u64) * (b as u64))
+}
+
+// Any word, reduced. A word below p, as every word of a sound job is, costs one comparison.
+pub fn reduce(n: u32, w: u32) -> u32
+    requires { ⌜ listed n ≡ true ⌝ }
+    ensures { λ r. ⌜ r ≡ w % modulus n ⌝ }
+{
+    let p = modulus_of(n);
+    if w < p { w } else { w % p }
+}
