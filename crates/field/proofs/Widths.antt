@@ -1,6 +1,6 @@
 -- What holds of every listed width: a test that antt computes over the seven, and the bounds that the arithmetic uses.
-use Prim.Native.Nat.{ℕ, suc, _+_, _*_, _^_, _<_, _≤_}
-use native.Mathlib.Nat.{le-of-lt, mul-le-mul-left, mul-le-mul-right}
+use Prim.Native.Nat.{ℕ, _+_, _-_, _*_, _^_, _<_, _≤_}
+use native.Mathlib.Nat.{le-of-lt, mul-le-mul, mul-le-mul-left, mul-le-mul-right}
 use mathlib.Core.Path.{_≡_, refl, sym}
 use mathlib.Core.Bool.{Bool, true, _&&_, false≢true}
 use mathlib.Core.List.{List, [], _∷_}
@@ -39,6 +39,7 @@ pub record Bounds (n : ℕ) : Type 0 where
   pub power : modulus n + 1 ≡ 2 ^ n
   pub seven : 7 ≤ modulus n
   pub word : modulus n < 2 ^ 31
+  pub square : modulus n * modulus n < 2 ^ 62
 
 pub bounds : {n : ℕ} → listed n ≡ true → Bounds n
 unfolding modulus
@@ -47,7 +48,15 @@ bounds {n} l =
     let high : n ≤ 31 = leb-true n 31 (each-listed (λ w. leb w 31) refl l) in
     let some : 2 ^ 3 ≤ 2 ^ n = pow-mono low in
     let few : 2 ^ n ≤ 2 ^ 31 = pow-mono high in
-    record { least = low; most = high; power = omega arith; seven = omega arith; word = omega arith }
+    let few-more : modulus n ≤ 2 ^ 31 - 1 = omega arith in
+    record {
+      least = low;
+      most = high;
+      power = omega arith;
+      seven = omega arith;
+      word = omega arith;
+      square = omega (arith, mul-le-mul few-more few-more);
+    }
 
 -- a product of two words below p leaves room for p more below p²
 pub product-below : {p a b : ℕ} → a < p → b < p → a * b + p ≤ p * p

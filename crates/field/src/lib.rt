@@ -70,11 +70,18 @@ pub fn reduce_wide(n: u32, x: u64) -> u32
     if rest < p { rest } else { rest - p }
 }
 
+// The whole product of two words.
+pub fn wide_mul(a: u32, b: u32) -> u64
+    ensures { λ r. ⌜ r ≡ a * b ⌝ }
+{
+    (a as u64) * (b as u64)
+}
+
 pub fn mul(n: u32, a: u32, b: u32) -> u32
     requires { ⌜ (listed n ≡ true) × (a < modulus n) × (b < modulus n) ⌝ }
     ensures { λ r. ⌜ r ≡ (a * b) % modulus n ⌝ }
 {
-    reduce_wide(n, (a as u64) * (b as u64))
+    reduce_wide(n, wide_mul(a, b))
 }
 
 // Any word, reduced. A word below p, as every word of a sound job is, costs one comparison.

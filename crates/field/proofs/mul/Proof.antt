@@ -1,24 +1,22 @@
 -- `field::mul` meets its contract: the product of two words below p is below p².
-use Prim.Native.Nat.{_^_, _≤_}
-use native.Mathlib.Nat.{mul-le-mul}
+use mathlib.Core.Path.{ap, _∙_}
+use Prim.Native.Nat.{ℕ, _%_}
 use native.Mathlib.Omega.{arith}
 use borrow.Author.Needs.{needs}
-use Rattle.field.proofs.Widths.{bounds, product-below}
+use Rattle.field.specs.Width.{modulus}
+use Rattle.field.proofs.Widths.{product-below}
 use Rattle.field.proofs.mul.Statement.{statement}
 use Rattle.field.proofs.mul.Tie as tie
 
-mul-reduce-wide : tie.Need-mul-reduce-wide
-mul-reduce-wide c =
-    let b = bounds (c .pre .0) in
-    let a-few : c .args .a ≤ 2 ^ 31 = omega arith in
-    let b-few : c .args .b ≤ 2 ^ 31 = omega arith in
-    omega (arith, mul-le-mul a-few b-few)
+wide-mul-requires : tie.Need-wide-mul-requires
+wide-mul-requires c κs = search needs
 
 reduce-wide-requires : tie.Need-reduce-wide-requires
-reduce-wide-requires c κs = (c .pre .0, omega (arith, product-below (c .pre .1) (c .pre .2)))
+reduce-wide-requires c κs =
+    (c .before .pre .0, omega (arith, product-below (c .before .pre .1) (c .before .pre .2), c .wide-mul .ensures))
 
 returns : tie.Need-returns
-returns c = search needs
+returns c = c .reduce-wide .ensures ∙ ap (λ (x : ℕ). x % modulus (c .before .before .args .n)) (c .before .wide-mul .ensures)
 
 pub mul-spec : {M : Type 1} → statement M
-mul-spec = tie.close (tie.spec mul-reduce-wide reduce-wide-requires returns)
+mul-spec = tie.close (tie.spec wide-mul-requires reduce-wide-requires returns)

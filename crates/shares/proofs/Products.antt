@@ -1,0 +1,103 @@
+-- With a dealt square or Beaver triple, the two boxes' shares add up to the square or the product. `side` is either box.
+use Prim.Native.Nat.{ℕ, _+_, _-_, _*_, _%_, _<_, _≤_}
+use mathlib.Core.Path.{_≡_, refl, sym, ap, _∙_}
+use mathlib.Core.Bool.{true}
+use native.Mathlib.Nat.{mod-lt, add-comm}
+use native.Mathlib.Omega.{arith}
+use Rattle.field.specs.Width.{modulus, listed}
+use Rattle.field.specs.Congruence.{Cong}
+use Rattle.field.proofs.Widths.{bounds}
+use Rattle.field.proofs.Congruences.{cong-refl, cong-eq, cong-sym, _⊙_, cong-mod, cong-add, cong-mul, cong-negation}
+use Rattle.shares.specs.Side.{isSide, other}
+use Rattle.shares.specs.Share.{constantShare, masked, opened, squareShare, productShare}
+use Rattle.shares.proofs.Sides.{constant-total}
+
+-- ---- every word that is made is below p
+
+below : (n x : ℕ) → listed n ≡ true → x % modulus n < modulus n
+below n x l = mod-lt x (omega (arith, bounds l))
+
+pub masked-below : (n v a : ℕ) → listed n ≡ true → masked n v a < modulus n
+unfolding masked
+masked-below n v a l = below n _ l
+
+pub opened-below : (n s h : ℕ) → listed n ≡ true → opened n s h < modulus n
+unfolding opened
+opened-below n s h l = below n _ l
+
+pub square-below : (n side e a q : ℕ) → listed n ≡ true → squareShare n side e a q < modulus n
+unfolding squareShare
+square-below n side e a q l = below n _ l
+
+pub product-share-below : (n side e f a b c : ℕ) → listed n ≡ true → productShare n side e f a b c < modulus n
+unfolding productShare
+product-share-below n side e f a b c l = below n _ l
+
+-- ---- opening
+
+-- both boxes open the same value
+pub opened-both : (n s h : ℕ) → opened n s h ≡ opened n h s
+unfolding opened
+opened-both n s h = ap (λ (x : ℕ). x % modulus n) (add-comm s h)
+
+-- a masked share and its mask add up to the share
+pub masked-plus : (n v a : ℕ) → a ≤ modulus n → Cong (modulus n) (a + masked n v a) v
+unfolding masked
+masked-plus n v a l =
+    cong-add cong-refl cong-mod
+    ⊙ cong-eq {b = v + (a + (modulus n - a))} (omega arith)
+    ⊙ cong-add cong-refl (cong-negation l)
+    ⊙ cong-eq (omega arith)
+
+-- what is opened, with the two mask words, adds up to the value
+pub opened-plus : (n v1 v2 a1 a2 : ℕ) → a1 ≤ modulus n → a2 ≤ modulus n
+    → Cong (modulus n) (a1 + a2 + opened n (masked n v1 a1) (masked n v2 a2)) (v1 + v2)
+unfolding opened
+opened-plus n v1 v2 a1 a2 l1 l2 =
+    cong-add cong-refl cong-mod
+    ⊙ cong-eq {b = (a1 + masked n v1 a1) + (a2 + masked n v2 a2)} (omega arith)
+    ⊙ cong-add (masked-plus n v1 a1 l1) (masked-plus n v2 a2 l2)
+
+-- ---- the shares' sum
+
+-- the two boxes' words of a dealt square, and of a Beaver triple
+pub record DealtSquare (n a1 q1 a2 q2 : ℕ) : Type 0 where
+  pub first : a1 ≤ modulus n
+  pub second : a2 ≤ modulus n
+  pub square : Cong (modulus n) (q1 + q2) ((a1 + a2) * (a1 + a2))
+
+pub record DealtTriple (n a1 b1 c1 a2 b2 c2 : ℕ) : Type 0 where
+  pub first-left : a1 ≤ modulus n
+  pub first-right : b1 ≤ modulus n
+  pub second-left : a2 ≤ modulus n
+  pub second-right : b2 ≤ modulus n
+  pub product : Cong (modulus n) (c1 + c2) ((a1 + a2) * (b1 + b2))
+
+module _ (side : ℕ) (s : isSide side ≡ true) where
+  pub square-total : {n a1 q1 a2 q2 : ℕ} → DealtSquare n a1 q1 a2 q2 → (v1 v2 : ℕ)
+      → let e = opened n (masked n v1 a1) (masked n v2 a2) in
+      Cong (modulus n) (squareShare n side e a1 q1 + squareShare n (other side) e a2 q2) ((v1 + v2) * (v1 + v2))
+  unfolding squareShare
+  square-total {n} {a1} {q1} {a2} {q2} dealt v1 v2 =
+      let e = opened n (masked n v1 a1) (masked n v2 a2) in
+      let total = opened-plus n v1 v2 a1 a2 (dealt .first) (dealt .second) in
+      cong-add cong-mod cong-mod
+      ⊙ cong-eq {b = (q1 + q2) + (2 * (e * (a1 + a2)) + e * e)} (omega (arith, constant-total side (e * e) s))
+      ⊙ cong-add (dealt .square) cong-refl
+      ⊙ cong-eq {b = (a1 + a2 + e) * (a1 + a2 + e)} (omega arith)
+      ⊙ cong-mul total total
+
+  pub product-total : {n a1 b1 c1 a2 b2 c2 : ℕ} → DealtTriple n a1 b1 c1 a2 b2 c2 → (v1 v2 u1 u2 : ℕ)
+      → let e = opened n (masked n v1 a1) (masked n v2 a2) in
+      let f = opened n (masked n u1 b1) (masked n u2 b2) in
+      Cong (modulus n) (productShare n side e f a1 b1 c1 + productShare n (other side) e f a2 b2 c2) ((v1 + v2) * (u1 + u2))
+  unfolding productShare
+  product-total {n} {a1} {b1} {c1} {a2} {b2} {c2} dealt v1 v2 u1 u2 =
+      let e = opened n (masked n v1 a1) (masked n v2 a2) in
+      let f = opened n (masked n u1 b1) (masked n u2 b2) in
+      cong-add cong-mod cong-mod
+      ⊙ cong-eq {b = (c1 + c2) + (e * (b1 + b2) + f * (a1 + a2) + e * f)} (omega (arith, constant-total side (e * f) s))
+      ⊙ cong-add (dealt .product) cong-refl
+      ⊙ cong-eq {b = (a1 + a2 + e) * (b1 + b2 + f)} (omega arith)
+      ⊙ cong-mul (opened-plus n v1 v2 a1 a2 (dealt .first-left) (dealt .second-left))
+      (opened-plus n u1 u2 b1 b2 (dealt .first-right) (dealt .second-right))

@@ -1,0 +1,67 @@
+-- `shares::square` meets its contract: the sum of the three products is below 4p², so one reduction serves.
+use mathlib.Core.Path.{_≡_, ap, _∙_}
+use Prim.Native.Nat.{ℕ, _+_, _*_, _%_, _<_}
+use native.Mathlib.Omega.{arith}
+use borrow.Author.Needs.{needs}
+use Rattle.field.specs.Width.{modulus, listed}
+use Rattle.field.proofs.Widths.{bounds, product-below}
+use Rattle.shares.specs.Share.{constantShare, squareShare}
+use Rattle.shares.proofs.Sides.{constant-below, constant-times}
+use Rattle.shares.proofs.square.Statement.{statement}
+use Rattle.shares.proofs.square.Tie as tie
+
+wide-mul-requires : tie.Need-wide-mul-requires
+wide-mul-requires c κs = search needs
+
+mul-own : tie.Need-mul-own
+mul-own c =
+    let s = c .before in
+    omega (arith, bounds (s .pre .0), product-below (s .pre .1) (s .pre .2))
+
+add-own : tie.Need-add-own
+add-own c =
+    let s = c .before in
+    omega (arith, bounds (s .pre .0), product-below (s .pre .1) (s .pre .2))
+
+constant-requires : tie.Need-constant-requires
+constant-requires c κs = search needs
+
+wide-mul-requires-2 : tie.Need-wide-mul-requires-2
+wide-mul-requires-2 c κs = search needs
+
+-- the whole sum, before it is reduced
+total : (c : tie.After-wide-mul2)
+    → let s = c .before .before .before in
+    s .args .q + 2 * (c .before .before .wide-mul .result) + c .wide-mul2 .result < 4 * (modulus (s .args .n) * modulus (s .args .n))
+total c =
+    let s = c .before .before .before in
+    let k : c .before .constant .result < modulus (s .args .n) = rw (c .before .constant .ensures) (constant-below (s .args .side) (s .pre .1)) in
+    omega (arith, c .before .before .wide-mul .ensures, c .wide-mul2 .ensures, product-below (s .pre .1) (s .pre .2), product-below (s .pre .1) k)
+
+add-reduce-wide : tie.Need-add-reduce-wide
+add-reduce-wide c = omega (arith, bounds (c .before .before .before .pre .0), total c)
+
+reduce-wide-requires : tie.Need-reduce-wide-requires
+reduce-wide-requires c κs = (c .before .before .before .pre .0, total c)
+
+returns : tie.Need-returns
+unfolding squareShare
+returns c =
+    let s = c .before .before .before .before in
+    let a = s .args in
+    c .reduce-wide .ensures
+    ∙ ap (λ (x : ℕ). x % modulus (a .n))
+    (rw (c .before .before .before .wide-mul .ensures, c .before .wide-mul2 .ensures, c .before .before .constant .ensures, constant-times (a .side) (a .e) (a .e)))
+
+pub square-spec : {M : Type 1} → statement M
+square-spec =
+    tie.close
+    (tie.spec
+    wide-mul-requires
+    mul-own
+    add-own
+    constant-requires
+    wide-mul-requires-2
+    add-reduce-wide
+    reduce-wide-requires
+    returns)

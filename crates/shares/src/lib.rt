@@ -1,0 +1,55 @@
+// Additive secret shares of two boxes: opening, and the shares of squares and products by dealt squares and Beaver triples.
+ghost use mathlib.Core.Path.{_≡_};
+ghost use mathlib.Core.Bool.{true};
+ghost use Prim.Native.Nat.{_<_};
+ghost use Rattle.field.specs.Width.{listed, modulus};
+ghost use Rattle.shares.specs.Side.{isSide};
+ghost use Rattle.shares.specs.Share.{constantShare, masked, opened, squareShare, productShare};
+
+// Whether the number is a box's side.
+pub fn is_side(side: u32) -> bool
+    ensures { λ r. ⌜ r ≡ isSide side ⌝ }
+{
+    side == 1 || side == 2
+}
+
+// A box's share of a public constant.
+pub fn constant(side: u32, c: u32) -> u32
+    ensures { λ r. ⌜ r ≡ constantShare side c ⌝ }
+{
+    if side == 1 { c } else { 0 }
+}
+
+// The word that opens a share v under the mask's word a.
+pub fn mask(n: u32, v: u32, a: u32) -> u32
+    requires { ⌜ (listed n ≡ true) × (v < modulus n) × (a < modulus n) ⌝ }
+    ensures { λ r. ⌜ r ≡ masked n v a ⌝ }
+{
+    field::sub(n, v, a)
+}
+
+// The opened value. Every word from the line is read here.
+pub fn open(n: u32, sent: u32, heard: u32) -> u32
+    requires { ⌜ (listed n ≡ true) × (sent < modulus n) × (heard < modulus n) ⌝ }
+    ensures { λ r. ⌜ r ≡ opened n sent heard ⌝ }
+{
+    field::add(n, sent, heard)
+}
+
+// The share of a square. One reduction for the whole sum.
+pub fn square(n: u32, side: u32, e: u32, a: u32, q: u32) -> u32
+    requires { ⌜ (listed n ≡ true) × (e < modulus n) × (a < modulus n) × (q < modulus n) ⌝ }
+    ensures { λ r. ⌜ r ≡ squareShare n side e a q ⌝ }
+{
+    let own = (q as u64) + 2 * field::wide_mul(e, a);
+    field::reduce_wide(n, own + field::wide_mul(e, constant(side, e)))
+}
+
+// The share of a product. One reduction for the whole sum.
+pub fn product(n: u32, side: u32, e: u32, f: u32, a: u32, b: u32, c: u32) -> u32
+    requires { ⌜ (listed n ≡ true) × (e < modulus n) × (f < modulus n) × (a < modulus n) × (b < modulus n) × (c < modulus n) ⌝ }
+    ensures { λ r. ⌜ r ≡ productShare n side e f a b c ⌝ }
+{
+    let own = (c as u64) + field::wide_mul(e, b) + field::wide_mul(f, a);
+    field::reduce_wide(n, own + field::wide_mul(e, constant(side, f)))
+}

@@ -1,0 +1,51 @@
+-- Where everything stands on a tape (document 01, "The tape"): a body of three sections, then a trailer of seven words.
+use Prim.Native.Nat.{ℕ, zero, suc, _+_, _*_}
+use mathlib.Core.List.{List, [], _∷_}
+use lib.ListN.{take, drop}
+
+-- how many squares, power groups and Beaver triples a tape deals
+abbrev pub squareCount : ℕ → ℕ
+squareCount n = 3 * (n * n)
+
+abbrev pub groupCount : ℕ → ℕ
+groupCount n = 3 * n
+
+abbrev pub tripleCount : ℕ → ℕ
+tripleCount n = 3 * n + 8
+
+-- the words of section 0, the squares; 1, the power groups; 2, the triples
+abbrev pub sectionLength : ℕ → ℕ → ℕ
+sectionLength n zero = squareCount n * 2
+sectionLength n (suc zero) = groupCount n * (n + 1)
+sectionLength n (suc (suc zero)) = tripleCount n * 3
+sectionLength n (suc (suc (suc k))) = 0
+
+-- the words before a section; before section 3, all of the body
+abbrev pub sectionStart : ℕ → ℕ → ℕ
+sectionStart n zero = 0
+sectionStart n (suc k) = sectionStart n k + sectionLength n k
+
+-- a section's words
+unfoldable pub section : ℕ → ℕ → List ℕ → List ℕ
+section n which tape = take (sectionLength n which) (drop (sectionStart n which) tape)
+
+abbrev pub trailerLength : ℕ
+trailerLength = 7
+
+abbrev pub bodyLength : ℕ → ℕ
+bodyLength n = 9 * (n * n) + 12 * n + 24
+
+abbrev pub tapeLength : ℕ → ℕ
+tapeLength n = 9 * (n * n) + 12 * n + 31
+
+-- the trailer: the distances back from its first word to the squares, the powers and the triples, then pair, side, number and width
+abbrev pub trailer : ℕ → ℕ → ℕ → ℕ → List ℕ
+trailer n pair side number =
+    9 * (n * n) + 12 * n + 24
+    ∷ 3 * (n * n) + 12 * n + 24
+    ∷ 9 * n + 24
+    ∷ pair
+    ∷ side
+    ∷ number
+    ∷ n
+    ∷ []

@@ -1,0 +1,4 @@
+pub mod Layout
+pub mod Order
+pub mod Letters
+pub mod Dealt

@@ -1,0 +1,114 @@
+// The one-time tape: where its sections stand, whether a lent tape is in order, and its sections as parts of it.
+ghost use mathlib.Core.Path.{_≡_};
+ghost use mathlib.Core.Bool.{true};
+ghost use Prim.Native.Nat.{_<_};
+ghost use lib.ListN.{length};
+ghost use Rattle.field.specs.Width.{listed};
+ghost use Rattle.tape.specs.Layout.{sectionLength, sectionStart, section, tapeLength};
+ghost use Rattle.tape.specs.Order.{inOrder, trailerFits, bodyInRange, Readable};
+
+pub const SQUARES: usize = 0;
+
+pub const POWERS: usize = 1;
+
+pub const TRIPLES: usize = 2;
+
+const TRAILER: usize = 7;
+
+// The words of a section.
+pub fn section_words(n: u32, which: usize) -> usize
+    requires { ⌜ (listed n ≡ true) × (which < 3) ⌝ }
+    ensures { λ r. ⌜ r ≡ sectionLength n which ⌝ }
+{
+    let m = n as usize;
+    match which {
+        0 => 3 * (m * m) * 2,
+        1 => 3 * m * (m + 1),
+        _ => (3 * m + 8) * 3,
+    }
+}
+
+// The words of a tape.
+pub fn tape_words(n: u32) -> usize
+    requires { ⌜ listed n ≡ true ⌝ }
+    ensures { λ r. ⌜ r ≡ tapeLength n ⌝ }
+{
+    let m = n as usize;
+    9 * (m * m) + 12 * m + 31
+}
+
+// Whether the last seven words are the trailer.
+fn trailer_fits(tape: &[u32], n: u32, pair: u32, side: u32, number: u32) -> bool
+    requires { ⌜ (listed n ≡ true) × (length (now tape) ≡ tapeLength n) ⌝ }
+    ensures { λ r. ⌜ r ≡ trailerFits n pair side number (now (tape .entry)) ⌝ }
+{
+    let trailer = [
+        9 * (n * n) + 12 * n + 24,
+        3 * (n * n) + 12 * n + 24,
+        9 * n + 24,
+        pair,
+        side,
+        number,
+        n,
+    ];
+    let body = tape.len() - TRAILER;
+    let mut k = 0;
+    while k < TRAILER {
+        if tape[body + k] != trailer[k] {
+            return false;
+        }
+        k += 1;
+    }
+    true
+}
+
+// Whether every word of the body is below p. Reading ends at the first that is not.
+fn body_in_range(tape: &[u32], n: u32) -> bool
+    requires { ⌜ (listed n ≡ true) × (length (now tape) ≡ tapeLength n) ⌝ }
+    ensures { λ r. ⌜ r ≡ bodyInRange n (now (tape .entry)) ⌝ }
+{
+    let p = field::modulus_of(n);
+    let mut which = 0;
+    let mut i = 0;
+    'sections: while which < 3 {
+        let end = i + section_words(n, which);
+        while i < end {
+            if p <= tape[i] {
+                break 'sections;
+            }
+            i += 1;
+        }
+        which += 1;
+    }
+    which == 3
+}
+
+// Whether the tape is in order for this width, pair, side and number.
+pub fn in_order(tape: &[u32], n: u32, pair: u32, side: u32, number: u32) -> bool
+    ensures { λ r. ⌜ r ≡ inOrder n pair side number (now (tape .entry)) ⌝ }
+{
+    if !field::is_listed(n) {
+        return false;
+    }
+    if !shares::is_side(side) {
+        return false;
+    }
+    if tape.len() != tape_words(n) {
+        return false;
+    }
+    if !trailer_fits(tape, n, pair, side, number) {
+        return false;
+    }
+    body_in_range(tape, n)
+}
+
+// A section, as the part of the tape that the trailer's distance points back to.
+pub fn section_of(tape: &[u32], n: u32, which: usize) -> &[u32]
+    requires { ⌜ Readable n (now tape) × (which < 3) ⌝ }
+    ensures { λ r. ⌜ now r ≡ section n which (now (tape .entry)) ⌝ }
+{
+    let at = tape.len() - TRAILER;
+    let start = at - tape[at + which] as usize;
+    let end = start + section_words(n, which);
+    &tape[start..end]
+}
