@@ -1,4 +1,5 @@
 pub mod Widths
 pub mod Congruences
 pub mod Units
+pub mod Sums
 mod Remainders

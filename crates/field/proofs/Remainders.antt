@@ -8,8 +8,8 @@ use Rattle.field.specs.Width.{modulus}
 use Rattle.field.proofs.Widths.{Bounds}
 
 -- what is below p and a multiple of p away from x is the remainder of x
-pub remainder : {p x r : ℕ} (k : ℕ) → x ≡ r + p * k → r < p → r ≡ x % p
-remainder {p} {x} {r} k e l = sym (ap (λ (y : ℕ). y % p) e ∙ add-mul-mod-self-left r p k ∙ mod-eq-of-lt l)
+pub remainder : {p x r : ℕ} (k : ℕ) → x ≡ r + p * k → r < p → (r ≡ x % p) × (r < p)
+remainder {p} {x} {r} k e l = (sym (ap (λ (y : ℕ). y % p) e ∙ add-mul-mod-self-left r p k ∙ mod-eq-of-lt l), l)
 
 module _ (n : ℕ) (b : Bounds n) where
   -- 2^n is 1 modulo p: the part above bit n may be added to the part below it

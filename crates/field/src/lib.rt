@@ -34,6 +34,7 @@ pub fn in_range(n: u32, w: u32) -> bool
 pub fn add(n: u32, a: u32, b: u32) -> u32
     requires { ⌜ (listed n ≡ true) × (a < modulus n) × (b < modulus n) ⌝ }
     ensures { λ r. ⌜ r ≡ (a + b) % modulus n ⌝ }
+    ensures below { λ r. ⌜ r < modulus n ⌝ }
 {
     let p = modulus_of(n);
     let sum = a + b;
@@ -43,6 +44,7 @@ pub fn add(n: u32, a: u32, b: u32) -> u32
 pub fn sub(n: u32, a: u32, b: u32) -> u32
     requires { ⌜ (listed n ≡ true) × (a < modulus n) × (b < modulus n) ⌝ }
     ensures { λ r. ⌜ r ≡ (a + (modulus n - b)) % modulus n ⌝ }
+    ensures below { λ r. ⌜ r < modulus n ⌝ }
 {
     if b <= a {
         a - b
@@ -64,6 +66,7 @@ fn folded(n: u32, x: u64) -> u64
 pub fn reduce_wide(n: u32, x: u64) -> u32
     requires { ⌜ (listed n ≡ true) × (x < 4 * (modulus n * modulus n)) ⌝ }
     ensures { λ r. ⌜ r ≡ x % modulus n ⌝ }
+    ensures below { λ r. ⌜ r < modulus n ⌝ }
 {
     let p = modulus_of(n);
     let rest = folded(n, folded(n, x)) as u32;
@@ -80,6 +83,7 @@ pub fn wide_mul(a: u32, b: u32) -> u64
 pub fn mul(n: u32, a: u32, b: u32) -> u32
     requires { ⌜ (listed n ≡ true) × (a < modulus n) × (b < modulus n) ⌝ }
     ensures { λ r. ⌜ r ≡ (a * b) % modulus n ⌝ }
+    ensures below { λ r. ⌜ r < modulus n ⌝ }
 {
     reduce_wide(n, wide_mul(a, b))
 }
@@ -88,6 +92,7 @@ pub fn mul(n: u32, a: u32, b: u32) -> u32
 pub fn reduce(n: u32, w: u32) -> u32
     requires { ⌜ listed n ≡ true ⌝ }
     ensures { λ r. ⌜ r ≡ w % modulus n ⌝ }
+    ensures below { λ r. ⌜ r < modulus n ⌝ }
 {
     let p = modulus_of(n);
     if w < p { w } else { w % p }

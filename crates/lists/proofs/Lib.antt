@@ -1,3 +1,5 @@
 pub mod Tests
 pub mod Every
 pub mod Tabulate
+pub mod Sets
+pub mod Sums

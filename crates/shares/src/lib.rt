@@ -1,7 +1,7 @@
 // Additive secret shares of two boxes: opening, and the shares of squares and products by dealt squares and Beaver triples.
 ghost use mathlib.Core.Path.{_≡_};
 ghost use mathlib.Core.Bool.{true};
-ghost use Prim.Native.Nat.{_<_};
+ghost use Prim.Native.Nat.{_<_, _≤_};
 ghost use Rattle.field.specs.Width.{listed, modulus};
 ghost use Rattle.shares.specs.Side.{isSide};
 ghost use Rattle.shares.specs.Share.{constantShare, masked, opened, squareShare, productShare};
@@ -16,6 +16,7 @@ pub fn is_side(side: u32) -> bool
 // A box's share of a public constant.
 pub fn constant(side: u32, c: u32) -> u32
     ensures { λ r. ⌜ r ≡ constantShare side c ⌝ }
+    ensures most { λ r. ⌜ r ≤ c ⌝ }
 {
     if side == 1 { c } else { 0 }
 }
@@ -24,6 +25,7 @@ pub fn constant(side: u32, c: u32) -> u32
 pub fn mask(n: u32, v: u32, a: u32) -> u32
     requires { ⌜ (listed n ≡ true) × (v < modulus n) × (a < modulus n) ⌝ }
     ensures { λ r. ⌜ r ≡ masked n v a ⌝ }
+    ensures below { λ r. ⌜ r < modulus n ⌝ }
 {
     field::sub(n, v, a)
 }
@@ -32,6 +34,7 @@ pub fn mask(n: u32, v: u32, a: u32) -> u32
 pub fn open(n: u32, sent: u32, heard: u32) -> u32
     requires { ⌜ (listed n ≡ true) × (sent < modulus n) × (heard < modulus n) ⌝ }
     ensures { λ r. ⌜ r ≡ opened n sent heard ⌝ }
+    ensures below { λ r. ⌜ r < modulus n ⌝ }
 {
     field::add(n, sent, heard)
 }
@@ -40,6 +43,7 @@ pub fn open(n: u32, sent: u32, heard: u32) -> u32
 pub fn square(n: u32, side: u32, e: u32, a: u32, q: u32) -> u32
     requires { ⌜ (listed n ≡ true) × (e < modulus n) × (a < modulus n) × (q < modulus n) ⌝ }
     ensures { λ r. ⌜ r ≡ squareShare n side e a q ⌝ }
+    ensures below { λ r. ⌜ r < modulus n ⌝ }
 {
     let own = (q as u64) + 2 * field::wide_mul(e, a);
     field::reduce_wide(n, own + field::wide_mul(e, constant(side, e)))
@@ -49,6 +53,7 @@ pub fn square(n: u32, side: u32, e: u32, a: u32, q: u32) -> u32
 pub fn product(n: u32, side: u32, e: u32, f: u32, a: u32, b: u32, c: u32) -> u32
     requires { ⌜ (listed n ≡ true) × (e < modulus n) × (f < modulus n) × (a < modulus n) × (b < modulus n) × (c < modulus n) ⌝ }
     ensures { λ r. ⌜ r ≡ productShare n side e f a b c ⌝ }
+    ensures below { λ r. ⌜ r < modulus n ⌝ }
 {
     let own = (c as u64) + field::wide_mul(e, b) + field::wide_mul(f, a);
     field::reduce_wide(n, own + field::wide_mul(e, constant(side, f)))

@@ -38,14 +38,15 @@ bodyLength n = 9 * (n * n) + 12 * n + 24
 abbrev pub tapeLength : ℕ → ℕ
 tapeLength n = 9 * (n * n) + 12 * n + 31
 
--- the trailer: the distances back from its first word to the squares, the powers and the triples, then pair, side, number and width
+-- the distances back from the trailer's first word to the squares, the powers and the triples
+abbrev pub squaresBack : ℕ → ℕ
+squaresBack n = 9 * (n * n) + 12 * n + 24
+
+abbrev pub powersBack : ℕ → ℕ
+powersBack n = 3 * (n * n) + 12 * n + 24
+
+abbrev pub triplesBack : ℕ → ℕ
+triplesBack n = 9 * n + 24
+
 abbrev pub trailer : ℕ → ℕ → ℕ → ℕ → List ℕ
-trailer n pair side number =
-    9 * (n * n) + 12 * n + 24
-    ∷ 3 * (n * n) + 12 * n + 24
-    ∷ 9 * n + 24
-    ∷ pair
-    ∷ side
-    ∷ number
-    ∷ n
-    ∷ []
+trailer n pair side number = squaresBack n ∷ powersBack n ∷ triplesBack n ∷ pair ∷ side ∷ number ∷ n ∷ []

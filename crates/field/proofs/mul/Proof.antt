@@ -16,7 +16,9 @@ reduce-wide-requires c κs =
     (c .before .pre .0, omega (arith, product-below (c .before .pre .1) (c .before .pre .2), c .wide-mul .ensures))
 
 returns : tie.Need-returns
-returns c = c .reduce-wide .ensures ∙ ap (λ (x : ℕ). x % modulus (c .before .before .args .n)) (c .before .wide-mul .ensures)
+returns c =
+    let r = c .reduce-wide .ensures in
+    (r .0 ∙ ap (λ (x : ℕ). x % modulus (c .before .before .args .n)) (c .before .wide-mul .ensures), r .1)
 
 pub mul-spec : {M : Type 1} → statement M
 mul-spec = tie.close (tie.spec wide-mul-requires reduce-wide-requires returns)

@@ -1,6 +1,7 @@
 -- `field::reduce` meets its contract.
 use mathlib.Core.Path.{ap}
 use Prim.Native.Nat.{ℕ, _%_}
+use native.Mathlib.Nat.{mod-lt}
 use native.Mathlib.Omega.{arith}
 use borrow.Author.Needs.{needs}
 use Rattle.field.proofs.Widths.{bounds}
@@ -18,7 +19,10 @@ returns : tie.Need-returns
 returns c = remainder 0 (omega arith) (omega arith)
 
 returns-2 : tie.Need-returns-2
-returns-2 c = ap (λ (p : ℕ). c .before .before .args .w % p) (c .before .modulus-of .ensures)
+returns-2 c =
+    let e = c .before .modulus-of .ensures in
+    let s = c .before .before in
+    (ap (λ (p : ℕ). s .args .w % p) e, rw e (mod-lt (s .args .w) (omega (arith, bounds (s .pre)))))
 
 pub reduce-spec : {M : Type 1} → statement M
 reduce-spec = tie.close (tie.spec modulus-of-requires rem-result returns returns-2)

@@ -6,7 +6,7 @@ use borrow.Author.Needs.{needs}
 use Rattle.field.specs.Width.{modulus}
 use Rattle.field.proofs.Widths.{bounds, product-below}
 use Rattle.shares.specs.Share.{productShare}
-use Rattle.shares.proofs.Sides.{constant-below, constant-times}
+use Rattle.shares.proofs.Sides.{constant-times}
 use Rattle.shares.proofs.product.Statement.{statement}
 use Rattle.shares.proofs.product.Tie as tie
 
@@ -39,7 +39,7 @@ total : (c : tie.After-wide-mul3)
     < 4 * (modulus (s .args .n) * modulus (s .args .n))
 total c =
     let s = c .before .before .before .before in
-    let k : c .before .constant .result < modulus (s .args .n) = rw (c .before .constant .ensures) (constant-below (s .args .side) (s .pre .2)) in
+    let k : c .before .constant .result < modulus (s .args .n) = omega arith in
     omega (
       arith,
       c .before .before .before .wide-mul .ensures,
@@ -61,15 +61,17 @@ unfolding productShare
 returns c =
     let s = c .before .before .before .before .before in
     let a = s .args in
-    c .reduce-wide .ensures
+    let r = c .reduce-wide .ensures in
+    (r .0
     ∙ ap (λ (x : ℕ). x % modulus (a .n))
     (rw (
       c .before .before .before .before .wide-mul .ensures,
       c .before .before .before .wide-mul2 .ensures,
       c .before .wide-mul3 .ensures,
-      c .before .before .constant .ensures,
+      c .before .before .constant .ensures .0,
       constant-times (a .side) (a .e) (a .f),
-    ))
+    )),
+    r .1)
 
 pub product-spec : {M : Type 1} → statement M
 product-spec =

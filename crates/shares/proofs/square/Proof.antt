@@ -6,7 +6,7 @@ use borrow.Author.Needs.{needs}
 use Rattle.field.specs.Width.{modulus, listed}
 use Rattle.field.proofs.Widths.{bounds, product-below}
 use Rattle.shares.specs.Share.{constantShare, squareShare}
-use Rattle.shares.proofs.Sides.{constant-below, constant-times}
+use Rattle.shares.proofs.Sides.{constant-times}
 use Rattle.shares.proofs.square.Statement.{statement}
 use Rattle.shares.proofs.square.Tie as tie
 
@@ -35,7 +35,7 @@ total : (c : tie.After-wide-mul2)
     s .args .q + 2 * (c .before .before .wide-mul .result) + c .wide-mul2 .result < 4 * (modulus (s .args .n) * modulus (s .args .n))
 total c =
     let s = c .before .before .before in
-    let k : c .before .constant .result < modulus (s .args .n) = rw (c .before .constant .ensures) (constant-below (s .args .side) (s .pre .1)) in
+    let k : c .before .constant .result < modulus (s .args .n) = omega arith in
     omega (arith, c .before .before .wide-mul .ensures, c .wide-mul2 .ensures, product-below (s .pre .1) (s .pre .2), product-below (s .pre .1) k)
 
 add-reduce-wide : tie.Need-add-reduce-wide
@@ -49,9 +49,11 @@ unfolding squareShare
 returns c =
     let s = c .before .before .before .before in
     let a = s .args in
-    c .reduce-wide .ensures
+    let r = c .reduce-wide .ensures in
+    (r .0
     ∙ ap (λ (x : ℕ). x % modulus (a .n))
-    (rw (c .before .before .before .wide-mul .ensures, c .before .wide-mul2 .ensures, c .before .before .constant .ensures, constant-times (a .side) (a .e) (a .e)))
+    (rw (c .before .before .before .wide-mul .ensures, c .before .wide-mul2 .ensures, c .before .before .constant .ensures .0, constant-times (a .side) (a .e) (a .e))),
+    r .1)
 
 pub square-spec : {M : Type 1} → statement M
 square-spec =

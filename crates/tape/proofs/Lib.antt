@@ -1,0 +1,6 @@
+pub mod Sizes
+pub mod Sections
+pub mod Orders
+pub mod Letters
+pub mod Dealing
+pub mod Bench
