@@ -1,0 +1,8 @@
+mod Rows
+mod Halves
+mod Counts
+pub mod Fits
+pub mod Levels
+pub mod Bits
+pub mod Values
+pub mod Bench
