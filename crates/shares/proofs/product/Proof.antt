@@ -61,17 +61,18 @@ unfolding productShare
 returns c =
     let s = c .before .before .before .before .before in
     let a = s .args in
-    let r = c .reduce-wide .ensures in
-    (r .0
-    ∙ ap (λ (x : ℕ). x % modulus (a .n))
-    (rw (
-      c .before .before .before .before .wide-mul .ensures,
-      c .before .before .before .wide-mul2 .ensures,
-      c .before .wide-mul3 .ensures,
-      c .before .before .constant .ensures .0,
-      constant-times (a .side) (a .e) (a .f),
-    )),
-    r .1)
+    let r = c .reduce-wide .ensures in (
+      r .0
+          ∙ ap (λ (x : ℕ). x % modulus (a .n))
+          (rw (
+            c .before .before .before .before .wide-mul .ensures,
+            c .before .before .before .wide-mul2 .ensures,
+            c .before .wide-mul3 .ensures,
+            c .before .before .constant .ensures .0,
+            constant-times (a .side) (a .e) (a .f),
+          )),
+      r .1,
+    )
 
 pub product-spec : {M : Type 1} → statement M
 product-spec =

@@ -49,11 +49,12 @@ unfolding squareShare
 returns c =
     let s = c .before .before .before .before in
     let a = s .args in
-    let r = c .reduce-wide .ensures in
-    (r .0
-    ∙ ap (λ (x : ℕ). x % modulus (a .n))
-    (rw (c .before .before .before .wide-mul .ensures, c .before .wide-mul2 .ensures, c .before .before .constant .ensures .0, constant-times (a .side) (a .e) (a .e))),
-    r .1)
+    let r = c .reduce-wide .ensures in (
+      r .0
+          ∙ ap (λ (x : ℕ). x % modulus (a .n))
+          (rw (c .before .before .before .wide-mul .ensures, c .before .wide-mul2 .ensures, c .before .before .constant .ensures .0, constant-times (a .side) (a .e) (a .e))),
+      r .1,
+    )
 
 pub square-spec : {M : Type 1} → statement M
 square-spec =

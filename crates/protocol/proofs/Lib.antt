@@ -1,0 +1,14 @@
+pub mod Openings
+pub mod Reading
+pub mod Totals
+pub mod Closings
+pub mod Matches
+pub mod Wraps
+pub mod Halves
+pub mod Sums
+pub mod Values
+pub mod Turns
+pub mod Below
+pub mod Slots
+pub mod Stages
+pub mod Right

@@ -1,0 +1,9 @@
+pub mod Words
+pub mod Tests
+pub mod Work
+pub mod Products
+pub mod Squares
+pub mod Levels
+pub mod Rounds
+pub mod Exchange
+pub mod Clear

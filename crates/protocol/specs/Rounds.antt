@@ -1,0 +1,153 @@
+-- The six rounds of document 01: what a box sends in each, and what it holds after hearing each.
+use Prim.Native.Nat.{ℕ, _+_, _*_, _%_}
+use mathlib.Core.List.{List, [], _∷_, _++_}
+use lib.ListN.{getD}
+use lib.Seq.{sets}
+use Rattle.lists.specs.Tabulate.{tabulate}
+use Rattle.field.specs.Width.{modulus}
+use Rattle.shares.specs.Side.{other}
+use Rattle.shares.specs.Share.{constantShare, masked}
+use Rattle.tape.specs.Layout.{section, squareCount, groupCount}
+use Rattle.tape.specs.Letters.{groupInverse}
+use Rattle.protocol.specs.Tests.{doubled, lowBit, complement, exclusive}
+use Rattle.protocol.specs.Work.{sumSlot, wrapSlot, halfSlot, bothSlot, held}
+use Rattle.protocol.specs.Products.{Party, Products, openings, closing}
+use Rattle.protocol.specs.Squares.{bitDifference, squareOpening, matchCount}
+use Rattle.protocol.specs.Levels.{wrapShare}
+
+-- ---- round 1: the bit differences of every test, level and bit; then α · β of each test
+
+abbrev pub squaresOf : Party → List ℕ
+squaresOf b = section (b .n) 0 (b .tape)
+
+abbrev pub powersOf : Party → List ℕ
+powersOf b = section (b .n) 1 (b .tape)
+
+-- the doubled shares of the three tests
+abbrev pub doubledOf : Party → ℕ → ℕ
+doubledOf b = doubled (b .n) (b .x) (b .y)
+
+unfoldable pub squareWord : Party → ℕ → ℕ
+squareWord b j = squareOpening (b .n) (bitDifference (b .n) (b .side) (doubledOf b) j) (squaresOf b) j
+
+-- α · β: box 1 alone has α, box 2 alone β
+unfoldable pub lowProducts : Party → Products
+lowProducts b =
+    record {
+      first = 3 * b .n;
+      count = 3;
+      left = λ t. constantShare (b .side) (lowBit (b .n) (b .x) (b .y) t);
+      right = λ t. constantShare (other (b .side)) (lowBit (b .n) (b .x) (b .y) t);
+    }
+
+-- the share of S
+unfoldable pub lowSum : Party → List ℕ → ℕ → ℕ
+lowSum b heard test =
+    exclusive (b .n) (lowBit (b .n) (b .x) (b .y) test)
+    (closing b (lowProducts b) heard (squareCount (b .n)) test)
+
+-- ---- round 2: A · w of every test and level
+
+unfoldable pub levelProducts : Party → List ℕ → Products
+levelProducts b work =
+    record {
+      first = 0;
+      count = groupCount (b .n);
+      left = λ g. held (b .n) work g;
+      right = λ g. groupInverse (b .n) (powersOf b) g;
+    }
+
+-- ---- round 3 opens d of every test and level
+-- ---- round 4: S · T of each test
+
+unfoldable pub wrapProducts : Party → List ℕ → Products
+wrapProducts b work =
+    record {
+      first = 3 * b .n + 3;
+      count = 3;
+      left = λ t. held (b .n) work (sumSlot (b .n) t);
+      right = λ t. held (b .n) work (wrapSlot (b .n) t);
+    }
+
+-- the share of the half test: 1 − (S + T − 2·S·T)
+unfoldable pub halfShare : Party → List ℕ → List ℕ → ℕ → ℕ
+halfShare b work heard test =
+    complement (b .n) (b .side)
+    (exclusive (b .n)
+    ((held (b .n) work (sumSlot (b .n) test) + held (b .n) work (wrapSlot (b .n) test)) % modulus (b .n))
+    (closing b (wrapProducts b work) heard 0 test))
+
+-- ---- round 5: M = H · U
+
+unfoldable pub halfProduct : Party → List ℕ → Products
+halfProduct b work =
+    record {
+      first = 3 * b .n + 6;
+      count = 1;
+      left = λ i. held (b .n) work (halfSlot (b .n) 0);
+      right = λ i. held (b .n) work (halfSlot (b .n) 1);
+    }
+
+-- ---- round 6: K = (1 − H − U + 2·M) · (1 − Z)
+
+unfoldable pub lastLeft : ℕ → ℕ → List ℕ → ℕ
+lastLeft n side work =
+    complement n side (exclusive n ((held n work (halfSlot n 0) + held n work (halfSlot n 1)) % modulus n) (held n work (bothSlot n)))
+
+unfoldable pub lastRight : ℕ → ℕ → List ℕ → ℕ
+lastRight n side work = complement n side (held n work (halfSlot n 2))
+
+unfoldable pub lastProduct : Party → List ℕ → Products
+lastProduct b work =
+    record {
+      first = 3 * b .n + 7;
+      count = 1;
+      left = λ i. lastLeft (b .n) (b .side) work;
+      right = λ i. lastRight (b .n) (b .side) work;
+    }
+
+-- the answer share: H − M + K
+unfoldable pub answerShare : Party → List ℕ → List ℕ → ℕ
+answerShare b work heard =
+    (masked (b .n) (held (b .n) work (halfSlot (b .n) 0)) (held (b .n) work (bothSlot (b .n)))
+    + closing b (lastProduct b work) heard 0 0)
+    % modulus (b .n)
+
+-- ---- by the round's number; any other round sends nothing and changes nothing
+
+abbrev pub atRound : {A : Type 0} → ℕ → List A → A → A
+atRound round rounds none = getD (none ∷ rounds) round none
+
+-- how many words a round opens
+unfoldable pub roundWords : ℕ → ℕ → ℕ
+roundWords n round = atRound round ((3 * (n * n) + 6) ∷ (6 * n) ∷ (3 * n) ∷ 6 ∷ 2 ∷ 2 ∷ []) 0
+
+-- the words that a box sends
+unfoldable pub message : Party → List ℕ → ℕ → List ℕ
+message b work round =
+    atRound round
+    ((tabulate (squareCount (b .n)) (squareWord b) ++ openings b (lowProducts b))
+    ∷ openings b (levelProducts b work)
+    ∷ tabulate (groupCount (b .n)) (λ g. held (b .n) work g)
+    ∷ openings b (wrapProducts b work)
+    ∷ openings b (halfProduct b work)
+    ∷ openings b (lastProduct b work)
+    ∷ [])
+    []
+
+-- work after the round's words were heard: the named words replaced, all others as they were
+unfoldable pub afterHearing : Party → List ℕ → ℕ → List ℕ → List ℕ
+afterHearing b work round heard =
+    atRound round
+    (sets (sets work 0 (tabulate (groupCount (b .n)) (matchCount (b .n) (b .side) (doubledOf b) (squaresOf b) heard))) (sumSlot (b .n) 0) (tabulate 3 (lowSum b heard))
+    ∷ sets work 0 (tabulate (groupCount (b .n)) (closing b (levelProducts b work) heard 0))
+    ∷ sets work (wrapSlot (b .n) 0) (tabulate 3 (wrapShare (b .n) (b .side) (powersOf b) work heard))
+    ∷ sets work (halfSlot (b .n) 0) (tabulate 3 (halfShare b work heard))
+    ∷ sets work (bothSlot (b .n)) (closing b (halfProduct b work) heard 0 0 ∷ [])
+    ∷ work
+    ∷ [])
+    work
+
+-- what comes back: the answer share after the last round, and 0 before
+unfoldable pub replyTo : Party → List ℕ → ℕ → List ℕ → ℕ
+replyTo b work round heard = atRound round (0 ∷ 0 ∷ 0 ∷ 0 ∷ 0 ∷ answerShare b work heard ∷ []) 0

@@ -1,0 +1,108 @@
+// Rounds 2 and 3: the masked counts of every level, and from them the share of each test's wrap.
+ghost use mathlib.Core.Path.{_≡_};
+ghost use mathlib.Core.Bool.{true};
+ghost use Prim.Native.Nat.{ℕ, _+_, _*_, _%_, _<_, _≤_};
+ghost use lib.ListN.{length, getD};
+ghost use lib.Seq.{sets};
+ghost use Rattle.lists.specs.Tabulate.{tabulate};
+ghost use Rattle.field.specs.Width.{listed, modulus};
+ghost use Rattle.tape.specs.Layout.{groupCount};
+ghost use Rattle.tape.specs.Letters.{groupInverse};
+ghost use Rattle.protocol.specs.Words.{Below};
+ghost use Rattle.protocol.specs.Work.{held};
+ghost use Rattle.protocol.specs.Products.{closed};
+ghost use Rattle.protocol.specs.Levels.{levelMatch, wrapShare};
+
+// The shares of A * w, in the place of those of A.
+pub fn close_levels(
+    n: u32,
+    side: u32,
+    powers: &[u32],
+    triples: &[u32],
+    heard: &[u32],
+    work: &mut [u32],
+)
+    requires { ⌜ (listed n ≡ true) × (groupCount n ≤ length (now work)) ⌝ }
+    requires { ⌜ Below (modulus n) (now powers) × (groupCount n * (n + 1) ≤ length (now powers)) ⌝ }
+    requires { ⌜ Below (modulus n) (now triples) × (groupCount n * 3 ≤ length (now triples)) ⌝ }
+    requires { ⌜ Below (modulus n) (now heard) × (groupCount n * 2 ≤ length (now heard)) ⌝ }
+    ensures { λ _. ⌜ now (work .exit)
+        ≡ sets (now (work .entry)) 0
+        (tabulate (groupCount n)
+        (λ g. closed n side (held n (now (work .entry)) g) (groupInverse n (now (powers .entry)) g) (now (triples .entry)) g (now (heard .entry)) (g * 2))) ⌝ }
+{
+    let m = n as usize;
+    let mut g: usize = 0;
+    while g < 3 * m {
+        let v = field::reduce(n, work[g]);
+        work[g] = crate::products::close_product(
+            n,
+            side,
+            v,
+            powers[g * (m + 1)],
+            triples,
+            g,
+            heard,
+            g * 2,
+        );
+        g += 1;
+    }
+}
+
+// The shares of d, as they are sent.
+pub fn send_levels(n: u32, work: &[u32], out: &mut [u32])
+    requires { ⌜ (listed n ≡ true) × (groupCount n ≤ length (now work)) × (groupCount n ≤ length (now out)) ⌝ }
+    ensures { λ _. ⌜ now (out .exit) ≡ sets (now (out .entry)) 0 (tabulate (groupCount n) (held n (now (work .entry)))) ⌝ }
+{
+    let m = n as usize;
+    let mut g: usize = 0;
+    while g < 3 * m {
+        out[g] = field::reduce(n, work[g]);
+        g += 1;
+    }
+}
+
+// The share of P(A) of group g, from the opened d = A * w. Each power of d is one product.
+fn level_match(n: u32, side: u32, d: u32, powers: &[u32], g: usize) -> u32
+    requires { ⌜ (listed n ≡ true) × (d < modulus n) × (g < groupCount n) ⌝ }
+    requires { ⌜ Below (modulus n) (now powers) × (groupCount n * (n + 1) ≤ length (now powers)) ⌝ }
+    ensures { λ r. ⌜ r ≡ levelMatch n side d (now (powers .entry)) g ⌝ }
+    ensures below { λ r. ⌜ r < modulus n ⌝ }
+{
+    let m = n as usize;
+    let base = g * (m + 1);
+    let mut total = shares::constant(side, encoding::table::coefficient_of(n, 0));
+    let mut power: u32 = 1;
+    let mut k: usize = 0;
+    while k < m {
+        power = field::mul(n, power, d);
+        let term = field::mul(n, power, powers[base + k + 1]);
+        total = field::add(
+            n,
+            total,
+            field::mul(n, encoding::table::coefficient_of(n, k + 1), term),
+        );
+        k += 1;
+    }
+    total
+}
+
+// The share of one test's wrap: the sum over its levels.
+pub fn wrap_of(n: u32, side: u32, powers: &[u32], work: &[u32], heard: &[u32], test: usize) -> u32
+    requires { ⌜ (listed n ≡ true) × (test < 3) × (groupCount n ≤ length (now work)) ⌝ }
+    requires { ⌜ Below (modulus n) (now powers) × (groupCount n * (n + 1) ≤ length (now powers)) ⌝ }
+    requires { ⌜ Below (modulus n) (now heard) × (groupCount n ≤ length (now heard)) ⌝ }
+    ensures { λ r. ⌜ r ≡ wrapShare n side (now (powers .entry)) (now (work .entry)) (now (heard .entry)) test ⌝ }
+    ensures below { λ r. ⌜ r < modulus n ⌝ }
+{
+    let m = n as usize;
+    let mut total: u32 = 0;
+    let mut i: usize = 0;
+    while i < m {
+        let g = test * m + i;
+        let d = shares::open(n, field::reduce(n, work[g]), heard[g]);
+        total = field::add(n, total, level_match(n, side, d, powers, g));
+        i += 1;
+    }
+    total
+}

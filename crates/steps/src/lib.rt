@@ -1,0 +1,5 @@
+// The steps of a round: opening and closing squares and products, and the levels' polynomial.
+pub mod levels;
+pub mod products;
+pub mod squares;
+pub mod tests;

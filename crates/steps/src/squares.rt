@@ -1,0 +1,102 @@
+// Round 1's squares: the bit differences of every test, level and bit.
+use crate::tests::Tests;
+ghost use mathlib.Core.Path.{_≡_};
+ghost use mathlib.Core.Bool.{true};
+ghost use Prim.Native.Nat.{ℕ, _+_, _*_, _%_, _<_, _≤_, _^_};
+ghost use lib.ListN.{length, getD};
+ghost use lib.Seq.{sets};
+ghost use Rattle.lists.specs.Tabulate.{tabulate, sum};
+ghost use Rattle.field.specs.Width.{listed, modulus};
+ghost use Rattle.shares.specs.Share.{constantShare};
+ghost use Rattle.tape.specs.Layout.{squareCount, groupCount};
+ghost use Rattle.protocol.specs.Words.{Below};
+ghost use Rattle.protocol.specs.Squares.{codeDifference, bitDifference, squareOpening, squareClosing, matchCount};
+
+// The n words that open the bit differences of group g, whose code is given.
+fn open_group(n: u32, side: u32, code: u32, squares: &[u32], g: usize, out: &mut [u32])
+    requires { ⌜ (listed n ≡ true) × (g < groupCount n) ⌝ }
+    requires { ⌜ Below (modulus n) (now squares) × (squareCount n * 2 ≤ length (now squares)) × (squareCount n ≤ length (now out)) ⌝ }
+    ensures { λ _. ⌜ now (out .exit)
+        ≡ sets (now (out .entry)) (g * n)
+        (tabulate n (λ k. squareOpening n (codeDifference n side code k) (now (squares .entry)) (g * n + k))) ⌝ }
+{
+    let base = g * (n as usize);
+    let mut k: u32 = 0;
+    while k < n {
+        let j = base + k as usize;
+        let share = crate::tests::complement_of(n, side, encoding::codes::bit(code, k));
+        out[j] = shares::mask(n, share, squares[j * 2]);
+        k += 1;
+    }
+}
+
+// All squares of the round, at the front of out.
+pub fn open_squares(n: u32, side: u32, tests: Tests, squares: &[u32], out: &mut [u32])
+    requires { ⌜ (listed n ≡ true) × Below (modulus n) (tests .doubled) ⌝ }
+    requires { ⌜ Below (modulus n) (now squares) × (squareCount n * 2 ≤ length (now squares)) × (squareCount n ≤ length (now out)) ⌝ }
+    ensures { λ _. ⌜ now (out .exit)
+        ≡ sets (now (out .entry)) 0
+        (tabulate (squareCount n)
+        (λ j. squareOpening n (bitDifference n side (λ t. getD (tests .doubled) t 0) j) (now (squares .entry)) j)) ⌝ }
+{
+    let m = n as usize;
+    let mut g: usize = 0;
+    while g < 3 * m {
+        let t = g / m;
+        let code = encoding::codes::level_code(n, side, tests.doubled[t], (g % m) as u32);
+        open_group(n, side, code, squares, g, &mut *out);
+        g += 1;
+    }
+}
+
+// The share of 1 + the n squares of group g, whose code is given.
+fn close_group(n: u32, side: u32, code: u32, squares: &[u32], g: usize, heard: &[u32]) -> u32
+    requires { ⌜ (listed n ≡ true) × (g < groupCount n) ⌝ }
+    requires { ⌜ Below (modulus n) (now squares) × (squareCount n * 2 ≤ length (now squares)) ⌝ }
+    requires { ⌜ Below (modulus n) (now heard) × (squareCount n ≤ length (now heard)) ⌝ }
+    ensures { λ r. ⌜ r
+        ≡ (constantShare side 1
+        + sum n (λ k. squareClosing n side (codeDifference n side code k) (now (squares .entry)) (now (heard .entry)) (g * n + k)))
+        % modulus n ⌝ }
+    ensures below { λ r. ⌜ r < modulus n ⌝ }
+{
+    let base = g * (n as usize);
+    let mut total = shares::constant(side, 1);
+    let mut k: u32 = 0;
+    while k < n {
+        let j = base + k as usize;
+        let a = squares[j * 2];
+        let share = crate::tests::complement_of(n, side, encoding::codes::bit(code, k));
+        let e = shares::open(n, shares::mask(n, share, a), heard[j]);
+        total = field::add(n, total, shares::square(n, side, e, a, squares[j * 2 + 1]));
+        k += 1;
+    }
+    total
+}
+
+// The counts of all groups, at the front of work.
+pub fn close_squares(
+    n: u32,
+    side: u32,
+    tests: Tests,
+    squares: &[u32],
+    heard: &[u32],
+    work: &mut [u32],
+)
+    requires { ⌜ (listed n ≡ true) × Below (modulus n) (tests .doubled) × (groupCount n ≤ length (now work)) ⌝ }
+    requires { ⌜ Below (modulus n) (now squares) × (squareCount n * 2 ≤ length (now squares)) ⌝ }
+    requires { ⌜ Below (modulus n) (now heard) × (squareCount n ≤ length (now heard)) ⌝ }
+    ensures { λ _. ⌜ now (work .exit)
+        ≡ sets (now (work .entry)) 0
+        (tabulate (groupCount n)
+        (matchCount n side (λ t. getD (tests .doubled) t 0) (now (squares .entry)) (now (heard .entry)))) ⌝ }
+{
+    let m = n as usize;
+    let mut g: usize = 0;
+    while g < 3 * m {
+        let t = g / m;
+        let code = encoding::codes::level_code(n, side, tests.doubled[t], (g % m) as u32);
+        work[g] = close_group(n, side, code, squares, g, heard);
+        g += 1;
+    }
+}
