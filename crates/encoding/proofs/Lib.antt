@@ -5,4 +5,3 @@ pub mod Fits
 pub mod Levels
 pub mod Bits
 pub mod Values
-pub mod Bench

@@ -12,3 +12,16 @@ pub mod Below
 pub mod Slots
 pub mod Stages
 pub mod Right
+pub mod Live
+pub mod Benches
+pub mod Moves
+pub mod Pieces
+pub mod Units
+pub mod Rules
+pub mod Bounds
+pub mod Undo
+pub mod Places
+pub mod Paired
+pub mod Exchanges
+pub mod Secrecy
+pub mod Lengths

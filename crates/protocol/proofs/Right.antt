@@ -10,6 +10,7 @@ use Rattle.field.specs.Width.{modulus, listed}
 use Rattle.field.specs.Congruence.{Cong}
 use Rattle.field.proofs.Congruences.{cong-eq, _⊙_}
 use Rattle.shares.specs.Side.{other}
+use Rattle.tape.specs.Layout.{groupCount}
 use Rattle.tape.specs.Dealt.{Matched}
 use Rattle.tape.proofs.Dealing.{own-readable}
 use Rattle.encoding.specs.Matching.{indicator}
@@ -18,8 +19,9 @@ use Rattle.protocol.specs.Tests.{doubled, lowBit}
 use Rattle.protocol.specs.Products.{Party, party}
 use Rattle.protocol.specs.Rounds.{message, afterHearing}
 use Rattle.protocol.specs.Exchange.{Both, exchanged, sentOwn, sentOthers, answerOwn, answerOthers}
-use Rattle.protocol.specs.Clear.{valueOf, lowSumOf, wrapOf, half, halfOf}
+use Rattle.protocol.specs.Clear.{valueOf, sharedBits, lowSumOf, wrapOf, half, halfOf}
 use Rattle.protocol.proofs.Halves.{compared, modulus-odd, indicator-bit}
+use Rattle.protocol.proofs.Wraps.{inverseTotal}
 use Rattle.protocol.proofs.Values.{value-below}
 use Rattle.protocol.proofs.Slots.{length-1, length-2, length-3, length-4, length-5}
 use Rattle.protocol.proofs.Stages.{count-total-1, sum-total-1, level-total-2, sum-total-2, wrap-total-3, sum-total-3, half-total-4, both-total-5, half-total-5, answer-total}
@@ -92,6 +94,15 @@ module _ {n pair number side : ℕ} {t1 t2 : List ℕ} (m : Matched n pair numbe
   abbrev pub Adds : ℕ → ℕ → ℕ → Type 0
   Adds r slot v = Cong (modulus n) (held n (o r) slot + held n (t r) slot) v
 
+  -- A, after round 1, and A · w after round 2
+  pub counts : (g : ℕ) → g < groupCount n → Adds 1 g (1 + sharedBits n side x1 y1 x2 y2 g)
+  unfolding exchanged
+  counts g less = count-total-1 m x1 y1 x2 y2 (w .own) (w .others) room1 room2 g less
+
+  pub levels : (g : ℕ) → g < groupCount n → Adds 2 g ((1 + sharedBits n side x1 y1 x2 y2 g) * inverseTotal n t1 t2 g)
+  unfolding exchanged
+  levels g less = level-total-2 m x1 y1 x2 y2 (o 1) (t 1) (rooms-1 .mine) (rooms-1 .theirs) g _ less (counts g less)
+
   -- S, up to round 3
   pub sums : (k : ℕ) → k < 3 → Adds 3 (sumSlot n k) (lowSumOf n x1 y1 x2 y2 k)
   unfolding exchanged
@@ -105,9 +116,7 @@ module _ {n pair number side : ℕ} {t1 t2 : List ℕ} (m : Matched n pair numbe
   unfolding exchanged
   wraps k less =
       wrap-total-3 m x1 y1 x2 y2 (o 2) (t 2) (rooms-2 .mine) (rooms-2 .theirs) k less
-      (λ g lg.
-      level-total-2 m x1 y1 x2 y2 (o 1) (t 1) (rooms-1 .mine) (rooms-1 .theirs) g _ lg
-      (count-total-1 m x1 y1 x2 y2 (w .own) (w .others) room1 room2 g lg))
+      levels
 
   -- the half tests, after round 4 and kept by round 5
   pub halves-4 : (k : ℕ) → k < 3 → Adds 4 (halfSlot n k) (halfOf n x1 y1 x2 y2 k)

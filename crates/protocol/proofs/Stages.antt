@@ -249,7 +249,7 @@ module _ {n pair number side : ℕ} {t1 t2 : List ℕ} (m : Matched n pair numbe
       (hu : Cong (modulus n) (held n v1 (halfSlot n 1) + held n v2 (halfSlot n 1)) u)
       (hz : Cong (modulus n) (held n v1 (halfSlot n 2) + held n v2 (halfSlot n 2)) z)
       (hm : Cong (modulus n) (held n v1 (bothSlot n) + held n v2 (bothSlot n)) (h * u)) where
-    left-total : Cong (modulus n) (lastLeft n side v1 + lastLeft n (other side) v2) (1 - (h + u) % 2)
+    pub left-total : Cong (modulus n) (lastLeft n side v1 + lastLeft n (other side) v2) (1 - (h + u) % 2)
     unfolding lastLeft
     left-total =
         complement-total n l side (own-side m) _ _ ((h + u) % 2) (exclusive-below n l _ _) (exclusive-below n l _ _)
@@ -260,7 +260,7 @@ module _ {n pair number side : ℕ} {t1 t2 : List ℕ} (m : Matched n pair numbe
         hm (bit-sum h u lh lu))
         (omega arith)
 
-    right-total : Cong (modulus n) (lastRight n side v1 + lastRight n (other side) v2) (1 - z)
+    pub right-total : Cong (modulus n) (lastRight n side v1 + lastRight n (other side) v2) (1 - z)
     unfolding lastRight
     right-total =
         complement-total n l side (own-side m) (held n v1 (halfSlot n 2)) (held n v2 (halfSlot n 2)) z

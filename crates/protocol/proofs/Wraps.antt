@@ -29,7 +29,7 @@ use Rattle.encoding.specs.Polynomial.{coefficient, polynomial}
 use Rattle.encoding.proofs.Levels.{matching, wrap-less}
 use Rattle.protocol.specs.Levels.{levelMatch}
 
-pow-times : (a b k : ℕ) → (a * b) ^ k ≡ a ^ k * b ^ k
+pub pow-times : (a b k : ℕ) → (a * b) ^ k ≡ a ^ k * b ^ k
 pow-times a b zero = rw (pow-zero (a * b), pow-zero a, pow-zero b)
 pow-times a b (suc k) = rw (pow-suc (a * b) k, pow-suc a k, pow-suc b k, pow-times a b k) (omega arith)
 

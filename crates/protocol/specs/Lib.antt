@@ -7,3 +7,7 @@ pub mod Levels
 pub mod Rounds
 pub mod Exchange
 pub mod Clear
+pub mod Bench
+pub mod Change
+pub mod Shift
+pub mod Pairing

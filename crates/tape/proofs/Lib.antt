@@ -3,4 +3,4 @@ pub mod Sections
 pub mod Orders
 pub mod Letters
 pub mod Dealing
-pub mod Bench
+pub mod Plains

@@ -1,0 +1,5 @@
+pub mod Parts
+pub mod Messages
+pub mod Sound
+pub mod Closings
+pub mod Heard

@@ -1,0 +1,257 @@
+-- `compare::hearing::hear` meets its contract, round by round.
+use Prim.Native.Nat.{ℕ, _*_, _<_, _≤_}
+use mathlib.Core.Path.{_≡_, sym}
+use native.Mathlib.Omega.{arith}
+use borrow.Author.Needs.{needs}
+use lib.ListN.{length}
+use Rattle.field.specs.Width.{modulus}
+use Rattle.field.proofs.Widths.{bounds}
+use Rattle.protocol.specs.Rounds.{roundWords, afterHearing, replyTo}
+use Rattle.protocol.proofs.Turns.{no-round}
+use Rattle.compare.proofs.Sound.{sound}
+use Rattle.compare.proofs.Heard.{levels-closed, wraps-closed, both-closed}
+use Rattle.compare.proofs.hearing.hear.Statement.{statement}
+use Rattle.compare.proofs.hearing.hear.Tie as tie
+
+-- the words of the round
+words : (s : tie.Start) (round : ℕ) → s .args .round ≡ round → roundWords (s .args .n) round ≤ length (s .args .heard .now)
+words s round e = rw e at (s .pre .1 .1)
+
+-- no answer yet
+none : (s : tie.Start) → 0 < modulus (s .args .n)
+none s = omega (arith, bounds (s .pre .0 .3 .width))
+
+hear-first-requires : tie.Need-hear-first-requires
+hear-first-requires c κs =
+    let m = c .before in
+    let s = m .before .before .before .before in
+    (s .pre .0, (s .pre .1 .0, words s 1 (m .match .keys1)))
+
+section-of-requires : tie.Need-section-of-requires
+section-of-requires c κs = search needs
+
+section-of-requires-2 : tie.Need-section-of-requires-2
+section-of-requires-2 c κs = search needs
+
+close-levels-requires : tie.Need-close-levels-requires
+unfolding roundWords
+close-levels-requires c κs =
+    let t = c .before in
+    let p = t .before in
+    let m = p .before in
+    let s = m .before .before .before .before in
+    let powers = sound (s .pre .0 .3) 1 (omega arith) (p .section-of .result .now) (p .section-of .ensures) in
+    let triples = sound (s .pre .0 .3) 2 (omega arith) (t .section-of2 .result .now) (t .section-of2 .ensures) in
+    let room : 6 * s .args .n ≤ length (s .args .heard .now) = words s 2 (m .match .keys2) in (
+      (s .pre .0 .3 .width, omega (arith, s .pre .0 .4)),
+      ((powers .below, omega (arith, powers .long)), ((triples .below, omega (arith, triples .long)), (s .pre .1 .0, omega arith))),
+    )
+
+hear-levels-requires : tie.Need-hear-levels-requires
+hear-levels-requires c κs =
+    let m = c .before in
+    let s = m .before .before .before .before in
+    ((s .pre .0 .1, s .pre .0 .2, s .pre .0 .3, s .pre .0 .4), (s .pre .1 .0, words s 3 (m .match .keys3)))
+
+section-of-requires-3 : tie.Need-section-of-requires-3
+section-of-requires-3 c κs = search needs
+
+close-wraps-requires : tie.Need-close-wraps-requires
+unfolding roundWords
+close-wraps-requires c κs =
+    let t = c .before in
+    let m = t .before in
+    let s = m .before .before .before .before in
+    let triples = sound (s .pre .0 .3) 2 (omega arith) (t .section-of3 .result .now) (t .section-of3 .ensures) in
+    ((s .pre .0 .3 .width, s .pre .0 .4), ((triples .below, omega (arith, triples .long)), (s .pre .1 .0, words s 4 (m .match .keys4))))
+
+section-of-requires-4 : tie.Need-section-of-requires-4
+section-of-requires-4 c κs = search needs
+
+half-requires : tie.Need-half-requires
+half-requires c κs = search needs
+
+half-requires-2 : tie.Need-half-requires-2
+half-requires-2 c κs = search needs
+
+mul-close-product : tie.Need-mul-close-product
+mul-close-product c = search needs
+
+add-close-product : tie.Need-add-close-product
+add-close-product c = search needs
+
+close-product-requires : tie.Need-close-product-requires
+unfolding roundWords
+close-product-requires c κs =
+    let h = c .before .before in
+    let t = h .before .before in
+    let m = t .before in
+    let s = m .before .before .before .before in
+    let triples = sound (s .pre .0 .3) 2 (omega arith) (t .section-of4 .result .now) (t .section-of4 .ensures) in (
+      (s .pre .0 .3 .width, h .half .ensures .1, c .half2 .ensures .1),
+      ((triples .below, omega (arith, triples .long)), (s .pre .1 .0, words s 5 (m .match .keys5))),
+    )
+
+mul-work : tie.Need-mul-work
+mul-work c = search needs
+
+add-work : tie.Need-add-work
+add-work c = search needs
+
+mul-work-2 : tie.Need-mul-work-2
+mul-work-2 c = search needs
+
+slice-write-work : tie.Need-slice-write-work
+slice-write-work c = search needs
+
+answer-requires : tie.Need-answer-requires
+unfolding roundWords
+answer-requires c κs =
+    let m = c .before in
+    let s = m .before .before .before .before in
+    ((s .pre .0 .3, s .pre .0 .4), (s .pre .1 .0, words s 6 (m .match .keys6)))
+
+same-length : tie.Need-same-length
+same-length c = search needs
+
+returns : tie.Need-returns
+unfolding replyTo
+returns c =
+    let done = c .before .before in
+    let m = done .before .before in
+    let s = m .before .before .before .before in
+    ((rw (m .match .keys1), rw (m .match .keys1) (done .hear-first .ensures)), none s)
+
+same-length-2 : tie.Need-same-length-2
+same-length-2 c = search needs
+
+returns-2 : tie.Need-returns-2
+unfolding replyTo
+returns-2 c =
+    let done = c .before .before in
+    let t = done .before .before in
+    let p = t .before in
+    let m = p .before in
+    let s = m .before .before .before .before in
+    let a = s .args in (
+      (
+        rw (m .match .keys2),
+        rw (m .match .keys2)
+            (levels-closed (a .n) (a .side) (a .x) (a .y) (a .tape .now) (a .work .now) (a .heard .now)
+            (p .section-of .result .now) (t .section-of2 .result .now) (done .close-levels .last .1 .1 .1 .1 .1 .0)
+            (p .section-of .ensures) (t .section-of2 .ensures) (done .close-levels .ensures)),
+      ),
+      none s,
+    )
+
+same-length-3 : tie.Need-same-length-3
+same-length-3 c = search needs
+
+returns-3 : tie.Need-returns-3
+unfolding replyTo
+returns-3 c =
+    let done = c .before .before in
+    let m = done .before .before in
+    let s = m .before .before .before .before in
+    ((rw (m .match .keys3), rw (m .match .keys3) (done .hear-levels .ensures)), none s)
+
+same-length-4 : tie.Need-same-length-4
+same-length-4 c = search needs
+
+returns-4 : tie.Need-returns-4
+unfolding replyTo
+returns-4 c =
+    let done = c .before .before in
+    let t = done .before .before in
+    let m = t .before in
+    let s = m .before .before .before .before in
+    let a = s .args in (
+      (
+        rw (m .match .keys4),
+        rw (m .match .keys4)
+            (wraps-closed (a .n) (a .side) (a .x) (a .y) (a .tape .now) (a .work .now) (a .heard .now)
+            (t .section-of3 .result .now) (done .close-wraps .last .1 .1 .1 .1 .0)
+            (t .section-of3 .ensures) (done .close-wraps .ensures)),
+      ),
+      none s,
+    )
+
+same-length-5 : tie.Need-same-length-5
+same-length-5 c = search needs
+
+returns-5 : tie.Need-returns-5
+unfolding replyTo
+returns-5 c =
+    let u = c .before in
+    let v = u .before .before in
+    let t = v .before .before in
+    let m = t .before in
+    let s = m .before .before .before .before in
+    let a = s .args in (
+      (
+        rw (m .match .keys5),
+        rw (m .match .keys5)
+            (both-closed (a .n) (a .side) (a .x) (a .y) (a .tape .now) (a .work .now) (a .heard .now)
+            (t .section-of4 .result .now) (v .half .result) (u .half2 .result) (c .close-product .result)
+            (t .section-of4 .ensures) (v .half .ensures .0) (u .half2 .ensures .0) (c .close-product .ensures .0)),
+      ),
+      none s,
+    )
+
+same-length-6 : tie.Need-same-length-6
+same-length-6 c = search needs
+
+returns-6 : tie.Need-returns-6
+unfolding afterHearing
+returns-6 c =
+    let m = c .before .before in
+    let a = m .before .before .before .before .args in
+    ((rw (m .match .keys6) (c .answer .ensures .0 (a .x) (a .y)), rw (m .match .keys6)), c .answer .ensures .1)
+
+returns-7 : tie.Need-returns-7
+unfolding replyTo afterHearing
+returns-7 c =
+    let s = c .before .before .before .before in
+    let r = c .match .rest in (
+      (
+        sym (no-round _ _ _ _ _ _ _ (s .args .round) (r .0 .0 .0 .0 .0 .1) (r .0 .0 .0 .0 .1) (r .0 .0 .0 .1) (r .0 .0 .1) (r .0 .1) (r .1)),
+        sym (no-round _ _ _ _ _ _ _ (s .args .round) (r .0 .0 .0 .0 .0 .1) (r .0 .0 .0 .0 .1) (r .0 .0 .0 .1) (r .0 .0 .1) (r .0 .1) (r .1)),
+      ),
+      none s,
+    )
+
+pub hear-spec : {M : Type 1} → statement M
+hear-spec =
+    tie.close
+    (tie.spec
+    hear-first-requires
+    section-of-requires
+    section-of-requires-2
+    close-levels-requires
+    hear-levels-requires
+    section-of-requires-3
+    close-wraps-requires
+    section-of-requires-4
+    half-requires
+    half-requires-2
+    mul-close-product
+    add-close-product
+    close-product-requires
+    mul-work
+    add-work
+    mul-work-2
+    slice-write-work
+    answer-requires
+    same-length
+    returns
+    same-length-2
+    returns-2
+    same-length-3
+    returns-3
+    same-length-4
+    returns-4
+    same-length-5
+    returns-5
+    same-length-6
+    returns-6
+    returns-7)

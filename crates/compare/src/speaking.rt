@@ -1,0 +1,90 @@
+// What a box sends in each round.
+ghost use mathlib.Core.Path.{_≡_};
+ghost use mathlib.Core.Bool.{true};
+ghost use Prim.Native.Nat.{_+_, _*_, _<_, _≤_};
+ghost use lib.ListN.{length};
+ghost use lib.Seq.{sets};
+ghost use Rattle.field.specs.Width.{modulus};
+ghost use Rattle.shares.specs.Side.{isSide};
+ghost use Rattle.tape.specs.Order.{Readable};
+ghost use Rattle.protocol.specs.Work.{workLength};
+ghost use Rattle.protocol.specs.Products.{party};
+ghost use Rattle.protocol.specs.Rounds.{roundWords, message};
+
+// Round 1's words: all squares, then alpha * beta of each test. Box 1 alone has alpha, box 2 alone beta.
+fn speak_first(n: u32, side: u32, x: u32, y: u32, tape: &[u32], out: &mut [u32])
+    requires { ⌜ (isSide side ≡ true) × (x < modulus n) × (y < modulus n) × Readable n (now tape) × (roundWords n 1 ≤ length (now out)) ⌝ }
+    ensures { λ _. ⌜ now (out .exit) ≡ sets (now (out .entry)) 0 (message (party n side x y (now (tape .entry))) (now (out .entry)) 1) ⌝ }
+{
+    let m = n as usize;
+    let tests = steps::tests::tests_of(n, x, y);
+    let low = tests.low;
+    let a = shares::constant(side, low[0]);
+    let b = shares::constant(side, low[1]);
+    let c = shares::constant(side, low[2]);
+    let lefts = [a, b, c];
+    let rights = [low[0] - a, low[1] - b, low[2] - c];
+    let squares = tape::section_of(tape, n, tape::SQUARES);
+    steps::squares::open_squares(n, side, tests, squares, &mut *out);
+    let triples = tape::section_of(tape, n, tape::TRIPLES);
+    steps::products::open_products(n, &lefts, &rights, 1, triples, 3 * m, 3, out, 3 * (m * m));
+}
+
+// Writes the round's words at the front of out.
+pub fn speak(
+    n: u32,
+    side: u32,
+    round: u32,
+    x: u32,
+    y: u32,
+    tape: &[u32],
+    work: &[u32],
+    out: &mut [u32],
+)
+    requires { ⌜ (isSide side ≡ true) × (x < modulus n) × (y < modulus n) × Readable n (now tape) ⌝ }
+    requires { ⌜ (workLength n ≤ length (now work)) × (roundWords n round ≤ length (now out)) ⌝ }
+    ensures { λ _. ⌜ now (out .exit)
+        ≡ sets (now (out .entry)) 0 (message (party n side x y (now (tape .entry))) (now (work .entry)) round) ⌝ }
+{
+    let m = n as usize;
+    match round {
+        1 => speak_first(n, side, x, y, tape, out),
+        2 => {
+            let powers = tape::section_of(tape, n, tape::POWERS);
+            let triples = tape::section_of(tape, n, tape::TRIPLES);
+            steps::products::open_products(n, work, powers, m + 1, triples, 0, 3 * m, out, 0);
+        }
+        3 => steps::levels::send_levels(n, work, out),
+        4 => {
+            let sums = &work[3 * m..];
+            let wraps = &work[3 * m + 3..];
+            let triples = tape::section_of(tape, n, tape::TRIPLES);
+            steps::products::open_products(n, sums, wraps, 1, triples, 3 * m + 3, 3, out, 0);
+        }
+        5 => {
+            let triples = tape::section_of(tape, n, tape::TRIPLES);
+            steps::products::open_product(
+                n,
+                crate::factors::half(n, work, 0),
+                crate::factors::half(n, work, 1),
+                triples,
+                3 * m + 6,
+                out,
+                0,
+            );
+        }
+        6 => {
+            let triples = tape::section_of(tape, n, tape::TRIPLES);
+            steps::products::open_product(
+                n,
+                crate::factors::last_left(n, side, work),
+                crate::factors::last_right(n, side, work),
+                triples,
+                3 * m + 7,
+                out,
+                0,
+            );
+        }
+        _ => {}
+    }
+}

@@ -1,0 +1,189 @@
+-- Two whole exchanges side by side: with shares s and a dealt tape, and with s′ and the shifted tape. Every message of both boxes is the
+-- same, and so is the other box's answer share, whatever work held at first in either.
+use Prim.Native.Nat.{ℕ, zero, suc, _+_, _-_, _*_, _%_, _<_, _≤_}
+use mathlib.Core.Path.{_≡_, refl, sym, ap, _∙_}
+use mathlib.Core.Bool.{true}
+use mathlib.Core.List.{List}
+use native.Mathlib.Omega.{arith}
+use lib.Dec.{ltb}
+use lib.ListN.{length}
+use Rattle.field.specs.Width.{modulus, listed}
+use Rattle.field.specs.Congruence.{Cong}
+use Rattle.shares.specs.Side.{other}
+use Rattle.tape.specs.Dealt.{Matched}
+use Rattle.tape.proofs.Dealing.{own-readable}
+use Rattle.protocol.specs.Work.{workLength}
+use Rattle.protocol.specs.Products.{Party, party}
+use Rattle.protocol.specs.Rounds.{lastLeft, lastRight, message, afterHearing}
+use Rattle.protocol.specs.Clear.{valueOf, half}
+use Rattle.protocol.specs.Exchange.{Both, exchanged, sentOwn, sentOthers, answerOthers}
+use Rattle.protocol.proofs.Halves.{indicator-bit}
+use Rattle.protocol.proofs.Stages.{left-total, right-total}
+use Rattle.protocol.proofs.Right.{rooms-1, rooms-2, rooms-3, rooms-4, rooms-5, counts, levels, sums, wraps, halves-4, halves-5, both}
+use Rattle.protocol.proofs.Live.{Live, message-live, after-live, answer-live}
+use Rattle.protocol.specs.Change.{Shares, sharesOf, halvesOf}
+use Rattle.protocol.specs.Shift.{shifted}
+use Rattle.protocol.proofs.Rules.{matched-shifted}
+use Rattle.protocol.proofs.Paired.{round-1, round-2, round-3, round-4, round-5, round-6}
+
+-- the last product's factors of one exchange
+module _ {n pair number side : ℕ} {own others : List ℕ} (m : Matched n pair number side own others) (x y xo yo : ℕ)
+    (ly : y < modulus n) (lyo : yo < modulus n) (w : Both)
+    (room : workLength n ≤ length (w .own)) (room-o : workLength n ≤ length (w .others)) where
+  abbrev q : Shares
+  q = sharesOf n side x y xo yo
+
+  abbrev Z : Both
+  Z = exchanged (party n side x y own) (party n (other side) xo yo others) w 5
+
+  bit : (k : ℕ) → halvesOf q k ≤ 1
+  bit k = indicator-bit (ltb (2 * valueOf n x y xo yo k) (modulus n))
+
+  last-left : Cong (modulus n) (lastLeft n side (Z .own) + lastLeft n (other side) (Z .others)) (1 - (halvesOf q 0 + halvesOf q 1) % 2)
+  last-left =
+      let r = rooms-5 m x y xo yo ly lyo w room room-o in
+      let h = halves-5 m x y xo yo ly lyo w room room-o in
+      left-total m x y xo yo (Z .own) (Z .others) (r .mine) (r .theirs) (halvesOf q 0) (halvesOf q 1) (halvesOf q 2) (bit 0) (bit 1) (bit 2)
+      (h 0 (omega arith)) (h 1 (omega arith)) (h 2 (omega arith)) (both m x y xo yo ly lyo w room room-o)
+
+  last-right : Cong (modulus n) (lastRight n side (Z .own) + lastRight n (other side) (Z .others)) (1 - halvesOf q 2)
+  last-right =
+      let r = rooms-5 m x y xo yo ly lyo w room room-o in
+      let h = halves-5 m x y xo yo ly lyo w room room-o in
+      right-total m x y xo yo (Z .own) (Z .others) (r .mine) (r .theirs) (halvesOf q 0) (halvesOf q 1) (halvesOf q 2) (bit 0) (bit 1) (bit 2)
+      (h 0 (omega arith)) (h 1 (omega arith)) (h 2 (omega arith)) (both m x y xo yo ly lyo w room room-o)
+
+module _ {n pair number side : ℕ} {own others : List ℕ} (m : Matched n pair number side own others) (x y x′ y′ xo yo : ℕ)
+    (ly : y < modulus n) (ly′ : y′ < modulus n) (lyo : yo < modulus n) (w w′ : Both)
+    (room : workLength n ≤ length (w .own)) (room-o : workLength n ≤ length (w .others))
+    (room′ : workLength n ≤ length (w′ .own)) (room-o′ : workLength n ≤ length (w′ .others)) where
+  abbrev s : Shares
+  s = sharesOf n side x y xo yo
+
+  abbrev s′ : Shares
+  s′ = sharesOf n side x′ y′ xo yo
+
+  abbrev t : List ℕ
+  t = shifted s s′ own others
+
+  m′ : Matched n pair number side t others
+  m′ = matched-shifted m x y x′ y′ xo yo
+
+  abbrev pub b : Party
+  b = party n side x y own
+
+  abbrev pub b′ : Party
+  b′ = party n side x′ y′ t
+
+  abbrev pub c : Party
+  c = party n (other side) xo yo others
+
+  l : listed n ≡ true
+  l = own-readable m .width
+
+  -- the two boxes' work, in the first exchange and in the second
+  abbrev X : ℕ → Both
+  X r = exchanged b c w r
+
+  abbrev Y : ℕ → Both
+  Y r = exchanged b′ c w′ r
+
+  -- after r rounds: the other box goes on with the same, and the next messages are the same
+  pub record Alike (r : ℕ) : Type 0 where
+    pub live : Live n r (X r .others) (Y r .others)
+    pub mine : message b (X r .own) (suc r) ≡ message b′ (Y r .own) (suc r)
+    pub theirs : message c (X r .others) (suc r) ≡ message c (Y r .others) (suc r)
+
+  -- what the other box holds after the next round
+  next-live : (r : ℕ) → workLength n ≤ length (X r .others) → workLength n ≤ length (Y r .others) → Alike r → Live n (suc r) (X (suc r) .others) (Y (suc r) .others)
+  unfolding exchanged
+  next-live r room room′ h =
+      rw (h .mine) (after-live c l (X r .others) (Y r .others) (message b′ (Y r .own) (suc r)) room room′ r (h .live))
+
+  -- a round's record, from the box's own message
+  alike : (r : ℕ) → r < 6 → Live n r (X r .others) (Y r .others) → message b (X r .own) (suc r) ≡ message b′ (Y r .own) (suc r) → Alike r
+  alike r less live mine = record { live = live; mine = mine; theirs = message-live c r (X r .others) (Y r .others) less live }
+
+  pub alike-0 : Alike 0
+  unfolding exchanged
+  alike-0 = alike 0 (omega arith) tt (round-1 m x y x′ y′ xo yo (w .own) (w′ .own))
+
+  live-1 : Live n 1 (X 1 .others) (Y 1 .others)
+  unfolding exchanged
+  live-1 = next-live 0 room-o room-o′ alike-0
+
+  pub alike-1 : Alike 1
+  alike-1 =
+      alike 1 (omega arith) live-1
+      (round-2 m x y x′ y′ xo yo (X 1 .own) (Y 1 .own) (X 1 .others) (Y 1 .others)
+      (counts m x y xo yo ly lyo w room room-o) (counts m′ x′ y′ xo yo ly′ lyo w′ room′ room-o′) (live-1 .0))
+
+  live-2 : Live n 2 (X 2 .others) (Y 2 .others)
+  live-2 =
+      next-live 1 (rooms-1 m x y xo yo ly lyo w room room-o .theirs) (rooms-1 m′ x′ y′ xo yo ly′ lyo w′ room′ room-o′ .theirs) alike-1
+
+  pub alike-2 : Alike 2
+  alike-2 =
+      alike 2 (omega arith) live-2
+      (round-3 m x y x′ y′ xo yo (X 2 .own) (Y 2 .own) (X 2 .others) (Y 2 .others)
+      (levels m x y xo yo ly lyo w room room-o) (levels m′ x′ y′ xo yo ly′ lyo w′ room′ room-o′) (live-2 .0))
+
+  live-3 : Live n 3 (X 3 .others) (Y 3 .others)
+  live-3 =
+      next-live 2 (rooms-2 m x y xo yo ly lyo w room room-o .theirs) (rooms-2 m′ x′ y′ xo yo ly′ lyo w′ room′ room-o′ .theirs) alike-2
+
+  pub alike-3 : Alike 3
+  alike-3 =
+      alike 3 (omega arith) live-3
+      (round-4 m x y x′ y′ xo yo (X 3 .own) (Y 3 .own) (X 3 .others) (Y 3 .others)
+      (sums m x y xo yo ly lyo w room room-o) (sums m′ x′ y′ xo yo ly′ lyo w′ room′ room-o′)
+      (wraps m x y xo yo ly lyo w room room-o) (wraps m′ x′ y′ xo yo ly′ lyo w′ room′ room-o′)
+      (live-3 .0) (live-3 .1))
+
+  live-4 : Live n 4 (X 4 .others) (Y 4 .others)
+  live-4 =
+      next-live 3 (rooms-3 m x y xo yo ly lyo w room room-o .theirs) (rooms-3 m′ x′ y′ xo yo ly′ lyo w′ room′ room-o′ .theirs) alike-3
+
+  pub alike-4 : Alike 4
+  alike-4 =
+      alike 4 (omega arith) live-4
+      (round-5 m x y x′ y′ xo yo (X 4 .own) (Y 4 .own) (X 4 .others) (Y 4 .others)
+      (halves-4 m x y xo yo ly lyo w room room-o) (halves-4 m′ x′ y′ xo yo ly′ lyo w′ room′ room-o′) live-4)
+
+  live-5 : Live n 5 (X 5 .others) (Y 5 .others)
+  live-5 =
+      next-live 4 (rooms-4 m x y xo yo ly lyo w room room-o .theirs) (rooms-4 m′ x′ y′ xo yo ly′ lyo w′ room′ room-o′ .theirs) alike-4
+
+  pub alike-5 : Alike 5
+  unfolding lastLeft lastRight
+  alike-5 =
+      alike 5 (omega arith) live-5
+      (round-6 m x y x′ y′ xo yo (X 5 .own) (Y 5 .own) (X 5 .others) (Y 5 .others)
+      (last-left m x y xo yo ly lyo w room room-o) (last-left m′ x′ y′ xo yo ly′ lyo w′ room′ room-o′)
+      (last-right m x y xo yo ly lyo w room room-o) (last-right m′ x′ y′ xo yo ly′ lyo w′ room′ room-o′)
+      (rw (live-5 .0 0 (omega arith), live-5 .0 1 (omega arith), live-5 .1))
+      (rw (live-5 .0 2 (omega arith))))
+
+  -- ---- the theorem
+
+  pub all-alike : (r : ℕ) → r < 6 → Alike r
+  all-alike zero less = alike-0
+  all-alike (suc zero) less = alike-1
+  all-alike (suc (suc zero)) less = alike-2
+  all-alike (suc (suc (suc zero))) less = alike-3
+  all-alike (suc (suc (suc (suc zero)))) less = alike-4
+  all-alike (suc (suc (suc (suc (suc zero))))) less = alike-5
+  all-alike (suc (suc (suc (suc (suc (suc r)))))) less = absurd (omega arith)
+
+  pub same-own : (r : ℕ) → r < 6 → sentOwn b c w (suc r) ≡ sentOwn b′ c w′ (suc r)
+  unfolding sentOwn
+  same-own r less = all-alike r less .mine
+
+  pub same-others : (r : ℕ) → r < 6 → sentOthers b c w (suc r) ≡ sentOthers b′ c w′ (suc r)
+  unfolding sentOthers
+  same-others r less = all-alike r less .theirs
+
+  pub same-answer : answerOthers b c w ≡ answerOthers b′ c w′
+  unfolding answerOthers
+  same-answer =
+      rw (same-own 5 (omega arith)) (answer-live c (X 5 .others) (Y 5 .others) (sentOwn b′ c w′ 6) live-5)

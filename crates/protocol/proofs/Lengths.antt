@@ -1,0 +1,29 @@
+-- A round's message has as many words as the table says.
+use Prim.Native.Nat.{ℕ, zero, suc, _+_, _*_}
+use mathlib.Core.Path.{_≡_, refl, ap₂, _∙_}
+use mathlib.Core.List.{List}
+use native.Mathlib.Omega.{arith}
+use lib.ListN.{length, length-append}
+use Rattle.lists.specs.Tabulate.{tabulate}
+use Rattle.lists.proofs.Tabulate.{length-tabulate}
+use Rattle.tape.specs.Layout.{squareCount, groupCount}
+use Rattle.protocol.specs.Work.{held}
+use Rattle.protocol.specs.Products.{Party, Products, openLeft, openRight, openings, alternating}
+use Rattle.protocol.specs.Rounds.{squareWord, lowProducts, levelProducts, wrapProducts, halfProduct, lastProduct, roundWords, message}
+
+openings-length : (q : Party) (ps : Products) → length (openings q ps) ≡ ps .count * 2
+unfolding openings
+openings-length q ps = length-tabulate (ps .count * 2) (alternating (openLeft q ps) (openRight q ps))
+
+pub message-length : (q : Party) (work : List ℕ) (round : ℕ) → length (message q work round) ≡ roundWords (q .n) round
+unfolding message roundWords lowProducts levelProducts wrapProducts halfProduct lastProduct
+message-length q work zero = refl
+message-length q work (suc zero) =
+    length-append (tabulate (squareCount (q .n)) (squareWord q)) (openings q (lowProducts q))
+    ∙ ap₂ _+_ (length-tabulate (squareCount (q .n)) (squareWord q)) (openings-length q (lowProducts q))
+message-length q work (suc (suc zero)) = openings-length q (levelProducts q work) ∙ omega arith
+message-length q work (suc (suc (suc zero))) = length-tabulate (groupCount (q .n)) (λ g. held (q .n) work g)
+message-length q work (suc (suc (suc (suc zero)))) = openings-length q (wrapProducts q work)
+message-length q work (suc (suc (suc (suc (suc zero))))) = openings-length q (halfProduct q work)
+message-length q work (suc (suc (suc (suc (suc (suc zero)))))) = openings-length q (lastProduct q work)
+message-length q work (suc (suc (suc (suc (suc (suc (suc round))))))) = refl

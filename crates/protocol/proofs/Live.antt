@@ -1,0 +1,125 @@
+-- What a box goes on with after each round: the words of work that later rounds read. All else that work holds makes no difference.
+use Prim.Native.Nat.{ℕ, zero, suc, _+_, _*_, _/_, _%_, _<_, _≤_}
+use mathlib.Core.Path.{_≡_, refl, sym, ap, ap₂, _∙_}
+use mathlib.Core.Bool.{Bool, true, false, cond}
+use mathlib.Core.List.{List}
+use native.Mathlib.Omega.{arith}
+use lib.Dec.{eqb}
+use lib.ListN.{length, getD}
+use Rattle.lists.specs.Tabulate.{tabulate}
+use Rattle.lists.proofs.Tabulate.{tabulate-same}
+use Rattle.lists.proofs.Sums.{sum-same}
+use Rattle.field.specs.Width.{modulus, listed}
+use Rattle.tape.specs.Layout.{groupCount}
+use Rattle.tape.proofs.Letters.{group-index}
+use Rattle.protocol.specs.Work.{sumSlot, wrapSlot, halfSlot, bothSlot, workLength, held}
+use Rattle.protocol.specs.Products.{Party, Products, openLeft, openRight, openings, alternating, closed, closing}
+use Rattle.protocol.specs.Levels.{levelMatch, levelOpened, wrapShare}
+use Rattle.protocol.specs.Rounds.{powersOf, levelProducts, wrapProducts, halfShare, halfProduct, lastLeft, lastRight, lastProduct, answerShare, message, afterHearing}
+use Rattle.protocol.proofs.Slots.{count-1, sum-1, level-2, sum-2, wrap-3, sum-3, half-4, both-5, half-5}
+
+-- two works hold the same in the slots of a range
+abbrev pub Equal : ℕ → ℕ → (ℕ → ℕ) → List ℕ → List ℕ → Type 0
+Equal n count slot v v′ = (i : ℕ) → i < count → held n v (slot i) ≡ held n v′ (slot i)
+
+-- after so many rounds, the same in every word that is read later
+abbrev pub Live : ℕ → ℕ → List ℕ → List ℕ → Type 0
+Live n zero v v′ = Unit {0}
+Live n (suc zero) v v′ = Equal n (groupCount n) (λ g. g) v v′ × Equal n 3 (sumSlot n) v v′
+Live n (suc (suc zero)) v v′ = Equal n (groupCount n) (λ g. g) v v′ × Equal n 3 (sumSlot n) v v′
+Live n (suc (suc (suc zero))) v v′ = Equal n 3 (sumSlot n) v v′ × Equal n 3 (wrapSlot n) v v′
+Live n (suc (suc (suc (suc zero)))) v v′ = Equal n 3 (halfSlot n) v v′
+Live n (suc (suc (suc (suc (suc zero))))) v v′ = Equal n 3 (halfSlot n) v v′ × (held n v (bothSlot n) ≡ held n v′ (bothSlot n))
+Live n (suc (suc (suc (suc (suc (suc r)))))) v v′ = Unit {0}
+
+-- ---- products with the same factors
+
+choice-same : (t : Bool) {a a′ b b′ : ℕ} → a ≡ a′ → b ≡ b′ → cond t a b ≡ cond t a′ b′
+choice-same true e f = e
+choice-same false e f = f
+
+pub openings-same : (q q′ : Party) (ps ps′ : Products) → ps .count ≡ ps′ .count
+    → ((i : ℕ) → i < ps .count → openLeft q ps i ≡ openLeft q′ ps′ i)
+    → ((i : ℕ) → i < ps .count → openRight q ps i ≡ openRight q′ ps′ i)
+    → openings q ps ≡ openings q′ ps′
+unfolding openings
+openings-same q q′ ps ps′ e left right =
+    tabulate-same (ps .count * 2) (alternating (openLeft q ps) (openRight q ps)) (alternating (openLeft q′ ps′) (openRight q′ ps′))
+    (λ j less. choice-same (eqb (j % 2) 0) (left (j / 2) (omega arith)) (right (j / 2) (omega arith)))
+    ∙ ap (λ (k : ℕ). tabulate (k * 2) (alternating (openLeft q′ ps′) (openRight q′ ps′))) e
+
+module _ (q : Party) where
+  abbrev n : ℕ
+  n = q .n
+
+  -- ---- what is sent depends on those words alone
+
+  pub message-live : (r : ℕ) (v v′ : List ℕ) → r < 6 → Live n r v v′ → message q v (suc r) ≡ message q v′ (suc r)
+  unfolding message levelProducts wrapProducts halfProduct lastProduct lastLeft lastRight openLeft openRight
+  message-live zero v v′ less h = refl
+  message-live (suc zero) v v′ less h =
+      openings-same q q (levelProducts q v) (levelProducts q v′) refl (λ g lg. rw (h .0 g lg)) (λ g lg. refl)
+  message-live (suc (suc zero)) v v′ less h = tabulate-same (groupCount n) (λ g. held n v g) (λ g. held n v′ g) (h .0)
+  message-live (suc (suc (suc zero))) v v′ less h =
+      openings-same q q (wrapProducts q v) (wrapProducts q v′) refl (λ t lt. rw (h .0 t lt)) (λ t lt. rw (h .1 t lt))
+  message-live (suc (suc (suc (suc zero)))) v v′ less h =
+      openings-same q q (halfProduct q v) (halfProduct q v′) refl (λ i li. rw (h 0 (omega arith))) (λ i li. rw (h 1 (omega arith)))
+  message-live (suc (suc (suc (suc (suc zero))))) v v′ less h =
+      openings-same q q (lastProduct q v) (lastProduct q v′) refl
+      (λ i li. rw (h .0 0 (omega arith), h .0 1 (omega arith), h .1))
+      (λ i li. rw (h .0 2 (omega arith)))
+  message-live (suc (suc (suc (suc (suc (suc r)))))) v v′ less h = absurd (omega arith)
+
+  pub answer-live : (v v′ heard : List ℕ) → Live n 5 v v′ → answerShare q v heard ≡ answerShare q v′ heard
+  unfolding answerShare closing lastProduct lastLeft lastRight
+  answer-live v v′ heard h = rw (h .0 0 (omega arith), h .0 1 (omega arith), h .0 2 (omega arith), h .1)
+
+  -- ---- and what is held after hearing depends on them and on what was heard
+
+  module _ (l : listed n ≡ true) (v v′ heard : List ℕ) (room : workLength n ≤ length v) (room′ : workLength n ≤ length v′) where
+    after-1 : Live n 1 (afterHearing q v 1 heard) (afterHearing q v′ 1 heard)
+    after-1 = (
+      λ g less. count-1 q l v heard room g less ∙ sym (count-1 q l v′ heard room′ g less),
+      λ t less. sum-1 q l v heard room t less ∙ sym (sum-1 q l v′ heard room′ t less),
+    )
+
+    after-2 : Live n 1 v v′ → Live n 2 (afterHearing q v 2 heard) (afterHearing q v′ 2 heard)
+    unfolding closing levelProducts
+    after-2 h = (
+      λ g less. level-2 q l v heard room g less ∙ rw (h .0 g less) (sym (level-2 q l v′ heard room′ g less)),
+      λ t less. sum-2 q l v heard room t ∙ h .1 t less ∙ sym (sum-2 q l v′ heard room′ t),
+    )
+
+    after-3 : Live n 2 v v′ → Live n 3 (afterHearing q v 3 heard) (afterHearing q v′ 3 heard)
+    unfolding wrapShare
+    after-3 h = (
+      λ t less. sum-3 q l v heard room t less ∙ h .1 t less ∙ sym (sum-3 q l v′ heard room′ t less),
+      λ t less.
+          wrap-3 q l v heard room t less
+          ∙ ap (λ (k : ℕ). k % modulus n)
+          (sum-same n
+          (λ i. levelMatch n (q .side) (levelOpened n v heard (t * n + i)) (powersOf q) (t * n + i))
+          (λ i. levelMatch n (q .side) (levelOpened n v′ heard (t * n + i)) (powersOf q) (t * n + i))
+          (λ i li. rw (h .0 (t * n + i) (group-index n t i less li))))
+          ∙ sym (wrap-3 q l v′ heard room′ t less),
+    )
+
+    after-4 : Live n 3 v v′ → Live n 4 (afterHearing q v 4 heard) (afterHearing q v′ 4 heard)
+    unfolding halfShare closing wrapProducts
+    after-4 h t less =
+        half-4 q l v heard room t less ∙ rw (h .0 t less, h .1 t less) (sym (half-4 q l v′ heard room′ t less))
+
+    after-5 : Live n 4 v v′ → Live n 5 (afterHearing q v 5 heard) (afterHearing q v′ 5 heard)
+    unfolding closing halfProduct
+    after-5 h = (
+      λ t less. half-5 q l v heard room t less ∙ h t less ∙ sym (half-5 q l v′ heard room′ t less),
+      both-5 q l v heard room ∙ rw (h 0 (omega arith), h 1 (omega arith)) (sym (both-5 q l v′ heard room′)),
+    )
+
+    pub after-live : (r : ℕ) → Live n r v v′ → Live n (suc r) (afterHearing q v (suc r) heard) (afterHearing q v′ (suc r) heard)
+    after-live zero h = after-1
+    after-live (suc zero) h = after-2 h
+    after-live (suc (suc zero)) h = after-3 h
+    after-live (suc (suc (suc zero))) h = after-4 h
+    after-live (suc (suc (suc (suc zero)))) h = after-5 h
+    after-live (suc (suc (suc (suc (suc r))))) h = tt

@@ -1,0 +1,198 @@
+-- The shifted tape by its letters: each is the new word, and the trailer is the old one.
+use Prim.Native.Nat.{ℕ, zero, suc, _+_, _-_, _*_, _/_, _%_, _<_, _≤_}
+use mathlib.Core.Path.{_≡_, sym, ap, ap₂, _∙_}
+use mathlib.Core.Bool.{Bool, true, false, cond}
+use mathlib.Core.List.{List, [], _∷_, _++_, append-assoc}
+use mathlib.Core.Logic.{_⊎_, inl, inr}
+use native.Mathlib.Nat.{mul-mod-left, mul-div-cancel}
+use native.Mathlib.Omega.{arith}
+use lib.Arith.{digits-div, digits-mod}
+use borrow.Author.Tests.{ne-eqb}
+use lib.Dec.{eqb, ltb}
+use lib.ListN.{length, getD, take, drop, length-append, length-drop, List·getD-append}
+use lib.Seq.{take-at, drop-at, getD-append-add, getD-drop}
+use Rattle.lists.specs.Tabulate.{tabulate}
+use Rattle.lists.proofs.Tabulate.{length-tabulate, getD-tabulate}
+use Rattle.field.specs.Width.{modulus, listed}
+use Rattle.tape.specs.Layout.{section, sectionLength, sectionStart, bodyLength, tapeLength, squareCount, groupCount, tripleCount}
+use Rattle.tape.specs.Letters.{squareMask, squareValue, groupInverse, groupPower, tripleLeft, tripleRight, tripleProduct}
+use Rattle.tape.proofs.Letters.{square-place, group-place, triple-place}
+use Rattle.encoding.specs.Matching.{indicator}
+use Rattle.protocol.proofs.Halves.{less-cases}
+use Rattle.protocol.specs.Change.{Shares}
+use Rattle.protocol.specs.Shift.{newMask, newValue, newInverse, newPower, newLeft, newRight, newProduct, squareWords, powerWords, tripleWords, shifted}
+use Rattle.protocol.proofs.Moves.{moved-below, rest-below}
+
+module _ (s s′ : Shares) (own others : List ℕ) where
+  abbrev n : ℕ
+  n = s .n
+
+  abbrev S : List ℕ
+  S = tabulate (sectionLength n 0) (squareWords s s′ own others)
+
+  abbrev P : List ℕ
+  P = tabulate (sectionLength n 1) (powerWords s s′ own others)
+
+  abbrev Q : List ℕ
+  Q = tabulate (sectionLength n 2) (tripleWords s s′ own others)
+
+  abbrev R : List ℕ
+  R = drop (bodyLength n) own
+
+  section-0 : section n 0 (shifted s s′ own others) ≡ S
+  unfolding section shifted
+  section-0 = take-at S (P ++ (Q ++ R)) (sectionLength n 0) (length-tabulate (sectionLength n 0) _)
+
+  section-1 : section n 1 (shifted s s′ own others) ≡ P
+  unfolding section shifted
+  section-1 =
+      ap (λ (l : List ℕ). take (sectionLength n 1) l)
+      (drop-at S (P ++ (Q ++ R)) (sectionStart n 1) (length-tabulate (sectionLength n 0) _ ∙ omega arith))
+      ∙ take-at P (Q ++ R) (sectionLength n 1) (length-tabulate (sectionLength n 1) _)
+
+  section-2 : section n 2 (shifted s s′ own others) ≡ Q
+  unfolding section shifted
+  section-2 =
+      ap (λ (l : List ℕ). take (sectionLength n 2) (drop (sectionStart n 2) l)) (sym (append-assoc S P (Q ++ R)))
+      ∙ ap (λ (l : List ℕ). take (sectionLength n 2) l)
+      (drop-at (S ++ P) (Q ++ R) (sectionStart n 2)
+      (length-append S P
+      ∙ ap₂ _+_ (length-tabulate (sectionLength n 0) _) (length-tabulate (sectionLength n 1) _)
+      ∙ omega arith))
+      ∙ take-at Q R (sectionLength n 2) (length-tabulate (sectionLength n 2) _)
+
+  -- the body is as long as before
+  body-length : length (S ++ (P ++ Q)) ≡ bodyLength n
+  body-length =
+      length-append S (P ++ Q)
+      ∙ ap (λ (k : ℕ). length S + k) (length-append P Q)
+      ∙ omega (arith, length-tabulate (sectionLength n 0) (squareWords s s′ own others), length-tabulate (sectionLength n 1) (powerWords s s′ own others), length-tabulate (sectionLength n 2) (tripleWords s s′ own others))
+
+  body-first : shifted s s′ own others ≡ (S ++ (P ++ Q)) ++ R
+  unfolding shifted
+  body-first = sym (append-assoc S (P ++ Q) R ∙ ap (λ (l : List ℕ). S ++ l) (append-assoc P Q R))
+
+  pub shifted-length : length own ≡ tapeLength n → length (shifted s s′ own others) ≡ tapeLength n
+  shifted-length e =
+      ap length body-first
+      ∙ length-append (S ++ (P ++ Q)) R
+      ∙ omega (arith, body-length, length-drop (bodyLength n) own)
+
+  -- the trailer stays
+  pub shifted-trailer : (k : ℕ) → getD (shifted s s′ own others) (bodyLength n + k) 0 ≡ getD own (bodyLength n + k) 0
+  shifted-trailer k =
+      ap (λ (l : List ℕ). getD l (bodyLength n + k) 0) body-first
+      ∙ ap (λ (j : ℕ). getD ((S ++ (P ++ Q)) ++ R) (j + k) 0) (sym body-length)
+      ∙ getD-append-add (S ++ (P ++ Q)) R k 0
+      ∙ getD-drop (bodyLength n) own k 0
+
+  pub shifted-tail : drop (bodyLength n) (shifted s s′ own others) ≡ drop (bodyLength n) own
+  shifted-tail = ap (λ (l : List ℕ). drop (bodyLength n) l) body-first ∙ drop-at (S ++ (P ++ Q)) R (bodyLength n) body-length
+
+  -- ---- the letters
+
+  pub new-mask : (j : ℕ) → j < squareCount n → squareMask (section n 0 (shifted s s′ own others)) j ≡ newMask s s′ own others j
+  new-mask j less =
+      let even : j * 2 % 2 ≡ 0 = omega arith in
+      let place : j * 2 / 2 ≡ j = omega arith in
+      ap (λ (l : List ℕ). getD l (j * 2) 0) section-0
+      ∙ getD-tabulate (sectionLength n 0) (squareWords s s′ own others) (j * 2) 0 (omega (arith, square-place n j less))
+      ∙ rw (even, place)
+
+  pub new-value : (j : ℕ) → j < squareCount n → squareValue (section n 0 (shifted s s′ own others)) j ≡ newValue s s′ own others j
+  new-value j less =
+      let odd : (j * 2 + 1) % 2 ≡ 1 = omega arith in
+      let place : (j * 2 + 1) / 2 ≡ j = omega arith in
+      ap (λ (l : List ℕ). getD l (j * 2 + 1) 0) section-0
+      ∙ getD-tabulate (sectionLength n 0) (squareWords s s′ own others) (j * 2 + 1) 0 (square-place n j less)
+      ∙ rw (odd, place)
+
+  pub new-inverse : (g : ℕ) → g < groupCount n → groupInverse n (section n 1 (shifted s s′ own others)) g ≡ newInverse s s′ own others g
+  new-inverse g less =
+      ap (λ (l : List ℕ). getD l (g * (n + 1)) 0) section-1
+      ∙ getD-tabulate (sectionLength n 1) (powerWords s s′ own others) (g * (n + 1)) 0 (omega (arith, group-place n g 0 less (omega arith)))
+      ∙ rw (mul-mod-left g (n + 1), mul-div-cancel g (pos n))
+    where
+      pos : (n : ℕ) → 0 < n + 1
+      pos n = omega arith
+
+  pub new-power : (g k : ℕ) → g < groupCount n → 1 ≤ k → k ≤ n
+      → groupPower n (section n 1 (shifted s s′ own others)) g k ≡ newPower s s′ own others g k
+  new-power g k less low high =
+      let few : k < n + 1 = omega arith in
+      let some : k ≡ 0 → ⊥ = λ e. omega arith in
+      ap (λ (l : List ℕ). getD l (g * (n + 1) + k) 0) section-1
+      ∙ getD-tabulate (sectionLength n 1) (powerWords s s′ own others) (g * (n + 1) + k) 0 (group-place n g k less high)
+      ∙ rw (digits-mod g few, digits-div g few, ne-eqb k 0 some)
+
+  pub new-left : (i : ℕ) → i < tripleCount n → tripleLeft (section n 2 (shifted s s′ own others)) i ≡ newLeft s s′ own others i
+  new-left i less =
+      let at : i * 3 % 3 ≡ 0 = omega arith in
+      let place : i * 3 / 3 ≡ i = omega arith in
+      ap (λ (l : List ℕ). getD l (i * 3) 0) section-2
+      ∙ getD-tabulate (sectionLength n 2) (tripleWords s s′ own others) (i * 3) 0 (omega (arith, triple-place n i less))
+      ∙ rw (at, place)
+
+  pub new-right : (i : ℕ) → i < tripleCount n → tripleRight (section n 2 (shifted s s′ own others)) i ≡ newRight s s′ own others i
+  new-right i less =
+      let at : (i * 3 + 1) % 3 ≡ 1 = omega arith in
+      let place : (i * 3 + 1) / 3 ≡ i = omega arith in
+      ap (λ (l : List ℕ). getD l (i * 3 + 1) 0) section-2
+      ∙ getD-tabulate (sectionLength n 2) (tripleWords s s′ own others) (i * 3 + 1) 0 (omega (arith, triple-place n i less))
+      ∙ rw (at, place)
+
+  pub new-product : (i : ℕ) → i < tripleCount n → tripleProduct (section n 2 (shifted s s′ own others)) i ≡ newProduct s s′ own others i
+  new-product i less =
+      let at : (i * 3 + 2) % 3 ≡ 2 = omega arith in
+      let place : (i * 3 + 2) / 3 ≡ i = omega arith in
+      ap (λ (l : List ℕ). getD l (i * 3 + 2) 0) section-2
+      ∙ getD-tabulate (sectionLength n 2) (tripleWords s s′ own others) (i * 3 + 2) 0 (triple-place n i less)
+      ∙ rw (at, place)
+
+  -- ---- every word of the body is below p
+
+  module _ (l : listed n ≡ true) where
+    choice-below : (t : Bool) {a b p : ℕ} → a < p → b < p → cond t a b < p
+    choice-below true la lb = la
+    choice-below false la lb = lb
+
+    three-below : {a b c p : ℕ} (k : ℕ) → a < p → b < p → c < p → getD (a ∷ b ∷ c ∷ []) k 0 < p
+    three-below zero la lb lc = la
+    three-below (suc zero) la lb lc = lb
+    three-below (suc (suc zero)) la lb lc = lc
+    three-below (suc (suc (suc k))) la lb lc = omega arith
+
+    squares-below : (j : ℕ) → squareWords s s′ own others j < modulus n
+    unfolding newMask newValue
+    squares-below j = choice-below (eqb (j % 2) 0) (moved-below n l _ _ _) (rest-below n l _ _)
+
+    powers-below : (j : ℕ) → powerWords s s′ own others j < modulus n
+    unfolding newInverse newPower
+    powers-below j = choice-below (eqb (j % (n + 1)) 0) (rest-below n l _ _) (rest-below n l _ _)
+
+    triples-below : (j : ℕ) → tripleWords s s′ own others j < modulus n
+    unfolding newLeft newRight newProduct
+    triples-below j = three-below (j % 3) (moved-below n l _ _ _) (moved-below n l _ _ _) (rest-below n l _ _)
+
+    -- a word of a tabulated list, or of what stands behind it
+    tabulated-below : (count : ℕ) (f : ℕ → ℕ) (rest : List ℕ) → ((i : ℕ) → f i < modulus n)
+        → (i : ℕ) → (count ≤ i → getD rest (i - count) 0 < modulus n) → getD (tabulate count f ++ rest) i 0 < modulus n
+    tabulated-below count f rest below i behind = go (less-cases i count)
+      where
+        go : ((indicator (ltb i count) ≡ 1) × (i < count)) ⊎ ((indicator (ltb i count) ≡ 0) × (count ≤ i)) → getD (tabulate count f ++ rest) i 0 < modulus n
+        go (inl (one, less)) =
+            rw (List·getD-append (tabulate count f) rest 0 i (rw (length-tabulate count f) less), getD-tabulate count f i 0 less) (below i)
+        go (inr (none, more)) =
+            let place : i ≡ length (tabulate count f) + (i - count) = omega (arith, length-tabulate count f) in
+            let e = ap (λ (k : ℕ). getD (tabulate count f ++ rest) k 0) place ∙ getD-append-add (tabulate count f) rest (i - count) 0 in
+            rw e (behind more)
+
+    pub shifted-below : (i : ℕ) → i < bodyLength n → getD (shifted s s′ own others) i 0 < modulus n
+    unfolding shifted
+    shifted-below i less =
+        tabulated-below (sectionLength n 0) (squareWords s s′ own others) (P ++ (Q ++ R)) squares-below i
+        (λ more.
+        tabulated-below (sectionLength n 1) (powerWords s s′ own others) (Q ++ R) powers-below (i - sectionLength n 0)
+        (λ more′.
+        tabulated-below (sectionLength n 2) (tripleWords s s′ own others) R triples-below (i - sectionLength n 0 - sectionLength n 1)
+        (λ more″. absurd (omega arith))))

@@ -1,0 +1,86 @@
+-- The map from a box's tape for one pair of shares to its tape for another, the other box's tape being fixed. Each mask moves with the
+-- value that it hides, each word that follows from an equation is made anew.
+use Prim.Native.Nat.{ℕ, _+_, _-_, _*_, _/_, _%_, _^_}
+use mathlib.Core.Bool.{cond}
+use mathlib.Core.List.{List, [], _∷_, _++_}
+use lib.Dec.{eqb}
+use lib.ListN.{getD, drop}
+use Rattle.lists.specs.Tabulate.{tabulate}
+use Rattle.field.specs.Width.{modulus}
+use Rattle.field.specs.Inverse.{inverse}
+use Rattle.tape.specs.Layout.{section, sectionLength, bodyLength}
+use Rattle.tape.specs.Letters.{squareMask, squareValue, groupInverse, groupPower, tripleLeft, tripleRight, tripleProduct}
+use Rattle.protocol.specs.Change.{Shares, squareShareOf, countOf, leftValue, rightValue}
+
+-- a mask word, moved by v′ − v
+unfoldable pub moved : ℕ → ℕ → ℕ → ℕ → ℕ
+moved n a v v′ = (a + (v′ + (modulus n - v))) % modulus n
+
+-- the box's word of a total, the other box's word being given
+unfoldable pub rest : ℕ → ℕ → ℕ → ℕ
+rest n total others = (total + (modulus n - others)) % modulus n
+
+-- s are the shares before, s′ those after; `own` is the box's tape and `others` the other box's
+module _ (s s′ : Shares) (own others : List ℕ) where
+  abbrev pub width : ℕ
+  width = s .n
+
+  -- ---- squares: a moves with the share, q follows
+
+  unfoldable pub newMask : ℕ → ℕ
+  newMask j = moved width (squareMask (section width 0 own) j) (squareShareOf s j) (squareShareOf s′ j)
+
+  unfoldable pub newValue : ℕ → ℕ
+  newValue j =
+      let a = newMask j + squareMask (section width 0 others) j in
+      rest width (a * a) (squareValue (section width 0 others) j)
+
+  -- ---- power groups: r is multiplied by ρ = A′ / A, w divided
+
+  unfoldable pub newInverse : ℕ → ℕ
+  newInverse g =
+      rest width
+      ((groupInverse width (section width 1 own) g + groupInverse width (section width 1 others) g) * (countOf s g * inverse width (countOf s′ g)))
+      (groupInverse width (section width 1 others) g)
+
+  unfoldable pub newPower : ℕ → ℕ → ℕ
+  newPower g k =
+      rest width
+      ((groupPower width (section width 1 own) g k + groupPower width (section width 1 others) g k) * (countOf s′ g * inverse width (countOf s g)) ^ k)
+      (groupPower width (section width 1 others) g k)
+
+  -- ---- triples: a and b move with the factors, c follows
+
+  unfoldable pub newLeft : ℕ → ℕ
+  newLeft i = moved width (tripleLeft (section width 2 own) i) (leftValue s i) (leftValue s′ i)
+
+  unfoldable pub newRight : ℕ → ℕ
+  newRight i =
+      moved width (tripleRight (section width 2 own) i)
+      (rightValue s (λ g. groupInverse width (section width 1 own) g) i)
+      (rightValue s′ newInverse i)
+
+  unfoldable pub newProduct : ℕ → ℕ
+  newProduct i =
+      rest width
+      ((newLeft i + tripleLeft (section width 2 others) i) * (newRight i + tripleRight (section width 2 others) i))
+      (tripleProduct (section width 2 others) i)
+
+  -- ---- the tape
+
+  abbrev pub squareWords : ℕ → ℕ
+  squareWords j = cond (eqb (j % 2) 0) (newMask (j / 2)) (newValue (j / 2))
+
+  abbrev pub powerWords : ℕ → ℕ
+  powerWords j = cond (eqb (j % (width + 1)) 0) (newInverse (j / (width + 1))) (newPower (j / (width + 1)) (j % (width + 1)))
+
+  abbrev pub tripleWords : ℕ → ℕ
+  tripleWords j = getD (newLeft (j / 3) ∷ newRight (j / 3) ∷ newProduct (j / 3) ∷ []) (j % 3) 0
+
+  -- the shifted tape; its trailer stays
+  unfoldable pub shifted : List ℕ
+  shifted =
+      tabulate (sectionLength width 0) squareWords
+      ++ (tabulate (sectionLength width 1) powerWords
+      ++ (tabulate (sectionLength width 2) tripleWords
+      ++ drop (bodyLength width) own))
