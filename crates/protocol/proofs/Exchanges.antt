@@ -101,12 +101,12 @@ module _ {n pair number side : ℕ} {own others : List ℕ} (m : Matched n pair 
       rw (h .mine) (after-live c l (X r .others) (Y r .others) (message b′ (Y r .own) (suc r)) room room′ r (h .live))
 
   -- a round's record, from the box's own message
-  alike : (r : ℕ) → r < 6 → Live n r (X r .others) (Y r .others) → message b (X r .own) (suc r) ≡ message b′ (Y r .own) (suc r) → Alike r
-  alike r less live mine = record { live = live; mine = mine; theirs = message-live c r (X r .others) (Y r .others) less live }
+  alike : (r : ℕ) → Live n r (X r .others) (Y r .others) → message b (X r .own) (suc r) ≡ message b′ (Y r .own) (suc r) → Alike r
+  alike r live mine = record { live = live; mine = mine; theirs = message-live c r (X r .others) (Y r .others) live }
 
   pub alike-0 : Alike 0
   unfolding exchanged
-  alike-0 = alike 0 (omega arith) tt (round-1 m x y x′ y′ xo yo (w .own) (w′ .own))
+  alike-0 = alike 0 tt (round-1 m x y x′ y′ xo yo (w .own) (w′ .own))
 
   live-1 : Live n 1 (X 1 .others) (Y 1 .others)
   unfolding exchanged
@@ -114,7 +114,7 @@ module _ {n pair number side : ℕ} {own others : List ℕ} (m : Matched n pair 
 
   pub alike-1 : Alike 1
   alike-1 =
-      alike 1 (omega arith) live-1
+      alike 1 live-1
       (round-2 m x y x′ y′ xo yo (X 1 .own) (Y 1 .own) (X 1 .others) (Y 1 .others)
       (counts m x y xo yo ly lyo w room room-o) (counts m′ x′ y′ xo yo ly′ lyo w′ room′ room-o′) (live-1 .0))
 
@@ -124,7 +124,7 @@ module _ {n pair number side : ℕ} {own others : List ℕ} (m : Matched n pair 
 
   pub alike-2 : Alike 2
   alike-2 =
-      alike 2 (omega arith) live-2
+      alike 2 live-2
       (round-3 m x y x′ y′ xo yo (X 2 .own) (Y 2 .own) (X 2 .others) (Y 2 .others)
       (levels m x y xo yo ly lyo w room room-o) (levels m′ x′ y′ xo yo ly′ lyo w′ room′ room-o′) (live-2 .0))
 
@@ -134,7 +134,7 @@ module _ {n pair number side : ℕ} {own others : List ℕ} (m : Matched n pair 
 
   pub alike-3 : Alike 3
   alike-3 =
-      alike 3 (omega arith) live-3
+      alike 3 live-3
       (round-4 m x y x′ y′ xo yo (X 3 .own) (Y 3 .own) (X 3 .others) (Y 3 .others)
       (sums m x y xo yo ly lyo w room room-o) (sums m′ x′ y′ xo yo ly′ lyo w′ room′ room-o′)
       (wraps m x y xo yo ly lyo w room room-o) (wraps m′ x′ y′ xo yo ly′ lyo w′ room′ room-o′)
@@ -146,7 +146,7 @@ module _ {n pair number side : ℕ} {own others : List ℕ} (m : Matched n pair 
 
   pub alike-4 : Alike 4
   alike-4 =
-      alike 4 (omega arith) live-4
+      alike 4 live-4
       (round-5 m x y x′ y′ xo yo (X 4 .own) (Y 4 .own) (X 4 .others) (Y 4 .others)
       (halves-4 m x y xo yo ly lyo w room room-o) (halves-4 m′ x′ y′ xo yo ly′ lyo w′ room′ room-o′) live-4)
 
@@ -157,7 +157,7 @@ module _ {n pair number side : ℕ} {own others : List ℕ} (m : Matched n pair 
   pub alike-5 : Alike 5
   unfolding lastLeft lastRight
   alike-5 =
-      alike 5 (omega arith) live-5
+      alike 5 live-5
       (round-6 m x y x′ y′ xo yo (X 5 .own) (Y 5 .own) (X 5 .others) (Y 5 .others)
       (last-left m x y xo yo ly lyo w room room-o) (last-left m′ x′ y′ xo yo ly′ lyo w′ room′ room-o′)
       (last-right m x y xo yo ly lyo w room room-o) (last-right m′ x′ y′ xo yo ly′ lyo w′ room′ room-o′)

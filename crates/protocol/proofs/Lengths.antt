@@ -1,15 +1,16 @@
--- A round's message has as many words as the table says.
+-- A round's message has as many words as the table says, and hearing keeps work's length.
 use Prim.Native.Nat.{ℕ, zero, suc, _+_, _*_}
 use mathlib.Core.Path.{_≡_, refl, ap₂, _∙_}
 use mathlib.Core.List.{List}
 use native.Mathlib.Omega.{arith}
 use lib.ListN.{length, length-append}
+use lib.Seq.{length-sets}
 use Rattle.lists.specs.Tabulate.{tabulate}
 use Rattle.lists.proofs.Tabulate.{length-tabulate}
 use Rattle.tape.specs.Layout.{squareCount, groupCount}
 use Rattle.protocol.specs.Work.{held}
 use Rattle.protocol.specs.Products.{Party, Products, openLeft, openRight, openings, alternating}
-use Rattle.protocol.specs.Rounds.{squareWord, lowProducts, levelProducts, wrapProducts, halfProduct, lastProduct, roundWords, message}
+use Rattle.protocol.specs.Rounds.{squareWord, lowProducts, levelProducts, wrapProducts, halfProduct, lastProduct, roundWords, message, afterHearing}
 
 openings-length : (q : Party) (ps : Products) → length (openings q ps) ≡ ps .count * 2
 unfolding openings
@@ -27,3 +28,15 @@ message-length q work (suc (suc (suc (suc zero)))) = openings-length q (wrapProd
 message-length q work (suc (suc (suc (suc (suc zero))))) = openings-length q (halfProduct q work)
 message-length q work (suc (suc (suc (suc (suc (suc zero)))))) = openings-length q (lastProduct q work)
 message-length q work (suc (suc (suc (suc (suc (suc (suc round))))))) = refl
+
+-- hearing keeps work's length
+pub after-length : (q : Party) (work heard : List ℕ) (round : ℕ) → length (afterHearing q work round heard) ≡ length work
+unfolding afterHearing
+after-length q work heard zero = refl
+after-length q work heard (suc zero) = simp length-sets
+after-length q work heard (suc (suc zero)) = simp length-sets
+after-length q work heard (suc (suc (suc zero))) = simp length-sets
+after-length q work heard (suc (suc (suc (suc zero)))) = simp length-sets
+after-length q work heard (suc (suc (suc (suc (suc zero))))) = simp length-sets
+after-length q work heard (suc (suc (suc (suc (suc (suc zero)))))) = refl
+after-length q work heard (suc (suc (suc (suc (suc (suc (suc round))))))) = refl

@@ -54,21 +54,21 @@ module _ (q : Party) where
 
   -- ---- what is sent depends on those words alone
 
-  pub message-live : (r : ℕ) (v v′ : List ℕ) → r < 6 → Live n r v v′ → message q v (suc r) ≡ message q v′ (suc r)
+  pub message-live : (r : ℕ) (v v′ : List ℕ) → Live n r v v′ → message q v (suc r) ≡ message q v′ (suc r)
   unfolding message levelProducts wrapProducts halfProduct lastProduct lastLeft lastRight openLeft openRight
-  message-live zero v v′ less h = refl
-  message-live (suc zero) v v′ less h =
+  message-live zero v v′ h = refl
+  message-live (suc zero) v v′ h =
       openings-same q q (levelProducts q v) (levelProducts q v′) refl (λ g lg. rw (h .0 g lg)) (λ g lg. refl)
-  message-live (suc (suc zero)) v v′ less h = tabulate-same (groupCount n) (λ g. held n v g) (λ g. held n v′ g) (h .0)
-  message-live (suc (suc (suc zero))) v v′ less h =
+  message-live (suc (suc zero)) v v′ h = tabulate-same (groupCount n) (λ g. held n v g) (λ g. held n v′ g) (h .0)
+  message-live (suc (suc (suc zero))) v v′ h =
       openings-same q q (wrapProducts q v) (wrapProducts q v′) refl (λ t lt. rw (h .0 t lt)) (λ t lt. rw (h .1 t lt))
-  message-live (suc (suc (suc (suc zero)))) v v′ less h =
+  message-live (suc (suc (suc (suc zero)))) v v′ h =
       openings-same q q (halfProduct q v) (halfProduct q v′) refl (λ i li. rw (h 0 (omega arith))) (λ i li. rw (h 1 (omega arith)))
-  message-live (suc (suc (suc (suc (suc zero))))) v v′ less h =
+  message-live (suc (suc (suc (suc (suc zero))))) v v′ h =
       openings-same q q (lastProduct q v) (lastProduct q v′) refl
       (λ i li. rw (h .0 0 (omega arith), h .0 1 (omega arith), h .1))
       (λ i li. rw (h .0 2 (omega arith)))
-  message-live (suc (suc (suc (suc (suc (suc r)))))) v v′ less h = absurd (omega arith)
+  message-live (suc (suc (suc (suc (suc (suc r)))))) v v′ h = refl
 
   pub answer-live : (v v′ heard : List ℕ) → Live n 5 v v′ → answerShare q v heard ≡ answerShare q v′ heard
   unfolding answerShare closing lastProduct lastLeft lastRight

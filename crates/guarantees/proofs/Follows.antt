@@ -1,0 +1,419 @@
+-- One run by itself: in a job, what work holds of the rounds heard so far is what the job's exchange gives, and so is every message spoken
+-- and every answer share.
+use Prim.Native.Nat.{ℕ, zero, suc, _+_, _-_, _*_, _<_, _≤_}
+use mathlib.Core.Path.{_≡_, refl, sym, ap, subst, _∙_}
+use mathlib.Core.Bool.{Bool, true, false, not, cond, true≢false}
+use mathlib.Core.List.{List, [], _∷_, _++_}
+use native.Mathlib.Omega.{arith}
+use borrow.Author.Tests.{eqb-true, eqb-false, leb-true, ltb-true}
+use lib.Dec.{eqb}
+use lib.ListN.{length, getD, take}
+use lib.Seq.{sets, take-at}
+use Rattle.lists.proofs.Tests.{and-left, and-right}
+use Rattle.lists.proofs.Sets.{sets-front}
+use Rattle.field.specs.Width.{listed, modulus}
+use Rattle.protocol.specs.Work.{workLength}
+use Rattle.protocol.specs.Products.{Party, party}
+use Rattle.protocol.specs.Rounds.{roundWords, message, afterHearing, answerShare}
+use Rattle.protocol.proofs.Live.{Live, message-live, after-live, answer-live}
+use Rattle.protocol.proofs.Lengths.{message-length, after-length}
+use Rattle.rules.specs.Answers.{Reply, fresh, started, spoke, heard, share, dropped, refused}
+use Rattle.rules.specs.Modes.{roundOf, roundFits, inRange, modeOf, isAsleep, inJob, asleepState}
+use Rattle.rules.specs.Grounds.{_when_, wakeGround, startGround, speakGround, hearGround, dropGround}
+use Rattle.rules.specs.Calls.{Result, inPhase, unless, partyOf, turned, wakeRule, startRule, speakRule, hearRule, dropRule}
+use Rattle.rules.specs.declared.state.Turn.{Turn}
+use Rattle.rules.specs.declared.state.Turn.the-variants.{Speak, Hear}
+use Rattle.rules.specs.declared.state.Phase.{Phase}
+use Rattle.rules.specs.declared.state.Phase.the-variants.{Asleep, Idle, Job}
+use Rattle.rules.specs.declared.state.State.{State}
+use Rattle.guarantees.specs.Boxes.{Box, first, second, sideOf, partner}
+use Rattle.guarantees.specs.Entries.{Lent, dealt, loose, Incoming, spokenAt, other, Step, wake, start, speak, hear, drop, cut, cutStart}
+use Rattle.guarantees.specs.Run.{Lending, Setting, Memory, Said, nothing, replied, Event, World, memoryOf, after, quiet, eventAt, tapeWords, incomingWords, spokenWords, stepped}
+use Rattle.guarantees.specs.Premises.{True, Keeps}
+use Rattle.guarantees.proofs.Jobs.{partyAt, holding, sentBy, answerBy, sent-is, holding-next, answer-is, holding-room}
+use Rattle.guarantees.proofs.Passed.{pass, StartPassed, start-passed, SpeakPassed, speak-passed, HearPassed, hear-passed, awake-mode, awake-listed, Due, due-job}
+
+module _ (g : Setting) (pair : ℕ) (book : Box → ℕ → ℕ → Lending) where
+  -- ---- what holds of one box
+
+  -- awake under its own side and pair number
+  pub record Own (b : Box) (s : State) : Type 0 where
+    pub side : s .side ≡ sideOf b
+    pub pair-is : s .pair ≡ pair
+
+  -- in a job whose turn has that round: so many rounds were heard
+  pub record InJob (b : Box) (s : State) (work : List ℕ) (turn : Turn) (number x y : ℕ) : Type 0 where
+    pub own : Own b s
+    pub x-is : x ≡ book b number (s .n) .x
+    pub y-is : y ≡ book b number (s .n) .y
+    pub room : workLength (s .n) ≤ length work
+    pub heard : ℕ
+    pub count : roundOf turn ≡ suc heard
+    pub live : Live (s .n) heard work (holding (g .tapes) book b number (s .n) heard)
+
+  abbrev pub Phased : Box → State → List ℕ → Phase → Type 0
+  Phased b s work Asleep = Unit {0}
+  Phased b s work Idle = Own b s
+  Phased b s work (Job turn number x y) = InJob b s work turn number x y
+
+  pub record Holds (b : Box) (m : Memory) : Type 0 where
+    pub holds : Phased b (m .state) (m .work) (modeOf (m .state))
+
+  -- ---- what holds of the log
+
+  abbrev pub True-to : Event → Said → Type 0
+  True-to e nothing = Unit {0}
+  True-to e (replied (fresh k)) = Unit {0}
+  True-to e (replied started) = Unit {0}
+  True-to e (replied (spoke k)) = e .spoken ≡ sentBy (g .tapes) book (e .box) (e .number) (e .width) (e .round)
+  True-to e (replied heard) = Unit {0}
+  True-to e (replied (share v)) = v ≡ answerBy (g .tapes) book (e .box) (e .number) (e .width)
+  True-to e (replied dropped) = Unit {0}
+  True-to e (replied (refused k)) = Unit {0}
+
+  pub record Follows (w : World) : Type 0 where
+    pub each : (b : Box) → Holds b (memoryOf w b)
+    pub events : (k : ℕ) → True-to (eventAt (w .log) k) (eventAt (w .log) k .said)
+
+  -- a start that is not refused finds its shares in the book
+  abbrev pub Booked : ℕ → World → Box → Step → Type 0
+  Booked place w b (wake n side p) = Unit {0}
+  Booked place w b (start number lent) =
+      startGround (memoryOf w b .state) number (g .shares place .x) (g .shares place .y) (tapeWords g lent) (memoryOf w b .work) (memoryOf w b .tally) ≡ 0
+      → book b number (memoryOf w b .state .n) ≡ g .shares place
+  Booked place w b (speak number round lent out) = Unit {0}
+  Booked place w b (hear number round lent incoming) = Unit {0}
+  Booked place w b drop = Unit {0}
+  Booked place w b cut = Unit {0}
+  Booked place w b (cutStart number lent value) = Unit {0}
+
+  -- ---- a phase that is settled
+
+  settle : (b : Box) (s : State) (work : List ℕ) → Phased b s work (s .phase) → Phased b s work (modeOf s)
+  unfolding modeOf
+  settle b s work h = go (inRange s)
+    where
+      go : (t : Bool) → Phased b s work (cond t (s .phase) Asleep)
+      go true = h
+      go false = tt
+
+  awake-phase : (b : Box) (m : Memory) → Holds b m → isAsleep (modeOf (m .state)) ≡ false → Phased b (m .state) (m .work) (m .state .phase)
+  awake-phase b m h awake = subst (Phased b (m .state) (m .work)) (awake-mode (m .state) awake) (h .holds)
+
+  asleep-holds : (b : Box) (s : State) (work tally : List ℕ) → Holds b (record { state = asleepState s; work = work; tally = tally })
+  asleep-holds b s work tally = record { holds = settle b (asleepState s) work tt }
+
+  -- refused, or not: what holds of the rule's result
+  decide : (P : Result → Type 0) (k : ℕ) (s : State) (buffer : List ℕ) (ok : Result) → (k ≡ 0 → P ok)
+      → P (record { reply = refused k; state = s; buffer = buffer }) → P (unless k s buffer ok)
+  decide P k s buffer ok passed failed = go (eqb k 0) refl
+    where
+      go : (t : Bool) → eqb k 0 ≡ t → P (cond t ok (record { reply = refused k; state = s; buffer = buffer }))
+      go true e = passed (eqb-true k 0 e)
+      go false e = failed
+
+  -- a box keeps what it held
+  kept : (b : Box) (m : Memory) (tally : List ℕ) → Holds b m → Holds b (record { state = m .state; work = m .work; tally = tally })
+  kept b m tally h = record { holds = h .holds }
+
+  -- the dealt tape that was named
+  named-tape : (lent : Lent) (b : Box) (number n : ℕ) → listed n ≡ true → lent ≡ dealt b number n → tapeWords g lent ≡ g .tapes b number n
+  named-tape lent b number n l e = ap (tapeWords g) e ∙ rw l
+
+  -- awake, so under its own side and pair
+  awake-own : (b : Box) (s : State) (work : List ℕ) (p : Phase) → isAsleep p ≡ false → Phased b s work p → Own b s
+  awake-own b s work Asleep a h = absurd (true≢false a)
+  awake-own b s work Idle a h = h
+  awake-own b s work (Job turn number x y) a h = h .own
+
+  -- ---- wake
+
+  wake-holds : (b : Box) (m : Memory) (n side p : ℕ) → Holds b m
+      → (wakeGround (m .state) n side (m .tally) ≡ 0 → (side ≡ sideOf b) × (p ≡ pair))
+      → Holds b (record { state = wakeRule (m .state) n side p (m .tally) .state; work = m .work; tally = m .tally })
+  unfolding wakeRule
+  wake-holds b m n side p h keeps =
+      decide (λ r. Holds b (record { state = r .state; work = m .work; tally = m .tally })) (wakeGround (m .state) n side (m .tally)) (m .state) (m .tally) _
+      (λ zero-ground.
+      let o = keeps zero-ground in
+      record { holds = settle b _ (m .work) (record { side = o .0; pair-is = o .1 }) })
+      (kept b m (m .tally) h)
+
+  -- ---- start
+
+  start-holds : (b : Box) (m : Memory) (number : ℕ) (v : Lending) (tape : List ℕ) → Holds b m
+      → (startGround (m .state) number (v .x) (v .y) tape (m .work) (m .tally) ≡ 0 → book b number (m .state .n) ≡ v)
+      → let r = startRule (m .state) number (v .x) (v .y) tape (m .work) (m .tally) in
+      Holds b (record { state = r .state; work = m .work; tally = r .buffer })
+  unfolding startRule
+  start-holds b m number v tape h booked =
+      decide (λ r. Holds b (record { state = r .state; work = m .work; tally = r .buffer }))
+      (startGround (m .state) number (v .x) (v .y) tape (m .work) (m .tally)) (m .state) (m .tally) _
+      (λ zero-ground.
+      let p = start-passed (m .state) number (v .x) (v .y) tape (m .work) (m .tally) zero-ground in
+      let e = booked zero-ground in
+      let o = awake-own b (m .state) (m .work) (modeOf (m .state)) (p .awake) (h .holds) in
+      record {
+        holds =
+            settle b _ (m .work)
+            (record {
+              own = record { side = o .side; pair-is = o .pair-is };
+              x-is = ap (λ (q : Lending). q .x) (sym e);
+              y-is = ap (λ (q : Lending). q .y) (sym e);
+              room = p .room;
+              heard = 0;
+              count = refl;
+              live = tt;
+            });
+      })
+      (kept b m (m .tally) h)
+
+  -- ---- drop
+
+  drop-awake : (s : State) → dropGround s ≡ 0 → isAsleep (modeOf s) ≡ false
+  unfolding dropGround
+  drop-awake s e = pass (1 when isAsleep (modeOf s)) ((6 when not (inJob (modeOf s))) ∷ []) (omega arith) e .0
+
+  drop-holds : (b : Box) (m : Memory) → Holds b m → Holds b (record { state = dropRule (m .state) .state; work = m .work; tally = m .tally })
+  unfolding dropRule
+  drop-holds b m h =
+      decide (λ r. Holds b (record { state = r .state; work = m .work; tally = m .tally })) (dropGround (m .state)) (m .state) [] _
+      (λ zero-ground.
+      let o = awake-own b (m .state) (m .work) (modeOf (m .state)) (drop-awake (m .state) zero-ground) (h .holds) in
+      record { holds = settle b _ (m .work) (record { side = o .side; pair-is = o .pair-is }) })
+      (kept b m (m .tally) h)
+
+  -- ---- the job that a speak or a hear goes on with
+
+  pub record Going (b : Box) (m : Memory) (number round : ℕ) (turn : Turn) (tape : List ℕ) : Type 0 where
+    pub x : ℕ
+    pub y : ℕ
+    pub job : m .state .phase ≡ Job turn number x y
+    pub inside : InJob b (m .state) (m .work) turn number x y
+    pub width : listed (m .state .n) ≡ true
+    pub party-is : partyOf (m .state) tape ≡ partyAt (g .tapes) book b number (m .state .n)
+
+  going : (b : Box) (m : Memory) (number round : ℕ) (turn : Turn) (lent : Lent) → Holds b m
+      → (awake : isAsleep (modeOf (m .state)) ≡ false) → Due (m .state) number turn → lent ≡ dealt b number (m .state .n)
+      → Going b m number round turn (tapeWords g lent)
+  going b m number round turn lent h awake d named =
+      let l = awake-listed (m .state) awake in
+      let inside : InJob b (m .state) (m .work) turn number (d .x) (d .y) = subst (Phased b (m .state) (m .work)) (d .job) (awake-phase b m h awake) in
+      record {
+        x = d .x;
+        y = d .y;
+        job = d .job;
+        inside = inside;
+        width = l;
+        party-is = rw (d .job, inside .own .side, inside .x-is, inside .y-is, named-tape lent b number (m .state .n) l named);
+      }
+
+  -- ---- speak
+
+  front : (out msg : List ℕ) (k : ℕ) → length msg ≡ k → k ≤ length out → take k (sets out 0 msg) ≡ msg
+  front out msg k e room =
+      ap (λ (l : List ℕ). take k l) (sets-front out msg (omega arith)) ∙ take-at msg _ k e
+
+  -- the state goes on to hear, and the words are the exchange's
+  pub record Spoken (b : Box) (m : Memory) (number round : ℕ) (r : Result) : Type 0 where
+    pub holds : Holds b (record { state = r .state; work = m .work; tally = m .tally })
+    pub words : True-to (record { box = b; number = number; width = m .state .n; round = round; said = replied (r .reply); spoken = spokenWords (r .reply) (r .buffer); incoming = [] }) (replied (r .reply))
+
+  speak-holds : (b : Box) (m : Memory) (number round : ℕ) (lent : Lent) (out : List ℕ) → Holds b m
+      → (speakGround (m .state) number round (tapeWords g lent) (m .work) out ≡ 0 → lent ≡ dealt b number (m .state .n))
+      → Spoken b m number round (speakRule (m .state) number round (tapeWords g lent) (m .work) out)
+  unfolding speakRule
+  speak-holds b m number round lent out h keeps =
+      decide (Spoken b m number round) (speakGround (m .state) number round (tapeWords g lent) (m .work) out) (m .state) out _
+      (λ zero-ground.
+      let p = speak-passed (m .state) number round (tapeWords g lent) (m .work) out zero-ground in
+      let j = going b m number round (Speak round) lent h (p .awake) (due-job (m .state) number (Speak round) (p .awake) (p .due)) (keeps zero-ground) in
+      let i = j .inside in
+      record {
+        holds = record {
+          holds =
+              settle b _ (m .work)
+              (rw (j .job)
+              (record {
+                own = record { side = i .own .side; pair-is = i .own .pair-is };
+                x-is = i .x-is;
+                y-is = i .y-is;
+                room = i .room;
+                heard = i .heard;
+                count = i .count;
+                live = i .live;
+              }));
+        };
+        words =
+            front out (message (partyOf (m .state) (tapeWords g lent)) (m .work) round) (roundWords (m .state .n) round)
+            (message-length (partyOf (m .state) (tapeWords g lent)) (m .work) round ∙ rw (j .party-is)) (p .out-room)
+            ∙ rw (j .party-is, i .count)
+            (message-live (partyAt (g .tapes) book b number (m .state .n)) (i .heard) (m .work) (holding (g .tapes) book b number (m .state .n) (i .heard)) (i .live)
+            ∙ sym (sent-is (g .tapes) book b number (m .state .n) (i .heard)));
+      })
+      (record { holds = kept b m (m .tally) h; words = tt })
+
+  -- ---- hear
+
+  pub record Heard (b : Box) (m : Memory) (number round : ℕ) (incoming : List ℕ) (r : Result) : Type 0 where
+    pub holds : Holds b (record { state = r .state; work = r .buffer; tally = m .tally })
+    pub answer : True-to (record { box = b; number = number; width = m .state .n; round = round; said = replied (r .reply); spoken = []; incoming = incoming }) (replied (r .reply))
+
+  module _ (b : Box) (m : Memory) (number round : ℕ) (tape words : List ℕ) (j : Going b m number round (Hear round) tape)
+      (true-words : words ≡ sentBy (g .tapes) book (partner b) number (m .state .n) round) where
+    n : ℕ
+    n = m .state .n
+
+    -- what is held after the round is what the exchange gives
+    live-next : Live (m .state .n) (suc (j .inside .heard)) (afterHearing (partyOf (m .state) tape) (m .work) round words)
+        (holding (g .tapes) book b number (m .state .n) (suc (j .inside .heard)))
+    live-next =
+        let i = j .inside in
+        rw (j .party-is, true-words, i .count, holding-next (g .tapes) book b number (m .state .n) (i .heard))
+        (after-live (partyAt (g .tapes) book b number (m .state .n)) (j .width) (m .work) (holding (g .tapes) book b number (m .state .n) (i .heard))
+        (sentBy (g .tapes) book (partner b) number (m .state .n) (suc (i .heard))) (i .room) (holding-room (g .tapes) book b number (m .state .n) (i .heard)) (i .heard) (i .live))
+
+    -- the answer share of the last round
+    answer-last : round ≡ 6 → answerShare (partyOf (m .state) tape) (m .work) words ≡ answerBy (g .tapes) book b number (m .state .n)
+    answer-last e =
+        let i = j .inside in
+        let five : i .heard ≡ 5 = omega (arith, i .count) in
+        let live : Live (m .state .n) 5 (m .work) (holding (g .tapes) book b number (m .state .n) 5) =
+        subst (λ (k : ℕ). Live (m .state .n) k (m .work) (holding (g .tapes) book b number (m .state .n) k)) five (i .live) in
+        rw (j .party-is, true-words, e)
+        (answer-live (partyAt (g .tapes) book b number (m .state .n)) (m .work) (holding (g .tapes) book b number (m .state .n) 5)
+        (sentBy (g .tapes) book (partner b) number (m .state .n) 6) live
+        ∙ sym (answer-is (g .tapes) book b number (m .state .n)))
+
+    hear-goes : Heard b m number round words
+        (cond (eqb round 6)
+        (record {
+          reply = share (answerShare (partyOf (m .state) tape) (m .work) words);
+          state = inPhase (m .state) Idle;
+          buffer = afterHearing (partyOf (m .state) tape) (m .work) round words;
+        })
+        (record {
+          reply = heard;
+          state = inPhase (m .state) (turned (m .state .phase) (Speak (round + 1)));
+          buffer = afterHearing (partyOf (m .state) tape) (m .work) round words;
+        }))
+    hear-goes = go (eqb round 6) refl
+      where
+        work′ : List ℕ
+        work′ = afterHearing (partyOf (m .state) tape) (m .work) round words
+
+        go : (t : Bool) → eqb round 6 ≡ t
+            → Heard b m number round words
+            (cond t
+            (record { reply = share (answerShare (partyOf (m .state) tape) (m .work) words); state = inPhase (m .state) Idle; buffer = work′ })
+            (record { reply = heard; state = inPhase (m .state) (turned (m .state .phase) (Speak (round + 1))); buffer = work′ }))
+        go true e =
+            record {
+              holds = record { holds = settle b _ work′ (record { side = j .inside .own .side; pair-is = j .inside .own .pair-is }) };
+              answer = answer-last (eqb-true round 6 e);
+            }
+        go false e =
+            record {
+              holds = record {
+                holds =
+                    settle b (inPhase (m .state) (turned (m .state .phase) (Speak (round + 1)))) work′
+                    (subst (λ (p : Phase). Phased b (inPhase (m .state) (turned (m .state .phase) (Speak (round + 1)))) work′ p)
+                    (sym (ap (λ (p : Phase). turned p (Speak (round + 1))) (j .job)))
+                    (record {
+                      own = record { side = j .inside .own .side; pair-is = j .inside .own .pair-is };
+                      x-is = j .inside .x-is;
+                      y-is = j .inside .y-is;
+                      room = rw (after-length (partyOf (m .state) tape) (m .work) words round) (j .inside .room);
+                      heard = suc (j .inside .heard);
+                      count = omega (arith, j .inside .count);
+                      live = live-next;
+                    }));
+              };
+              answer = tt;
+            }
+
+  hear-holds : (b : Box) (m : Memory) (number round : ℕ) (lent : Lent) (words : List ℕ) → Holds b m
+      → (hearGround (m .state) number round (tapeWords g lent) (m .work) words ≡ 0
+      → (lent ≡ dealt b number (m .state .n)) × (words ≡ sentBy (g .tapes) book (partner b) number (m .state .n) round))
+      → Heard b m number round words (hearRule (m .state) number round (tapeWords g lent) (m .work) words)
+  unfolding hearRule
+  hear-holds b m number round lent words h keeps =
+      decide (Heard b m number round words) (hearGround (m .state) number round (tapeWords g lent) (m .work) words) (m .state) (m .work) _
+      (λ zero-ground.
+      let p = hear-passed (m .state) number round (tapeWords g lent) (m .work) words zero-ground in
+      let k = keeps zero-ground in
+      hear-goes b m number round (tapeWords g lent) words
+      (going b m number round (Hear round) lent h (p .awake) (due-job (m .state) number (Hear round) (p .awake) (p .due)) (k .0)) (k .1))
+      (record { holds = kept b m (m .tally) h; answer = tt })
+
+  -- ---- the log and the worlds
+
+  grows : (log : List Event) (e : Event) → ((k : ℕ) → True-to (eventAt log k) (eventAt log k .said)) → True-to e (e .said)
+      → (k : ℕ) → True-to (eventAt (log ++ (e ∷ [])) k) (eventAt (log ++ (e ∷ [])) k .said)
+  grows [] e old new zero = new
+  grows [] e old new (suc k) = tt
+  grows (d ∷ log) e old new zero = old zero
+  grows (d ∷ log) e old new (suc k) = grows log e (λ i. old (suc i)) new k
+
+  after-follows : (w : World) (b : Box) (m : Memory) (e : Event) → Follows w → Holds b m → True-to e (e .said) → Follows (after w b m e)
+  after-follows w first m e f h t = record { each = λ c. both c; events = grows (w .log) e (f .events) t }
+    where
+      both : (c : Box) → Holds c (memoryOf (after w first m e) c)
+      both first = h
+      both second = f .each second
+  after-follows w second m e f h t = record { each = λ c. both c; events = grows (w .log) e (f .events) t }
+    where
+      both : (c : Box) → Holds c (memoryOf (after w second m e) c)
+      both first = f .each first
+      both second = h
+
+  -- a true message is the exchange's
+  true-message : (w : World) (b : Box) (number n round : ℕ) (incoming : Incoming) → Follows w → True (w .log) b number n round incoming
+      → incomingWords (w .log) incoming ≡ sentBy (g .tapes) book (partner b) number n round
+  true-message w b number n round incoming f t =
+      let e = eventAt (w .log) (t .place) in
+      let told : e .spoken ≡ sentBy (g .tapes) book (e .box) (e .number) (e .width) (e .round) =
+      subst (True-to e) (t .uttered) (f .events (t .place)) in
+      ap (incomingWords (w .log)) (t .named)
+      ∙ told
+      ∙ rw (t .by, t .numbered, t .wide, t .rounded)
+
+  -- calls that say nothing of an exchange
+  quiet-wake : (m : Memory) (n side p : ℕ) (e : Event) → True-to e (replied (wakeRule (m .state) n side p (m .tally) .reply))
+  unfolding wakeRule
+  quiet-wake m n side p e = decide (λ r. True-to e (replied (r .reply))) (wakeGround (m .state) n side (m .tally)) (m .state) (m .tally) _ (λ z. tt) tt
+
+  quiet-start : (m : Memory) (number : ℕ) (v : Lending) (tape : List ℕ) (e : Event)
+      → True-to e (replied (startRule (m .state) number (v .x) (v .y) tape (m .work) (m .tally) .reply))
+  unfolding startRule
+  quiet-start m number v tape e =
+      decide (λ r. True-to e (replied (r .reply))) (startGround (m .state) number (v .x) (v .y) tape (m .work) (m .tally)) (m .state) (m .tally) _ (λ z. tt) tt
+
+  quiet-drop : (m : Memory) (e : Event) → True-to e (replied (dropRule (m .state) .reply))
+  unfolding dropRule
+  quiet-drop m e = decide (λ r. True-to e (replied (r .reply))) (dropGround (m .state)) (m .state) [] _ (λ z. tt) tt
+
+  -- one entry
+  pub follows-next : (place : ℕ) (w : World) (b : Box) (step : Step) → Follows w → Keeps g pair place w b step → Booked place w b step
+      → Follows (stepped g place w b step)
+  unfolding stepped
+  follows-next place w b (wake n side p) f keeps booked =
+      after-follows w b _ _ f (wake-holds b (memoryOf w b) n side p (f .each b) keeps) (quiet-wake (memoryOf w b) n side p _)
+  follows-next place w b (start number lent) f keeps booked =
+      after-follows w b _ _ f (start-holds b (memoryOf w b) number (g .shares place) (tapeWords g lent) (f .each b) booked)
+      (quiet-start (memoryOf w b) number (g .shares place) (tapeWords g lent) _)
+  follows-next place w b (speak number round lent out) f keeps booked =
+      let r = speak-holds b (memoryOf w b) number round lent out (f .each b) keeps in
+      after-follows w b _ _ f (r .holds) (r .words)
+  follows-next place w b (hear number round lent incoming) f keeps booked =
+      let r = hear-holds b (memoryOf w b) number round lent (incomingWords (w .log) incoming) (f .each b)
+      (λ zero-ground.
+      let k = keeps zero-ground in
+      (k .0, true-message w b number (memoryOf w b .state .n) round incoming f (k .1))) in
+      after-follows w b _ _ f (r .holds) (r .answer)
+  follows-next place w b drop f keeps booked =
+      after-follows w b _ _ f (drop-holds b (memoryOf w b) (f .each b)) (quiet-drop (memoryOf w b) _)
+  follows-next place w b cut f keeps booked =
+      after-follows w b _ _ f (asleep-holds b (memoryOf w b .state) _ _) tt
+  follows-next place w b (cutStart number lent value) f keeps booked =
+      after-follows w b _ _ f (asleep-holds b (memoryOf w b .state) _ _) tt

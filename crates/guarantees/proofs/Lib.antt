@@ -1,0 +1,9 @@
+pub mod Twins
+pub mod Jobs
+pub mod Passed
+pub mod Follows
+pub mod Openings
+pub mod Turns
+pub mod Refusals
+pub mod Logs
+pub mod Skeletons

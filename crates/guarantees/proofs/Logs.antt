@@ -1,0 +1,44 @@
+-- The log by its places, one event longer at the end.
+use Prim.Native.Nat.{ℕ, zero, suc, _<_, _≤_}
+use mathlib.Core.Path.{_≡_, refl}
+use mathlib.Core.List.{List, [], _∷_, _++_}
+use native.Mathlib.Omega.{arith}
+use lib.ListN.{length, length-append}
+use Rattle.guarantees.specs.Run.{Event, quiet, eventAt}
+use Rattle.guarantees.proofs.Twins.{SameEvent}
+
+-- nothing is written there
+pub event-none : (log : List Event) (k : ℕ) → length log ≤ k → eventAt log k ≡ quiet
+event-none [] k h = refl
+event-none (a ∷ log) zero h = absurd (omega arith)
+event-none (a ∷ log) (suc k) h = event-none log k (omega arith)
+
+pub event-before : (log : List Event) (e : Event) (k : ℕ) → k < length log → eventAt (log ++ (e ∷ [])) k ≡ eventAt log k
+event-before [] e k h = absurd (omega arith)
+event-before (a ∷ log) e zero h = refl
+event-before (a ∷ log) e (suc k) h = event-before log e k (omega arith)
+
+pub event-end : (log : List Event) (e : Event) → eventAt (log ++ (e ∷ [])) (length log) ≡ e
+event-end [] e = refl
+event-end (a ∷ log) e = event-end log e
+
+pub event-past : (log : List Event) (e : Event) (k : ℕ) → length log < k → eventAt (log ++ (e ∷ [])) k ≡ quiet
+event-past log e k h = event-none (log ++ (e ∷ [])) k (simp length-append (omega arith))
+
+pub log-length : (log : List Event) (e : Event) → length (log ++ (e ∷ [])) ≡ suc (length log)
+log-length log e = simp length-append (omega arith)
+
+pub same-event : (e : Event) → SameEvent e e
+same-event e = record { box = refl; number = refl; width = refl; round = refl; said = refl; long = refl }
+
+-- two logs that are the same, still so one event later
+pub events-more : (log log′ : List Event) {e e′ : Event} → length log ≡ length log′
+    → ((k : ℕ) → SameEvent (eventAt log k) (eventAt log′ k)) → SameEvent e e′
+    → (k : ℕ) → SameEvent (eventAt (log ++ (e ∷ [])) k) (eventAt (log′ ++ (e′ ∷ [])) k)
+events-more [] [] places events more zero = more
+events-more [] [] places events more (suc k) = same-event quiet
+events-more [] (a′ ∷ log′) places events more k = absurd (omega arith)
+events-more (a ∷ log) [] places events more k = absurd (omega arith)
+events-more (a ∷ log) (a′ ∷ log′) places events more zero = events 0
+events-more (a ∷ log) (a′ ∷ log′) places events more (suc k) =
+    events-more log log′ (omega arith) (λ j. events (suc j)) more k

@@ -1,0 +1,249 @@
+-- At one box a tape number opens a job only once: what is marked never becomes fresh again. So a job's place in the log is found again.
+use Prim.Native.Nat.{ℕ, zero, suc, _+_, _<_, _≤_}
+use mathlib.Core.Path.{_≡_, refl, sym, ap, subst, _∙_}
+use mathlib.Core.Bool.{Bool, true, false, _&&_, cond, false≢true, true≢false}
+use mathlib.Core.List.{List, [], _∷_, _++_, append-assoc, append-nil}
+use native.Mathlib.Omega.{arith}
+use borrow.Author.Tests.{eqb-true, eqb-false, eq-eqb, ne-eqb}
+use lib.Dec.{eqb}
+use lib.ListN.{length, length-append}
+use Rattle.lists.proofs.Tests.{and-left, and-right, and-both, and-false}
+use Rattle.rules.specs.Answers.{Reply, fresh, started, spoke, heard, share, dropped, refused}
+use Rattle.rules.specs.Tally.{tapesOf, isFresh, marked, cutMarked}
+use Rattle.rules.specs.Grounds.{wakeGround, startGround, speakGround, hearGround, dropGround}
+use Rattle.rules.specs.declared.state.State.{State}
+use Rattle.protocol.specs.Rounds.{answerShare}
+use Rattle.rules.specs.Calls.{Result, unless, partyOf, wakeRule, startRule, speakRule, hearRule, dropRule}
+use Rattle.rules.proofs.Marks.{marked-spent, marked-other, cut-other}
+use Rattle.guarantees.specs.Boxes.{Box, first, second}
+use Rattle.guarantees.specs.Entries.{Lent, Step, wake, start, speak, hear, drop, cut, cutStart, Entry}
+use Rattle.guarantees.specs.Run.{Lending, Setting, Memory, Said, nothing, replied, Event, World, memoryOf, after, tapeWords, incomingWords, stepped, run}
+use Rattle.guarantees.specs.Places.{sameBox, isStarted, opens, openedAt}
+use Rattle.guarantees.proofs.Passed.{start-passed}
+
+-- no event of the log opened a job of this box under a number that is fresh
+abbrev pub Unopened : List Event → Box → ℕ → Type 0
+Unopened [] b number = Unit {0}
+Unopened (e ∷ es) b number = (opens b number e ≡ false) × Unopened es b number
+
+-- every number fresh in a box's tally is unopened there
+pub record Marked (w : World) : Type 0 where
+  pub unopened : (b : Box) (number : ℕ) → isFresh (memoryOf w b .tally) number ≡ true → Unopened (w .log) b number
+
+unopened-more : (log : List Event) (e : Event) (b : Box) (number : ℕ) → Unopened log b number → opens b number e ≡ false → Unopened (log ++ (e ∷ [])) b number
+unopened-more [] e b number u h = (h, tt)
+unopened-more (d ∷ log) e b number u h = (u .0, unopened-more log e b number (u .1) h)
+
+-- ---- where a job was opened
+
+at-end : (log : List Event) (e : Event) (more : List Event) (b : Box) (number n : ℕ) → Unopened log b number
+    → opens b number e && eqb n (e .width) ≡ true → openedAt (log ++ (e ∷ more)) b number n ≡ length log
+at-end [] e more b number n u h = rw h
+at-end (d ∷ log) e more b number n u h =
+    rw (u .0) (ap suc (at-end log e more b number n (u .1) h))
+
+-- the log only grows
+pub record Grown (log log′ : List Event) : Type 0 where
+  pub more : List Event
+  pub is : log′ ≡ log ++ more
+
+after-log : (w : World) (b : Box) (m : Memory) (e : Event) → after w b m e .log ≡ w .log ++ (e ∷ [])
+after-log w first m e = refl
+after-log w second m e = refl
+
+-- ---- the marks over one entry
+
+-- an event of the other box opens nothing here
+elsewhere : (b c : Box) (number : ℕ) (e : Event) → sameBox b c ≡ false → e .box ≡ c → opens b number e ≡ false
+elsewhere b c number e differ at = ap (λ (d : Box). sameBox b d && eqb number (e .number) && isStarted (e .said)) at ∙ rw differ
+
+-- an entry at box c that leaves a tally there, with an event of that box
+marked-after : (w : World) (c : Box) (m : Memory) (e : Event) → Marked w → e .box ≡ c
+    → ((number : ℕ) → isFresh (m .tally) number ≡ true → (isFresh (memoryOf w c .tally) number ≡ true) × (opens c number e ≡ false))
+    → Marked (after w c m e)
+marked-after w first m e h at keeps = record { unopened = go }
+  where
+    go : (b : Box) (number : ℕ) → isFresh (memoryOf (after w first m e) b .tally) number ≡ true → Unopened (w .log ++ (e ∷ [])) b number
+    go first number f = unopened-more (w .log) e first number (h .unopened first number (keeps number f .0)) (keeps number f .1)
+    go second number f = unopened-more (w .log) e second number (h .unopened second number f) (elsewhere second first number e refl at)
+marked-after w second m e h at keeps = record { unopened = go }
+  where
+    go : (b : Box) (number : ℕ) → isFresh (memoryOf (after w second m e) b .tally) number ≡ true → Unopened (w .log ++ (e ∷ [])) b number
+    go first number f = unopened-more (w .log) e first number (h .unopened first number f) (elsewhere first second number e refl at)
+    go second number f = unopened-more (w .log) e second number (h .unopened second number (keeps number f .0)) (keeps number f .1)
+
+-- an event that is no opening
+not-opening : (b : Box) (number : ℕ) (e : Event) → isStarted (e .said) ≡ false → opens b number e ≡ false
+not-opening b number e h = and-false (sameBox b (e .box) && eqb number (e .number)) h
+
+decide : (P : Result → Type 0) (k : ℕ) (s : State) (buffer : List ℕ) (ok : Result) → (k ≡ 0 → P ok)
+    → P (record { reply = refused k; state = s; buffer = buffer }) → P (unless k s buffer ok)
+decide P k s buffer ok passed failed = go (eqb k 0) refl
+  where
+    go : (t : Bool) → eqb k 0 ≡ t → P (cond t ok (record { reply = refused k; state = s; buffer = buffer }))
+    go true e = passed (eqb-true k 0 e)
+    go false e = failed
+
+-- which calls open a job
+wake-opens : (s : State) (n side p : ℕ) (tally : List ℕ) → isStarted (replied (wakeRule s n side p tally .reply)) ≡ false
+unfolding wakeRule
+wake-opens s n side p tally = decide (λ r. isStarted (replied (r .reply)) ≡ false) (wakeGround s n side tally) s tally _ (λ z. refl) refl
+
+speak-opens : (s : State) (number round : ℕ) (tape work out : List ℕ) → isStarted (replied (speakRule s number round tape work out .reply)) ≡ false
+unfolding speakRule
+speak-opens s number round tape work out =
+    decide (λ r. isStarted (replied (r .reply)) ≡ false) (speakGround s number round tape work out) s out _ (λ z. refl) refl
+
+hear-opens : (s : State) (number round : ℕ) (tape work words : List ℕ) → isStarted (replied (hearRule s number round tape work words .reply)) ≡ false
+unfolding hearRule
+hear-opens s number round tape work words =
+    decide (λ r. isStarted (replied (r .reply)) ≡ false) (hearGround s number round tape work words) s work _
+    (λ z. last (eqb round 6) (answerShare (partyOf s tape) work words) _ _ _) refl
+  where
+    last : (t : Bool) (v : ℕ) (s1 s2 : State) (buffer : List ℕ)
+        → isStarted
+        (replied
+        (cond {A = Result} t (record { reply = share v; state = s1; buffer = buffer }) (record { reply = heard; state = s2; buffer = buffer }) .reply))
+        ≡ false
+    last true v s1 s2 buffer = refl
+    last false v s1 s2 buffer = refl
+
+drop-opens : (s : State) → isStarted (replied (dropRule s .reply)) ≡ false
+unfolding dropRule
+drop-opens s = decide (λ r. isStarted (replied (r .reply)) ≡ false) (dropGround s) s [] _ (λ z. refl) refl
+
+-- a start marks the number that it opens
+start-marks : (s : State) (number x y : ℕ) (tape work tally : List ℕ) (b : Box) (n k : ℕ)
+    → let r = startRule s number x y tape work tally in
+    isFresh (r .buffer) k ≡ true
+    → (isFresh tally k ≡ true)
+    × (opens b k (record { box = b; number = number; width = n; round = 0; said = replied (r .reply); spoken = []; incoming = [] }) ≡ false)
+unfolding startRule
+start-marks s number x y tape work tally b n k =
+    decide
+    (λ r.
+    isFresh (r .buffer) k ≡ true
+    → (isFresh tally k ≡ true)
+    × (opens b k (record { box = b; number = number; width = n; round = 0; said = replied (r .reply); spoken = []; incoming = [] }) ≡ false))
+    (startGround s number x y tape work tally) s tally _
+    (λ zero-ground f. opened (start-passed s number x y tape work tally zero-ground .numbered) (eqb k number) refl f)
+    (λ f. (
+      f,
+      not-opening b k
+          (record {
+            box = b;
+            number = number;
+            width = n;
+            round = 0;
+            said = replied (refused (startGround s number x y tape work tally));
+            spoken = [];
+            incoming = [];
+          })
+          refl,
+    ))
+  where
+    opened : number < tapesOf (length tally) → (t : Bool) → eqb k number ≡ t → isFresh (marked tally number) k ≡ true
+        → (isFresh tally k ≡ true)
+        × (opens b k (record { box = b; number = number; width = n; round = 0; said = replied started; spoken = []; incoming = [] }) ≡ false)
+    opened less true q f =
+        absurd (true≢false (sym f ∙ ap (isFresh (marked tally number)) (eqb-true k number q) ∙ marked-spent tally number less))
+    opened less false q f =
+        (sym (marked-other tally number k (eqb-false k number q)) ∙ f, rw q (dull (sameBox b b)))
+      where
+        dull : (t : Bool) → t && false && true ≡ false
+        dull true = refl
+        dull false = refl
+
+-- an entry that opens nothing and frees nothing
+dull-after : (w : World) (c : Box) (m : Memory) (e : Event) → Marked w → e .box ≡ c → isStarted (e .said) ≡ false
+    → ((number : ℕ) → isFresh (m .tally) number ≡ true → isFresh (memoryOf w c .tally) number ≡ true) → Marked (after w c m e)
+dull-after w c m e h at dull keeps = marked-after w c m e h at (λ number f. (keeps number f, not-opening c number e dull))
+
+-- a cut in a start's mark frees no number: this one was fresh
+cut-keeps : (s : State) (number x y : ℕ) (tape work tally : List ℕ) (value j : ℕ)
+    → isFresh (cond (eqb (startGround s number x y tape work tally) 0) (cutMarked tally number value) tally) j ≡ true → isFresh tally j ≡ true
+cut-keeps s number x y tape work tally value j = go (eqb (startGround s number x y tape work tally) 0) refl
+  where
+    this : (t : Bool) → eqb j number ≡ t → isFresh tally number ≡ true → isFresh (cutMarked tally number value) j ≡ true → isFresh tally j ≡ true
+    this true q was f = ap (isFresh tally) (eqb-true j number q) ∙ was
+    this false q was f = sym (cut-other tally number value j (eqb-false j number q)) ∙ f
+
+    go : (t : Bool) → eqb (startGround s number x y tape work tally) 0 ≡ t → isFresh (cond t (cutMarked tally number value) tally) j ≡ true
+        → isFresh tally j ≡ true
+    go true q f =
+        this (eqb j number) refl (start-passed s number x y tape work tally (eqb-true (startGround s number x y tape work tally) 0 q) .fresh) f
+    go false q f = f
+
+-- one entry
+pub marked-next : (g : Setting) (place : ℕ) (w : World) (b : Box) (step : Step) → Marked w → Marked (stepped g place w b step)
+unfolding stepped
+marked-next g place w b (wake n side p) h =
+    dull-after w b _ _ h refl (wake-opens (memoryOf w b .state) n side p (memoryOf w b .tally)) (λ k f. f)
+marked-next g place w b (start number lent) h =
+    let m = memoryOf w b in
+    marked-after w b _ _ h refl
+    (start-marks (m .state) number (g .shares place .x) (g .shares place .y) (tapeWords g lent) (m .work) (m .tally) b (m .state .n))
+marked-next g place w b (speak number round lent out) h =
+    let m = memoryOf w b in
+    dull-after w b _ _ h refl (speak-opens (m .state) number round (tapeWords g lent) (m .work) out) (λ k f. f)
+marked-next g place w b (hear number round lent incoming) h =
+    let m = memoryOf w b in
+    dull-after w b _ _ h refl (hear-opens (m .state) number round (tapeWords g lent) (m .work) (incomingWords (w .log) incoming)) (λ k f. f)
+marked-next g place w b drop h = dull-after w b _ _ h refl (drop-opens (memoryOf w b .state)) (λ k f. f)
+marked-next g place w b cut h = dull-after w b _ _ h refl refl (λ k f. f)
+marked-next g place w b (cutStart number lent value) h =
+    let m = memoryOf w b in
+    dull-after w b _ _ h refl refl
+    (cut-keeps (m .state) number (g .shares place .x) (g .shares place .y) (tapeWords g lent) (m .work) (m .tally) value)
+
+-- ---- the log over a run
+
+pub one-more : (g : Setting) (place : ℕ) (w : World) (b : Box) (step : Step) → Grown (w .log) (stepped g place w b step .log)
+unfolding stepped
+one-more g place w b (wake n side p) = record { more = _; is = after-log w b _ _ }
+one-more g place w b (start number lent) = record { more = _; is = after-log w b _ _ }
+one-more g place w b (speak number round lent out) = record { more = _; is = after-log w b _ _ }
+one-more g place w b (hear number round lent incoming) = record { more = _; is = after-log w b _ _ }
+one-more g place w b drop = record { more = _; is = after-log w b _ _ }
+one-more g place w b cut = record { more = _; is = after-log w b _ _ }
+one-more g place w b (cutStart number lent value) = record { more = _; is = after-log w b _ _ }
+
+pub run-grows : (g : Setting) (place : ℕ) (w : World) (es : List Entry) → Grown (w .log) (run g place w es .log)
+run-grows g place w [] = record { more = []; is = sym (append-nil (w .log)) }
+run-grows g place w (e ∷ es) =
+    let one = one-more g place w (e .box) (e .step) in
+    let rest = run-grows g (suc place) (stepped g place w (e .box) (e .step)) es in
+    record {
+      more = one .more ++ rest .more;
+      is = rest .is ∙ ap (λ (l : List Event). l ++ rest .more) (one .is) ∙ append-assoc (w .log) (one .more) (rest .more);
+    }
+
+same-self : (b : Box) → sameBox b b ≡ true
+same-self first = refl
+same-self second = refl
+
+started-said : (s : State) (number x y : ℕ) (tape work tally : List ℕ) → startGround s number x y tape work tally ≡ 0
+    → startRule s number x y tape work tally .reply ≡ started
+unfolding startRule
+started-said s number x y tape work tally ground = rw ground refl
+
+-- a start that is not refused is found again at its place
+pub found : (g : Setting) (place : ℕ) (w : World) (b : Box) (number : ℕ) (lent : Lent) (es : List Entry) → Marked w
+    → startGround (memoryOf w b .state) number (g .shares place .x) (g .shares place .y) (tapeWords g lent) (memoryOf w b .work) (memoryOf w b .tally)
+    ≡ 0
+    → openedAt (run g (suc place) (stepped g place w b (start number lent)) es .log) b number (memoryOf w b .state .n) ≡ length (w .log)
+unfolding stepped
+found g place w b number lent es h ground =
+    let m = memoryOf w b in
+    let rest = run-grows g (suc place) (stepped g place w b (start number lent)) es in
+    ap (λ (l : List Event). openedAt l b number (m .state .n))
+    (rest .is ∙ ap (λ (l : List Event). l ++ rest .more) (after-log w b _ _) ∙ append-assoc (w .log) _ (rest .more))
+    ∙ at-end (w .log) _ (rest .more) b number (m .state .n)
+    (h .unopened b number (start-passed (m .state) number _ _ _ _ _ ground .fresh))
+    (rw (
+      started-said (m .state) number (g .shares place .x) (g .shares place .y) (tapeWords g lent) (m .work) (m .tally) ground,
+      same-self b,
+      eq-eqb number number refl,
+      eq-eqb (m .state .n) (m .state .n) refl,
+    )
+    refl)

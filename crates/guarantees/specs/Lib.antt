@@ -1,0 +1,7 @@
+pub mod Boxes
+pub mod Entries
+pub mod Run
+pub mod Premises
+pub mod Places
+pub mod View
+pub mod Secrecy

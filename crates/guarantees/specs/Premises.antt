@@ -1,0 +1,86 @@
+-- The premises of demand 3, along the run (document 01, "The lists of demand 3").
+use Prim.Native.Nat.{ℕ, suc, _<_, _≤_}
+use mathlib.Core.Path.{_≡_}
+use mathlib.Core.Bool.{true}
+use mathlib.Core.List.{List, [], _∷_}
+use mathlib.Core.Logic.{_⊎_}
+use lib.ListN.{length}
+use Rattle.field.specs.Width.{listed, modulus}
+use Rattle.tape.specs.Dealt.{Matched}
+use Rattle.rules.specs.Answers.{Reply, spoke, refused}
+use Rattle.rules.specs.Modes.{modeOf, isAsleep}
+use Rattle.rules.specs.Grounds.{wakeGround, startGround, speakGround, hearGround}
+use Rattle.guarantees.specs.Boxes.{Box, sideOf, partner}
+use Rattle.guarantees.specs.Entries.{Lent, dealt, Incoming, spokenAt, Step, wake, start, speak, hear, drop, cut, cutStart, Entry}
+use Rattle.guarantees.specs.Run.{Lending, Setting, Memory, Event, replied, World, memoryOf, eventAt, tapeWords, incomingWords, stepped}
+
+-- a message is true: it was spoken at an earlier place of the list by the other box, under the same number, width and round
+pub record True (log : List Event) (b : Box) (number width round : ℕ) (incoming : Incoming) : Type 0 where
+  pub place : ℕ
+  pub named : incoming ≡ spokenAt place
+  pub earlier : place < length log
+  pub by : eventAt log place .box ≡ partner b
+  pub numbered : eventAt log place .number ≡ number
+  pub wide : eventAt log place .width ≡ width
+  pub rounded : eventAt log place .round ≡ round
+  pub count : ℕ
+  pub uttered : eventAt log place .said ≡ replied (spoke count)
+
+-- what an entry that is not refused keeps to; a ground of 0 is none
+abbrev pub Keeps : Setting → ℕ → ℕ → World → Box → Step → Type 0
+Keeps g pair place w b (wake n side p) =
+    wakeGround (memoryOf w b .state) n side (memoryOf w b .tally) ≡ 0 → (side ≡ sideOf b) × (p ≡ pair)
+Keeps g pair place w b (start number lent) =
+    startGround (memoryOf w b .state) number (g .shares place .x) (g .shares place .y) (tapeWords g lent) (memoryOf w b .work) (memoryOf w b .tally) ≡ 0
+    → lent ≡ dealt b number (memoryOf w b .state .n)
+Keeps g pair place w b (speak number round lent out) =
+    speakGround (memoryOf w b .state) number round (tapeWords g lent) (memoryOf w b .work) out ≡ 0
+    → lent ≡ dealt b number (memoryOf w b .state .n)
+Keeps g pair place w b (hear number round lent incoming) =
+    hearGround (memoryOf w b .state) number round (tapeWords g lent) (memoryOf w b .work) (incomingWords (w .log) incoming) ≡ 0
+    → (lent ≡ dealt b number (memoryOf w b .state .n)) × True (w .log) b number (memoryOf w b .state .n) round incoming
+Keeps g pair place w b drop = Unit {0}
+Keeps g pair place w b cut = Unit {0}
+Keeps g pair place w b (cutStart number lent value) =
+    startGround (memoryOf w b .state) number (g .shares place .x) (g .shares place .y) (tapeWords g lent) (memoryOf w b .work) (memoryOf w b .tally) ≡ 0
+    → lent ≡ dealt b number (memoryOf w b .state .n)
+
+-- every entry from a place on keeps to them
+abbrev pub Meets : Setting → ℕ → ℕ → World → List Entry → Type 0
+Meets g pair place w [] = Unit {0}
+Meets g pair place w (e ∷ es) =
+    Keeps g pair place w (e .box) (e .step) × Meets g pair (suc place) (stepped g place w (e .box) (e .step)) es
+
+-- at first both boxes are asleep
+pub record AtFirst (w : World) : Type 0 where
+  pub first-asleep : isAsleep (modeOf (w .one .state)) ≡ true
+  pub second-asleep : isAsleep (modeOf (w .two .state)) ≡ true
+  pub no-events : w .log ≡ []
+
+-- every dealt pair of tapes is dealt by the rules, one pair for each number and width
+abbrev pub AllDealt : (Box → ℕ → ℕ → List ℕ) → Box → ℕ → Type 0
+AllDealt tapes b pair =
+    (number n : ℕ) → listed n ≡ true → Matched n pair number (sideOf b) (tapes b number n) (tapes (partner b) number n)
+
+-- a share under two tables: the same, or in range in both, for its box's width or where its box is asleep
+abbrev pub InBoth : Memory → ℕ → ℕ → Type 0
+InBoth m v v′ = (v ≡ v′) ⊎ ((isAsleep (modeOf (m .state)) ≡ true) ⊎ ((v < modulus (m .state .n)) × (v′ < modulus (m .state .n))))
+
+-- the second table of shares, along the first run: at the starts of box b as above, and elsewhere the same
+abbrev pub Compatible : (ℕ → Lending) → Setting → Box → ℕ → World → Box → Step → Type 0
+Compatible shares′ g b place w c (wake n side p) = Unit {0}
+Compatible shares′ g b place w c (start number lent) =
+    ((c ≡ partner b) → (shares′ place .x ≡ g .shares place .x) × (shares′ place .y ≡ g .shares place .y))
+    × ((c ≡ b) → InBoth (memoryOf w c) (g .shares place .x) (shares′ place .x) × InBoth (memoryOf w c) (g .shares place .y) (shares′ place .y))
+Compatible shares′ g b place w c (speak number round lent out) = Unit {0}
+Compatible shares′ g b place w c (hear number round lent incoming) = Unit {0}
+Compatible shares′ g b place w c drop = Unit {0}
+Compatible shares′ g b place w c cut = Unit {0}
+Compatible shares′ g b place w c (cutStart number lent value) =
+    ((c ≡ partner b) → (shares′ place .x ≡ g .shares place .x) × (shares′ place .y ≡ g .shares place .y))
+    × ((c ≡ b) → InBoth (memoryOf w c) (g .shares place .x) (shares′ place .x) × InBoth (memoryOf w c) (g .shares place .y) (shares′ place .y))
+
+abbrev pub AllCompatible : (ℕ → Lending) → Setting → Box → ℕ → World → List Entry → Type 0
+AllCompatible shares′ g b place w [] = Unit {0}
+AllCompatible shares′ g b place w (e ∷ es) =
+    Compatible shares′ g b place w (e .box) (e .step) × AllCompatible shares′ g b (suc place) (stepped g place w (e .box) (e .step)) es

@@ -1,0 +1,147 @@
+-- A run threads state, work and tally of each box through the list, by the very rules that the contracts of the five calls cite.
+use Prim.Native.Nat.{ℕ, zero, suc, _+_}
+use mathlib.Core.Bool.{Bool, true, false, cond}
+use mathlib.Core.List.{List, [], _∷_, _++_}
+use lib.Dec.{eqb}
+use lib.ListN.{length, getD, take}
+use Rattle.lists.specs.Tabulate.{tabulate}
+use Rattle.field.specs.Width.{listed}
+use Rattle.rules.specs.Answers.{Reply, fresh, started, spoke, heard, share, dropped, refused}
+use Rattle.rules.specs.Tally.{cutMarked}
+use Rattle.rules.specs.Modes.{asleepState}
+use Rattle.rules.specs.Grounds.{startGround}
+use Rattle.rules.specs.Calls.{Result, wakeRule, startRule, speakRule, hearRule, dropRule}
+use Rattle.rules.specs.declared.state.State.{State}
+use Rattle.guarantees.specs.Boxes.{Box, first, second}
+use Rattle.guarantees.specs.Entries.{Lent, dealt, loose, Incoming, spokenAt, other, Step, wake, start, speak, hear, drop, cut, cutStart, Entry}
+
+-- the two shares lent at a start
+pub record Lending : Type 0 where
+  pub x : ℕ
+  pub y : ℕ
+
+-- what a run is given beside the list: the dealt tapes by box, number and width; the shares by the start's place; the words that work
+-- holds after a cut, by the cut's place
+pub record Setting : Type 0 where
+  pub tapes : Box → ℕ → ℕ → List ℕ
+  pub shares : ℕ → Lending
+  pub leftovers : ℕ → ℕ → ℕ
+
+-- what one box keeps and is lent
+pub record Memory : Type 0 where
+  pub state : State
+  pub work : List ℕ
+  pub tally : List ℕ
+
+-- what an entry came to: a cut says nothing
+pub data Said : Type 0 where
+  nothing : Said
+  replied : Reply → Said
+
+-- one for each entry passed: the box, the tape number, width and round that it was about, what was said, the words spoken and heard
+pub record Event : Type 0 where
+  pub box : Box
+  pub number : ℕ
+  pub width : ℕ
+  pub round : ℕ
+  pub said : Said
+  pub spoken : List ℕ
+  pub incoming : List ℕ
+
+pub record World : Type 0 where
+  pub one : Memory
+  pub two : Memory
+  pub log : List Event
+
+abbrev pub memoryOf : World → Box → Memory
+memoryOf w first = w .one
+memoryOf w second = w .two
+
+-- one box's memory and the log go on, the other box's memory stays
+abbrev pub after : World → Box → Memory → Event → World
+after w first m e = record { one = m; two = w .two; log = w .log ++ (e ∷ []) }
+after w second m e = record { one = w .one; two = m; log = w .log ++ (e ∷ []) }
+
+abbrev pub quiet : Event
+quiet = record { box = first; number = 0; width = 0; round = 0; said = nothing; spoken = []; incoming = [] }
+
+-- the place k of the log
+abbrev pub eventAt : List Event → ℕ → Event
+eventAt [] k = quiet
+eventAt (e ∷ es) zero = e
+eventAt (e ∷ es) (suc k) = eventAt es k
+
+-- there are dealt tapes of the listed widths only
+abbrev pub tapeWords : Setting → Lent → List ℕ
+tapeWords g (dealt box number width) = cond (listed width) (g .tapes box number width) []
+tapeWords g (loose words) = words
+
+abbrev pub incomingWords : List Event → Incoming → List ℕ
+incomingWords log (spokenAt place) = eventAt log place .spoken
+incomingWords log (other words) = words
+
+-- the words at the front of out, as many as the answer says
+abbrev pub spokenWords : Reply → List ℕ → List ℕ
+spokenWords (fresh k) out = []
+spokenWords started out = []
+spokenWords (spoke k) out = take k out
+spokenWords heard out = []
+spokenWords (share v) out = []
+spokenWords dropped out = []
+spokenWords (refused k) out = []
+
+-- after a cut: asleep, the tally as it is, any words in work
+abbrev pub afterCut : Setting → ℕ → Memory → List ℕ → Memory
+afterCut g place m tally =
+    record { state = asleepState (m .state); work = tabulate (length (m .work)) (g .leftovers place); tally = tally }
+
+-- one entry, at its place of the list
+unfoldable pub stepped : Setting → ℕ → World → Box → Step → World
+stepped g place w b (wake n side pair) =
+    let m = memoryOf w b in
+    let r = wakeRule (m .state) n side pair (m .tally) in
+    after w b (record { state = r .state; work = m .work; tally = m .tally })
+    (record { box = b; number = 0; width = n; round = 0; said = replied (r .reply); spoken = []; incoming = [] })
+stepped g place w b (start number lent) =
+    let m = memoryOf w b in
+    let r = startRule (m .state) number (g .shares place .x) (g .shares place .y) (tapeWords g lent) (m .work) (m .tally) in
+    after w b (record { state = r .state; work = m .work; tally = r .buffer })
+    (record { box = b; number = number; width = m .state .n; round = 0; said = replied (r .reply); spoken = []; incoming = [] })
+stepped g place w b (speak number round lent out) =
+    let m = memoryOf w b in
+    let r = speakRule (m .state) number round (tapeWords g lent) (m .work) out in
+    after w b (record { state = r .state; work = m .work; tally = m .tally })
+    (record {
+      box = b;
+      number = number;
+      width = m .state .n;
+      round = round;
+      said = replied (r .reply);
+      spoken = spokenWords (r .reply) (r .buffer);
+      incoming = [];
+    })
+stepped g place w b (hear number round lent incoming) =
+    let m = memoryOf w b in
+    let words = incomingWords (w .log) incoming in
+    let r = hearRule (m .state) number round (tapeWords g lent) (m .work) words in
+    after w b (record { state = r .state; work = r .buffer; tally = m .tally })
+    (record { box = b; number = number; width = m .state .n; round = round; said = replied (r .reply); spoken = []; incoming = words })
+stepped g place w b drop =
+    let m = memoryOf w b in
+    let r = dropRule (m .state) in
+    after w b (record { state = r .state; work = m .work; tally = m .tally })
+    (record { box = b; number = 0; width = m .state .n; round = 0; said = replied (r .reply); spoken = []; incoming = [] })
+stepped g place w b cut =
+    let m = memoryOf w b in
+    after w b (afterCut g place m (m .tally))
+    (record { box = b; number = 0; width = m .state .n; round = 0; said = nothing; spoken = []; incoming = [] })
+stepped g place w b (cutStart number lent value) =
+    let m = memoryOf w b in
+    let k = startGround (m .state) number (g .shares place .x) (g .shares place .y) (tapeWords g lent) (m .work) (m .tally) in
+    after w b (afterCut g place m (cond (eqb k 0) (cutMarked (m .tally) number value) (m .tally)))
+    (record { box = b; number = number; width = m .state .n; round = 0; said = nothing; spoken = []; incoming = [] })
+
+-- the entries from a place on
+abbrev pub run : Setting → ℕ → World → List Entry → World
+run g place w [] = w
+run g place w (e ∷ es) = run g (suc place) (stepped g place w (e .box) (e .step)) es

@@ -1,0 +1,29 @@
+-- The laws of the tally that the calls and the lists go by: a mark is not fresh, and a mark or a cut at one number changes no other's.
+use Prim.Native.Nat.{ℕ, _<_}
+use mathlib.Core.Path.{_≡_, refl, ap}
+use mathlib.Core.Bool.{false}
+use mathlib.Core.List.{List}
+use lib.Dec.{eqb}
+use lib.ListN.{length, getD, set, length-set}
+use lib.Seq.{getD-set-same, getD-set-other}
+use Rattle.rules.specs.Tally.{tapesOf, isFresh, marked, cutMarked}
+
+pub marked-spent : (tally : List ℕ) (number : ℕ) → number < tapesOf (length tally) → isFresh (marked tally number) number ≡ false
+unfolding tapesOf isFresh marked
+marked-spent tally number less = rw (getD-set-same tally number 0 0 less) refl
+
+pub marked-other : (tally : List ℕ) (number k : ℕ) → (k ≡ number → ⊥) → isFresh (marked tally number) k ≡ isFresh tally k
+unfolding isFresh marked
+marked-other tally number k differ = ap (λ (v : ℕ). eqb v 255) (getD-set-other tally number k 0 0 differ)
+
+pub cut-other : (tally : List ℕ) (number value k : ℕ) → (k ≡ number → ⊥) → isFresh (cutMarked tally number value) k ≡ isFresh tally k
+unfolding isFresh cutMarked
+cut-other tally number value k differ = ap (λ (v : ℕ). eqb v 255) (getD-set-other tally number k value 0 differ)
+
+pub marked-length : (tally : List ℕ) (number : ℕ) → length (marked tally number) ≡ length tally
+unfolding marked
+marked-length tally number = length-set tally number 0
+
+pub cut-length : (tally : List ℕ) (number value : ℕ) → length (cutMarked tally number value) ≡ length tally
+unfolding cutMarked
+cut-length tally number value = length-set tally number value

@@ -1,0 +1,5 @@
+pub mod Answers
+pub mod Tally
+pub mod Modes
+pub mod Grounds
+pub mod Calls
