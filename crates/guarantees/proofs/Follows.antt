@@ -2,11 +2,11 @@
 -- and every answer share.
 use Prim.Native.Nat.{ℕ, zero, suc, _+_, _-_, _*_, _<_, _≤_}
 use mathlib.Core.Path.{_≡_, refl, sym, ap, subst, _∙_}
-use mathlib.Core.Bool.{Bool, true, false, not, cond, true≢false}
+use mathlib.Core.Bool.{Bool, true, false, not, _&&_, cond, true≢false}
 use mathlib.Core.List.{List, [], _∷_, _++_}
 use native.Mathlib.Omega.{arith}
 use borrow.Author.Tests.{eqb-true, eqb-false, leb-true, ltb-true}
-use lib.Dec.{eqb}
+use lib.Dec.{eqb, leb, ltb}
 use lib.ListN.{length, getD, take}
 use lib.Seq.{sets, take-at}
 use Rattle.lists.proofs.Tests.{and-left, and-right}
@@ -18,7 +18,8 @@ use Rattle.protocol.specs.Rounds.{roundWords, message, afterHearing, answerShar
 use Rattle.protocol.proofs.Live.{Live, message-live, after-live, answer-live}
 use Rattle.protocol.proofs.Lengths.{message-length, after-length}
 use Rattle.rules.specs.Answers.{Reply, fresh, started, spoke, heard, share, dropped, refused}
-use Rattle.rules.specs.Modes.{roundOf, roundFits, inRange, modeOf, isAsleep, inJob, asleepState}
+use Rattle.rules.specs.Tally.{tapesOf}
+use Rattle.rules.specs.Modes.{roundOf, roundFits, phaseFits, inRange, modeOf, isAsleep, inJob, asleepState}
 use Rattle.rules.specs.Grounds.{_when_, wakeGround, startGround, speakGround, hearGround, dropGround}
 use Rattle.rules.specs.Calls.{Result, inPhase, unless, partyOf, turned, wakeRule, startRule, speakRule, hearRule, dropRule}
 use Rattle.rules.specs.declared.state.Turn.{Turn}
@@ -31,7 +32,7 @@ use Rattle.guarantees.specs.Entries.{Lent, dealt, loose, Incoming, spoke
 use Rattle.guarantees.specs.Run.{Lending, Setting, Memory, Said, nothing, replied, Event, World, memoryOf, after, quiet, eventAt, tapeWords, incomingWords, spokenWords, stepped}
 use Rattle.guarantees.specs.Premises.{True, Keeps}
 use Rattle.guarantees.proofs.Jobs.{partyAt, holding, sentBy, answerBy, sent-is, holding-next, answer-is, holding-room}
-use Rattle.guarantees.proofs.Passed.{pass, StartPassed, start-passed, SpeakPassed, speak-passed, HearPassed, hear-passed, awake-mode, awake-listed, Due, due-job}
+use Rattle.guarantees.proofs.Passed.{pass, awake-range, Ranged, ranged, StartPassed, start-passed, SpeakPassed, speak-passed, HearPassed, hear-passed, awake-mode, awake-listed, Due, due-job}
 
 module _ (g : Setting) (pair : ℕ) (book : Box → ℕ → ℕ → Lending) where
   -- ---- what holds of one box
@@ -61,15 +62,29 @@ module _ (g : Setting) (pair : ℕ) (book : Box → ℕ → ℕ → Lending) whe
 
   -- ---- what holds of the log
 
+  -- a message spoken is the exchange's, in one of the six rounds of a listed width
+  pub record Uttered (e : Event) : Type 0 where
+    pub width : listed (e .width) ≡ true
+    pub heard : ℕ
+    pub round-is : e .round ≡ suc heard
+    pub early : heard < 6
+    pub words : e .spoken ≡ sentBy (g .tapes) book (e .box) (e .number) (e .width) (e .round)
+
+  -- and so is an answer share
+  pub record Answered (e : Event) (v : ℕ) : Type 0 where
+    pub width : listed (e .width) ≡ true
+    pub is : v ≡ answerBy (g .tapes) book (e .box) (e .number) (e .width)
+    pub silent : e .spoken ≡ []
+
   abbrev pub True-to : Event → Said → Type 0
-  True-to e nothing = Unit {0}
-  True-to e (replied (fresh k)) = Unit {0}
-  True-to e (replied started) = Unit {0}
-  True-to e (replied (spoke k)) = e .spoken ≡ sentBy (g .tapes) book (e .box) (e .number) (e .width) (e .round)
-  True-to e (replied heard) = Unit {0}
-  True-to e (replied (share v)) = v ≡ answerBy (g .tapes) book (e .box) (e .number) (e .width)
-  True-to e (replied dropped) = Unit {0}
-  True-to e (replied (refused k)) = Unit {0}
+  True-to e nothing = e .spoken ≡ []
+  True-to e (replied (fresh k)) = e .spoken ≡ []
+  True-to e (replied started) = e .spoken ≡ []
+  True-to e (replied (spoke k)) = Uttered e
+  True-to e (replied heard) = e .spoken ≡ []
+  True-to e (replied (share v)) = Answered e v
+  True-to e (replied dropped) = e .spoken ≡ []
+  True-to e (replied (refused k)) = e .spoken ≡ []
 
   pub record Follows (w : World) : Type 0 where
     pub each : (b : Box) → Holds b (memoryOf w b)
@@ -79,8 +94,8 @@ module _ (g : Setting) (pair : ℕ) (book : Box → ℕ → ℕ → Lending) whe
   abbrev pub Booked : ℕ → World → Box → Step → Type 0
   Booked place w b (wake n side p) = Unit {0}
   Booked place w b (start number lent) =
-      startGround (memoryOf w b .state) number (g .shares place .x) (g .shares place .y) (tapeWords g lent) (memoryOf w b .work) (memoryOf w b .tally) ≡ 0
-      → book b number (memoryOf w b .state .n) ≡ g .shares place
+      startGround (memoryOf w b .state) number (g .shares b place .x) (g .shares b place .y) (tapeWords g lent) (memoryOf w b .work) (memoryOf w b .tally) ≡ 0
+      → book b number (memoryOf w b .state .n) ≡ g .shares b place
   Booked place w b (speak number round lent out) = Unit {0}
   Booked place w b (hear number round lent incoming) = Unit {0}
   Booked place w b drop = Unit {0}
@@ -191,7 +206,20 @@ module _ (g : Setting) (pair : ℕ) (book : Box → ℕ → ℕ → Lending) whe
     pub job : m .state .phase ≡ Job turn number x y
     pub inside : InJob b (m .state) (m .work) turn number x y
     pub width : listed (m .state .n) ≡ true
+    pub early : inside .heard < 6
     pub party-is : partyOf (m .state) tape ≡ partyAt (g .tapes) book b number (m .state .n)
+
+  -- a job's turn is of one of the six rounds
+  job-early : (s : State) (x y : ℕ) {turn : Turn} {number : ℕ} → isAsleep (modeOf s) ≡ false → s .phase ≡ Job turn number x y
+      → (past : ℕ) → roundOf turn ≡ suc past → past < 6
+  job-early s x y {turn} {number} awake job past count =
+      let fits = subst (λ (p : Phase). phaseFits (s .n) (s .tally) p ≡ true) job (ranged s (awake-range s awake) .phased) in
+      let most = leb-true (roundOf turn) 6
+          (and-right (leb 1 (roundOf turn)) (leb (roundOf turn) 6)
+          (and-right (ltb number (tapesOf (s .tally))) (roundFits (roundOf turn))
+          (and-left (ltb number (tapesOf (s .tally)) && roundFits (roundOf turn)) (ltb x (modulus (s .n)))
+          (and-left (ltb number (tapesOf (s .tally)) && roundFits (roundOf turn) && ltb x (modulus (s .n))) (ltb y (modulus (s .n))) fits)))) in
+      omega (arith, most, count)
 
   going : (b : Box) (m : Memory) (number round : ℕ) (turn : Turn) (lent : Lent) → Holds b m
       → (awake : isAsleep (modeOf (m .state)) ≡ false) → Due (m .state) number turn → lent ≡ dealt b number (m .state .n)
@@ -205,6 +233,7 @@ module _ (g : Setting) (pair : ℕ) (book : Box → ℕ → ℕ → Lending) whe
         job = d .job;
         inside = inside;
         width = l;
+        early = job-early (m .state) (d .x) (d .y) awake (d .job) (inside .heard) (inside .count);
         party-is = rw (d .job, inside .own .side, inside .x-is, inside .y-is, named-tape lent b number (m .state .n) l named);
       }
 
@@ -244,14 +273,14 @@ module _ (g : Setting) (pair : ℕ) (book : Box → ℕ → ℕ → Lending) whe
                 live = i .live;
               }));
         };
-        words =
+        words = record { width = j .width; heard = i .heard; round-is = i .count; early = j .early; words =
             front out (message (partyOf (m .state) (tapeWords g lent)) (m .work) round) (roundWords (m .state .n) round)
             (message-length (partyOf (m .state) (tapeWords g lent)) (m .work) round ∙ rw (j .party-is)) (p .out-room)
             ∙ rw (j .party-is, i .count)
             (message-live (partyAt (g .tapes) book b number (m .state .n)) (i .heard) (m .work) (holding (g .tapes) book b number (m .state .n) (i .heard)) (i .live)
-            ∙ sym (sent-is (g .tapes) book b number (m .state .n) (i .heard)));
+            ∙ sym (sent-is (g .tapes) book b number (m .state .n) (i .heard))) };
       })
-      (record { holds = kept b m (m .tally) h; words = tt })
+      (record { holds = kept b m (m .tally) h; words = refl })
 
   -- ---- hear
 
@@ -310,7 +339,7 @@ module _ (g : Setting) (pair : ℕ) (book : Box → ℕ → ℕ → Lending) whe
         go true e =
             record {
               holds = record { holds = settle b _ work′ (record { side = j .inside .own .side; pair-is = j .inside .own .pair-is }) };
-              answer = answer-last (eqb-true round 6 e);
+              answer = record { width = j .width; is = answer-last (eqb-true round 6 e); silent = refl };
             }
         go false e =
             record {
@@ -329,7 +358,7 @@ module _ (g : Setting) (pair : ℕ) (book : Box → ℕ → ℕ → Lending) whe
                       live = live-next;
                     }));
               };
-              answer = tt;
+              answer = refl;
             }
 
   hear-holds : (b : Box) (m : Memory) (number round : ℕ) (lent : Lent) (words : List ℕ) → Holds b m
@@ -344,14 +373,14 @@ module _ (g : Setting) (pair : ℕ) (book : Box → ℕ → ℕ → Lending) whe
       let k = keeps zero-ground in
       hear-goes b m number round (tapeWords g lent) words
       (going b m number round (Hear round) lent h (p .awake) (due-job (m .state) number (Hear round) (p .awake) (p .due)) (k .0)) (k .1))
-      (record { holds = kept b m (m .tally) h; answer = tt })
+      (record { holds = kept b m (m .tally) h; answer = refl })
 
   -- ---- the log and the worlds
 
   grows : (log : List Event) (e : Event) → ((k : ℕ) → True-to (eventAt log k) (eventAt log k .said)) → True-to e (e .said)
       → (k : ℕ) → True-to (eventAt (log ++ (e ∷ [])) k) (eventAt (log ++ (e ∷ [])) k .said)
   grows [] e old new zero = new
-  grows [] e old new (suc k) = tt
+  grows [] e old new (suc k) = refl
   grows (d ∷ log) e old new zero = old zero
   grows (d ∷ log) e old new (suc k) = grows log e (λ i. old (suc i)) new k
 
@@ -372,36 +401,38 @@ module _ (g : Setting) (pair : ℕ) (book : Box → ℕ → ℕ → Lending) whe
       → incomingWords (w .log) incoming ≡ sentBy (g .tapes) book (partner b) number n round
   true-message w b number n round incoming f t =
       let e = eventAt (w .log) (t .place) in
-      let told : e .spoken ≡ sentBy (g .tapes) book (e .box) (e .number) (e .width) (e .round) =
-      subst (True-to e) (t .uttered) (f .events (t .place)) in
+      let told : Uttered e = subst (True-to e) (t .uttered) (f .events (t .place)) in
       ap (incomingWords (w .log)) (t .named)
-      ∙ told
+      ∙ told .words
       ∙ rw (t .by, t .numbered, t .wide, t .rounded)
 
   -- calls that say nothing of an exchange
-  quiet-wake : (m : Memory) (n side p : ℕ) (e : Event) → True-to e (replied (wakeRule (m .state) n side p (m .tally) .reply))
+  quiet-wake : (m : Memory) (n side p : ℕ) (e : Event) → e .spoken ≡ []
+      → True-to e (replied (wakeRule (m .state) n side p (m .tally) .reply))
   unfolding wakeRule
-  quiet-wake m n side p e = decide (λ r. True-to e (replied (r .reply))) (wakeGround (m .state) n side (m .tally)) (m .state) (m .tally) _ (λ z. tt) tt
+  quiet-wake m n side p e none =
+      decide (λ r. True-to e (replied (r .reply))) (wakeGround (m .state) n side (m .tally)) (m .state) (m .tally) _ (λ z. none) none
 
-  quiet-start : (m : Memory) (number : ℕ) (v : Lending) (tape : List ℕ) (e : Event)
+  quiet-start : (m : Memory) (number : ℕ) (v : Lending) (tape : List ℕ) (e : Event) → e .spoken ≡ []
       → True-to e (replied (startRule (m .state) number (v .x) (v .y) tape (m .work) (m .tally) .reply))
   unfolding startRule
-  quiet-start m number v tape e =
-      decide (λ r. True-to e (replied (r .reply))) (startGround (m .state) number (v .x) (v .y) tape (m .work) (m .tally)) (m .state) (m .tally) _ (λ z. tt) tt
+  quiet-start m number v tape e none =
+      decide (λ r. True-to e (replied (r .reply))) (startGround (m .state) number (v .x) (v .y) tape (m .work) (m .tally)) (m .state) (m .tally) _
+      (λ z. none) none
 
-  quiet-drop : (m : Memory) (e : Event) → True-to e (replied (dropRule (m .state) .reply))
+  quiet-drop : (m : Memory) (e : Event) → e .spoken ≡ [] → True-to e (replied (dropRule (m .state) .reply))
   unfolding dropRule
-  quiet-drop m e = decide (λ r. True-to e (replied (r .reply))) (dropGround (m .state)) (m .state) [] _ (λ z. tt) tt
+  quiet-drop m e none = decide (λ r. True-to e (replied (r .reply))) (dropGround (m .state)) (m .state) [] _ (λ z. none) none
 
   -- one entry
   pub follows-next : (place : ℕ) (w : World) (b : Box) (step : Step) → Follows w → Keeps g pair place w b step → Booked place w b step
       → Follows (stepped g place w b step)
   unfolding stepped
   follows-next place w b (wake n side p) f keeps booked =
-      after-follows w b _ _ f (wake-holds b (memoryOf w b) n side p (f .each b) keeps) (quiet-wake (memoryOf w b) n side p _)
+      after-follows w b _ _ f (wake-holds b (memoryOf w b) n side p (f .each b) keeps) (quiet-wake (memoryOf w b) n side p _ refl)
   follows-next place w b (start number lent) f keeps booked =
-      after-follows w b _ _ f (start-holds b (memoryOf w b) number (g .shares place) (tapeWords g lent) (f .each b) booked)
-      (quiet-start (memoryOf w b) number (g .shares place) (tapeWords g lent) _)
+      after-follows w b _ _ f (start-holds b (memoryOf w b) number (g .shares b place) (tapeWords g lent) (f .each b) booked)
+      (quiet-start (memoryOf w b) number (g .shares b place) (tapeWords g lent) _ refl)
   follows-next place w b (speak number round lent out) f keeps booked =
       let r = speak-holds b (memoryOf w b) number round lent out (f .each b) keeps in
       after-follows w b _ _ f (r .holds) (r .words)
@@ -412,8 +443,8 @@ module _ (g : Setting) (pair : ℕ) (book : Box → ℕ → ℕ → Lending) whe
       (k .0, true-message w b number (memoryOf w b .state .n) round incoming f (k .1))) in
       after-follows w b _ _ f (r .holds) (r .answer)
   follows-next place w b drop f keeps booked =
-      after-follows w b _ _ f (drop-holds b (memoryOf w b) (f .each b)) (quiet-drop (memoryOf w b) _)
+      after-follows w b _ _ f (drop-holds b (memoryOf w b) (f .each b)) (quiet-drop (memoryOf w b) _ refl)
   follows-next place w b cut f keeps booked =
-      after-follows w b _ _ f (asleep-holds b (memoryOf w b .state) _ _) tt
+      after-follows w b _ _ f (asleep-holds b (memoryOf w b .state) _ _) refl
   follows-next place w b (cutStart number lent value) f keeps booked =
-      after-follows w b _ _ f (asleep-holds b (memoryOf w b .state) _ _) tt
+      after-follows w b _ _ f (asleep-holds b (memoryOf w b .state) _ _) refl

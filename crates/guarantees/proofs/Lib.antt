@@ -7,3 +7,7 @@ pub mod Turns
 pub mod Refusals
 pub mod Logs
 pub mod Skeletons
+pub mod Covers
+pub mod Joint
+pub mod Books
+pub mod Runs

@@ -20,6 +20,7 @@ use Rattle.guarantees.specs.Entries.{Lent, Step, wake, start, speak, hea
 use Rattle.guarantees.specs.Run.{Lending, Setting, Memory, Said, nothing, replied, Event, World, memoryOf, after, tapeWords, incomingWords, stepped, run}
 use Rattle.guarantees.specs.Places.{sameBox, isStarted, opens, openedAt}
 use Rattle.guarantees.proofs.Passed.{start-passed}
+use Rattle.guarantees.proofs.Logs.{log-length}
 
 -- no event of the log opened a job of this box under a number that is fresh
 abbrev pub Unopened : List Event → Box → ℕ → Type 0
@@ -182,7 +183,7 @@ marked-next g place w b (wake n side p) h =
 marked-next g place w b (start number lent) h =
     let m = memoryOf w b in
     marked-after w b _ _ h refl
-    (start-marks (m .state) number (g .shares place .x) (g .shares place .y) (tapeWords g lent) (m .work) (m .tally) b (m .state .n))
+    (start-marks (m .state) number (g .shares b place .x) (g .shares b place .y) (tapeWords g lent) (m .work) (m .tally) b (m .state .n))
 marked-next g place w b (speak number round lent out) h =
     let m = memoryOf w b in
     dull-after w b _ _ h refl (speak-opens (m .state) number round (tapeWords g lent) (m .work) out) (λ k f. f)
@@ -194,19 +195,28 @@ marked-next g place w b cut h = dull-after w b _ _ h refl refl (λ k f. f)
 marked-next g place w b (cutStart number lent value) h =
     let m = memoryOf w b in
     dull-after w b _ _ h refl refl
-    (cut-keeps (m .state) number (g .shares place .x) (g .shares place .y) (tapeWords g lent) (m .work) (m .tally) value)
+    (cut-keeps (m .state) number (g .shares b place .x) (g .shares b place .y) (tapeWords g lent) (m .work) (m .tally) value)
 
 -- ---- the log over a run
 
-pub one-more : (g : Setting) (place : ℕ) (w : World) (b : Box) (step : Step) → Grown (w .log) (stepped g place w b step .log)
+pub record OneMore (log log′ : List Event) : Type 0 where
+  pub event : Event
+  pub is : log′ ≡ log ++ (event ∷ [])
+
+pub one-more : (g : Setting) (place : ℕ) (w : World) (b : Box) (step : Step) → OneMore (w .log) (stepped g place w b step .log)
 unfolding stepped
-one-more g place w b (wake n side p) = record { more = _; is = after-log w b _ _ }
-one-more g place w b (start number lent) = record { more = _; is = after-log w b _ _ }
-one-more g place w b (speak number round lent out) = record { more = _; is = after-log w b _ _ }
-one-more g place w b (hear number round lent incoming) = record { more = _; is = after-log w b _ _ }
-one-more g place w b drop = record { more = _; is = after-log w b _ _ }
-one-more g place w b cut = record { more = _; is = after-log w b _ _ }
-one-more g place w b (cutStart number lent value) = record { more = _; is = after-log w b _ _ }
+one-more g place w b (wake n side p) = record { event = _; is = after-log w b _ _ }
+one-more g place w b (start number lent) = record { event = _; is = after-log w b _ _ }
+one-more g place w b (speak number round lent out) = record { event = _; is = after-log w b _ _ }
+one-more g place w b (hear number round lent incoming) = record { event = _; is = after-log w b _ _ }
+one-more g place w b drop = record { event = _; is = after-log w b _ _ }
+one-more g place w b cut = record { event = _; is = after-log w b _ _ }
+one-more g place w b (cutStart number lent value) = record { event = _; is = after-log w b _ _ }
+
+pub next-place : (g : Setting) (place : ℕ) (w : World) (b : Box) (step : Step) → length (stepped g place w b step .log) ≡ suc (length (w .log))
+next-place g place w b step =
+    let one = one-more g place w b step in
+    ap length (one .is) ∙ log-length (w .log) (one .event)
 
 pub run-grows : (g : Setting) (place : ℕ) (w : World) (es : List Entry) → Grown (w .log) (run g place w es .log)
 run-grows g place w [] = record { more = []; is = sym (append-nil (w .log)) }
@@ -214,8 +224,8 @@ run-grows g place w (e ∷ es) =
     let one = one-more g place w (e .box) (e .step) in
     let rest = run-grows g (suc place) (stepped g place w (e .box) (e .step)) es in
     record {
-      more = one .more ++ rest .more;
-      is = rest .is ∙ ap (λ (l : List Event). l ++ rest .more) (one .is) ∙ append-assoc (w .log) (one .more) (rest .more);
+      more = one .event ∷ rest .more;
+      is = rest .is ∙ ap (λ (l : List Event). l ++ rest .more) (one .is) ∙ append-assoc (w .log) (one .event ∷ []) (rest .more);
     }
 
 same-self : (b : Box) → sameBox b b ≡ true
@@ -229,7 +239,7 @@ started-said s number x y tape work tally ground = rw ground refl
 
 -- a start that is not refused is found again at its place
 pub found : (g : Setting) (place : ℕ) (w : World) (b : Box) (number : ℕ) (lent : Lent) (es : List Entry) → Marked w
-    → startGround (memoryOf w b .state) number (g .shares place .x) (g .shares place .y) (tapeWords g lent) (memoryOf w b .work) (memoryOf w b .tally)
+    → startGround (memoryOf w b .state) number (g .shares b place .x) (g .shares b place .y) (tapeWords g lent) (memoryOf w b .work) (memoryOf w b .tally)
     ≡ 0
     → openedAt (run g (suc place) (stepped g place w b (start number lent)) es .log) b number (memoryOf w b .state .n) ≡ length (w .log)
 unfolding stepped
@@ -241,7 +251,7 @@ found g place w b number lent es h ground =
     ∙ at-end (w .log) _ (rest .more) b number (m .state .n)
     (h .unopened b number (start-passed (m .state) number _ _ _ _ _ ground .fresh))
     (rw (
-      started-said (m .state) number (g .shares place .x) (g .shares place .y) (tapeWords g lent) (m .work) (m .tally) ground,
+      started-said (m .state) number (g .shares b place .x) (g .shares b place .y) (tapeWords g lent) (m .work) (m .tally) ground,
       same-self b,
       eq-eqb number number refl,
       eq-eqb (m .state .n) (m .state .n) refl,

@@ -32,8 +32,8 @@ use Rattle.guarantees.proofs.Logs.{log-length, events-more}
 abbrev pub Fit : Setting → Setting → ℕ → World → World → Box → Step → Type 0
 Fit g g′ place w w′ b (wake n side pair) = Unit {0}
 Fit g g′ place w w′ b (start number lent) =
-    startGround (memoryOf w b .state) number (g .shares place .x) (g .shares place .y) (tapeWords g lent) (memoryOf w b .work) (memoryOf w b .tally)
-    ≡ startGround (memoryOf w′ b .state) number (g′ .shares place .x) (g′ .shares place .y) (tapeWords g′ lent) (memoryOf w′ b .work) (memoryOf w′ b .tally)
+    startGround (memoryOf w b .state) number (g .shares b place .x) (g .shares b place .y) (tapeWords g lent) (memoryOf w b .work) (memoryOf w b .tally)
+    ≡ startGround (memoryOf w′ b .state) number (g′ .shares b place .x) (g′ .shares b place .y) (tapeWords g′ lent) (memoryOf w′ b .work) (memoryOf w′ b .tally)
 Fit g g′ place w w′ b (speak number round lent out) =
     speakGround (memoryOf w b .state) number round (tapeWords g lent) (memoryOf w b .work) out
     ≡ speakGround (memoryOf w′ b .state) number round (tapeWords g′ lent) (memoryOf w′ b .work) out
@@ -43,8 +43,8 @@ Fit g g′ place w w′ b (hear number round lent incoming) =
 Fit g g′ place w w′ b drop = Unit {0}
 Fit g g′ place w w′ b cut = Unit {0}
 Fit g g′ place w w′ b (cutStart number lent value) =
-    startGround (memoryOf w b .state) number (g .shares place .x) (g .shares place .y) (tapeWords g lent) (memoryOf w b .work) (memoryOf w b .tally)
-    ≡ startGround (memoryOf w′ b .state) number (g′ .shares place .x) (g′ .shares place .y) (tapeWords g′ lent) (memoryOf w′ b .work) (memoryOf w′ b .tally)
+    startGround (memoryOf w b .state) number (g .shares b place .x) (g .shares b place .y) (tapeWords g lent) (memoryOf w b .work) (memoryOf w b .tally)
+    ≡ startGround (memoryOf w′ b .state) number (g′ .shares b place .x) (g′ .shares b place .y) (tapeWords g′ lent) (memoryOf w′ b .work) (memoryOf w′ b .tally)
 
 -- ---- results
 
@@ -207,7 +207,7 @@ next g g′ place w w′ b (wake n side pair) k fit =
 next g g′ place w w′ b (start number lent) k fit =
     let t = memories b k in
     let r =
-    start-twin (t .state) number (g .shares place .x) (g .shares place .y) (g′ .shares place .x) (g′ .shares place .y)
+    start-twin (t .state) number (g .shares b place .x) (g .shares b place .y) (g′ .shares b place .x) (g′ .shares b place .y)
     (tapeWords g lent) (tapeWords g′ lent) (memoryOf w b .work) (memoryOf w′ b .work) (memoryOf w b .tally) (memoryOf w′ b .tally)
     (t .tally) fit in
     after-skeleton b k

@@ -31,7 +31,7 @@ abbrev pub Keeps : Setting → ℕ → ℕ → World → Box → Step → Type 0
 Keeps g pair place w b (wake n side p) =
     wakeGround (memoryOf w b .state) n side (memoryOf w b .tally) ≡ 0 → (side ≡ sideOf b) × (p ≡ pair)
 Keeps g pair place w b (start number lent) =
-    startGround (memoryOf w b .state) number (g .shares place .x) (g .shares place .y) (tapeWords g lent) (memoryOf w b .work) (memoryOf w b .tally) ≡ 0
+    startGround (memoryOf w b .state) number (g .shares b place .x) (g .shares b place .y) (tapeWords g lent) (memoryOf w b .work) (memoryOf w b .tally) ≡ 0
     → lent ≡ dealt b number (memoryOf w b .state .n)
 Keeps g pair place w b (speak number round lent out) =
     speakGround (memoryOf w b .state) number round (tapeWords g lent) (memoryOf w b .work) out ≡ 0
@@ -42,7 +42,7 @@ Keeps g pair place w b (hear number round lent incoming) =
 Keeps g pair place w b drop = Unit {0}
 Keeps g pair place w b cut = Unit {0}
 Keeps g pair place w b (cutStart number lent value) =
-    startGround (memoryOf w b .state) number (g .shares place .x) (g .shares place .y) (tapeWords g lent) (memoryOf w b .work) (memoryOf w b .tally) ≡ 0
+    startGround (memoryOf w b .state) number (g .shares b place .x) (g .shares b place .y) (tapeWords g lent) (memoryOf w b .work) (memoryOf w b .tally) ≡ 0
     → lent ≡ dealt b number (memoryOf w b .state .n)
 
 -- every entry from a place on keeps to them
@@ -66,21 +66,19 @@ AllDealt tapes b pair =
 abbrev pub InBoth : Memory → ℕ → ℕ → Type 0
 InBoth m v v′ = (v ≡ v′) ⊎ ((isAsleep (modeOf (m .state)) ≡ true) ⊎ ((v < modulus (m .state .n)) × (v′ < modulus (m .state .n))))
 
--- the second table of shares, along the first run: at the starts of box b as above, and elsewhere the same
-abbrev pub Compatible : (ℕ → Lending) → Setting → Box → ℕ → World → Box → Step → Type 0
-Compatible shares′ g b place w c (wake n side p) = Unit {0}
-Compatible shares′ g b place w c (start number lent) =
-    ((c ≡ partner b) → (shares′ place .x ≡ g .shares place .x) × (shares′ place .y ≡ g .shares place .y))
-    × ((c ≡ b) → InBoth (memoryOf w c) (g .shares place .x) (shares′ place .x) × InBoth (memoryOf w c) (g .shares place .y) (shares′ place .y))
-Compatible shares′ g b place w c (speak number round lent out) = Unit {0}
-Compatible shares′ g b place w c (hear number round lent incoming) = Unit {0}
-Compatible shares′ g b place w c drop = Unit {0}
-Compatible shares′ g b place w c cut = Unit {0}
-Compatible shares′ g b place w c (cutStart number lent value) =
-    ((c ≡ partner b) → (shares′ place .x ≡ g .shares place .x) × (shares′ place .y ≡ g .shares place .y))
-    × ((c ≡ b) → InBoth (memoryOf w c) (g .shares place .x) (shares′ place .x) × InBoth (memoryOf w c) (g .shares place .y) (shares′ place .y))
+-- the second table of shares, along the first run: at every start as above
+abbrev pub Compatible : (Box → ℕ → Lending) → Setting → ℕ → World → Box → Step → Type 0
+Compatible shares′ g place w b (wake n side p) = Unit {0}
+Compatible shares′ g place w b (start number lent) =
+    InBoth (memoryOf w b) (g .shares b place .x) (shares′ b place .x) × InBoth (memoryOf w b) (g .shares b place .y) (shares′ b place .y)
+Compatible shares′ g place w b (speak number round lent out) = Unit {0}
+Compatible shares′ g place w b (hear number round lent incoming) = Unit {0}
+Compatible shares′ g place w b drop = Unit {0}
+Compatible shares′ g place w b cut = Unit {0}
+Compatible shares′ g place w b (cutStart number lent value) =
+    InBoth (memoryOf w b) (g .shares b place .x) (shares′ b place .x) × InBoth (memoryOf w b) (g .shares b place .y) (shares′ b place .y)
 
-abbrev pub AllCompatible : (ℕ → Lending) → Setting → Box → ℕ → World → List Entry → Type 0
-AllCompatible shares′ g b place w [] = Unit {0}
-AllCompatible shares′ g b place w (e ∷ es) =
-    Compatible shares′ g b place w (e .box) (e .step) × AllCompatible shares′ g b (suc place) (stepped g place w (e .box) (e .step)) es
+abbrev pub AllCompatible : (Box → ℕ → Lending) → Setting → ℕ → World → List Entry → Type 0
+AllCompatible shares′ g place w [] = Unit {0}
+AllCompatible shares′ g place w (e ∷ es) =
+    Compatible shares′ g place w (e .box) (e .step) × AllCompatible shares′ g (suc place) (stepped g place w (e .box) (e .step)) es

@@ -20,11 +20,11 @@ pub record Lending : Type 0 where
   pub x : ℕ
   pub y : ℕ
 
--- what a run is given beside the list: the dealt tapes by box, number and width; the shares by the start's place; the words that work
--- holds after a cut, by the cut's place
+-- what a run is given beside the list: the dealt tapes by box, number and width; the shares by box and the start's place; the words that
+-- work holds after a cut, by the cut's place
 pub record Setting : Type 0 where
   pub tapes : Box → ℕ → ℕ → List ℕ
-  pub shares : ℕ → Lending
+  pub shares : Box → ℕ → Lending
   pub leftovers : ℕ → ℕ → ℕ
 
 -- what one box keeps and is lent
@@ -104,7 +104,7 @@ stepped g place w b (wake n side pair) =
     (record { box = b; number = 0; width = n; round = 0; said = replied (r .reply); spoken = []; incoming = [] })
 stepped g place w b (start number lent) =
     let m = memoryOf w b in
-    let r = startRule (m .state) number (g .shares place .x) (g .shares place .y) (tapeWords g lent) (m .work) (m .tally) in
+    let r = startRule (m .state) number (g .shares b place .x) (g .shares b place .y) (tapeWords g lent) (m .work) (m .tally) in
     after w b (record { state = r .state; work = m .work; tally = r .buffer })
     (record { box = b; number = number; width = m .state .n; round = 0; said = replied (r .reply); spoken = []; incoming = [] })
 stepped g place w b (speak number round lent out) =
@@ -137,7 +137,7 @@ stepped g place w b cut =
     (record { box = b; number = 0; width = m .state .n; round = 0; said = nothing; spoken = []; incoming = [] })
 stepped g place w b (cutStart number lent value) =
     let m = memoryOf w b in
-    let k = startGround (m .state) number (g .shares place .x) (g .shares place .y) (tapeWords g lent) (m .work) (m .tally) in
+    let k = startGround (m .state) number (g .shares b place .x) (g .shares b place .y) (tapeWords g lent) (m .work) (m .tally) in
     after w b (afterCut g place m (cond (eqb k 0) (cutMarked (m .tally) number value) (m .tally)))
     (record { box = b; number = number; width = m .state .n; round = 0; said = nothing; spoken = []; incoming = [] })
 

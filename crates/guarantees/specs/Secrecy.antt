@@ -4,13 +4,13 @@ use Prim.Native.Nat.{ℕ}
 use mathlib.Core.Path.{_≡_}
 use mathlib.Core.Bool.{true}
 use mathlib.Core.List.{List, []}
-use lib.ListN.{length}
+use Rattle.lists.specs.Tabulate.{tabulate}
 use Rattle.field.specs.Width.{listed}
 use Rattle.tape.specs.Dealt.{Matched}
 use Rattle.rules.specs.declared.state.State.{State}
 use Rattle.guarantees.specs.Boxes.{Box, first, second, sideOf, partner}
 use Rattle.guarantees.specs.Entries.{Entry}
-use Rattle.guarantees.specs.Run.{Lending, Setting, Memory, World, run}
+use Rattle.guarantees.specs.Run.{Lending, Setting, Memory, Event, World, run}
 use Rattle.guarantees.specs.Premises.{AtFirst, Meets, AllCompatible}
 use Rattle.guarantees.specs.View.{view}
 
@@ -22,52 +22,63 @@ TapeSet = ℕ → ℕ → List ℕ
 abbrev pub Valid : ℕ → Box → TapeSet → TapeSet → Type 0
 Valid pair b others own = (number n : ℕ) → listed n ≡ true → Matched n pair number (sideOf b) (own number n) (others number n)
 
--- both boxes' tapes
-abbrev pub tapesOf : Box → TapeSet → TapeSet → Box → ℕ → ℕ → List ℕ
-tapesOf first own others first = own
-tapesOf first own others second = others
-tapesOf second own others first = others
-tapesOf second own others second = own
+-- what box b has, and what the other has
+abbrev pub byBox : {A : Type 0} → Box → A → A → Box → A
+byBox first own others first = own
+byBox first own others second = others
+byBox second own others first = others
+byBox second own others second = own
 
--- what stays the same under both runs: the list, the states and tallies at first, the pair number, the other box's tapes
+-- what stays the same in both runs: the list, the states and tallies at first, the length of work, the pair number, and the other box's
+-- tapes and shares
 pub record Common : Type 0 where
   pub entries : List Entry
   pub states : Box → State
   pub tallies : Box → List ℕ
+  pub rooms : Box → ℕ
   pub pair : ℕ
   pub others : TapeSet
+  pub lendings : ℕ → Lending
 
--- what may differ: the words of work at first (its length may not) and after a cut
+-- what may differ at will: the words of work at first and after a cut
 pub record Loose : Type 0 where
-  pub works : Box → List ℕ
+  pub works : Box → ℕ → ℕ
   pub leftovers : ℕ → ℕ → ℕ
 
+abbrev pub memoryAt : Common → Loose → Box → Memory
+memoryAt c w b = record { state = c .states b; work = tabulate (c .rooms b) (w .works b); tally = c .tallies b }
+
 abbrev pub worldOf : Common → Loose → World
-worldOf c w =
-    record {
-      one = record { state = c .states first; work = w .works first; tally = c .tallies first };
-      two = record { state = c .states second; work = w .works second; tally = c .tallies second };
-      log = [];
-    }
+worldOf c w = record { one = memoryAt c w first; two = memoryAt c w second; log = [] }
 
+-- box b has these tapes and shares
 abbrev pub settingOf : Common → Box → TapeSet → (ℕ → Lending) → Loose → Setting
-settingOf c b own shares w = record { tapes = tapesOf b own (c .others); shares = shares; leftovers = w .leftovers }
+settingOf c b own shares w =
+    record { tapes = byBox b own (c .others); shares = byBox b shares (c .lendings); leftovers = w .leftovers }
 
--- the premises of the run with these tapes and shares
+abbrev pub events : Common → Box → TapeSet → (ℕ → Lending) → Loose → List Event
+events c b own shares w = run (settingOf c b own shares w) 0 (worldOf c w) (c .entries) .log
+
+-- the premises of the run with these tapes and the first shares, the second shares being in range with them
 pub record Premises (c : Common) (b : Box) (shares shares′ : ℕ → Lending) (own : TapeSet) (w : Loose) : Type 0 where
   pub asleep : AtFirst (worldOf c w)
   pub meets : Meets (settingOf c b own shares w) (c .pair) 0 (worldOf c w) (c .entries)
-  pub compatible : AllCompatible shares′ (settingOf c b own shares w) b 0 (worldOf c w) (c .entries)
+  pub compatible : AllCompatible (byBox b shares′ (c .lendings)) (settingOf c b own shares w) 0 (worldOf c w) (c .entries)
 
-pub record SameRoom (w w′ : Loose) : Type 0 where
-  pub lengths : (b : Box) → length (w .works b) ≡ length (w′ .works b)
-
--- the two maps: each takes valid sets to valid sets and undoes the other on them, and the two runs look the same
+-- the two maps: `there` takes valid sets to valid sets, `back` undoes it, and where a run with a set and the first shares meets the
+-- premises, the run with the set's image and the second shares meets them too and looks the same, whatever words work holds in either
 pub record Hidden (c : Common) (b : Box) (shares shares′ : ℕ → Lending) (there back : TapeSet → TapeSet) : Type 0 where
   pub valid : (own : TapeSet) → Valid (c .pair) b (c .others) own → Valid (c .pair) b (c .others) (there own)
-  pub alike : (own : TapeSet) → Valid (c .pair) b (c .others) own → (w w′ : Loose) → SameRoom w w′
-      → Premises c b shares shares′ own w
-      → view b (run (settingOf c b own shares w) 0 (worldOf c w) (c .entries) .log)
-      ≡ view b (run (settingOf c b (there own) shares′ w′) 0 (worldOf c w′) (c .entries) .log)
   pub undone : (own : TapeSet) → Valid (c .pair) b (c .others) own → (w : Loose) → Premises c b shares shares′ own w
       → (number n : ℕ) → listed n ≡ true → back (there own) number n ≡ own number n
+  pub meets : (own : TapeSet) → Valid (c .pair) b (c .others) own → (w w′ : Loose) → Premises c b shares shares′ own w
+      → Premises c b shares′ shares (there own) w′
+  pub alike : (own : TapeSet) → Valid (c .pair) b (c .others) own → (w w′ : Loose) → Premises c b shares shares′ own w
+      → view b (events c b own shares w) ≡ view b (events c b (there own) shares′ w′)
+
+-- the pairing: the same holds of the maps with the two tables of shares exchanged
+pub record Paired (c : Common) (b : Box) (shares shares′ : ℕ → Lending) : Type 0 where
+  pub there : TapeSet → TapeSet
+  pub back : TapeSet → TapeSet
+  pub hidden : Hidden c b shares shares′ there back
+  pub hidden-back : Hidden c b shares′ shares back there

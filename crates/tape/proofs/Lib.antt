@@ -4,3 +4,4 @@ pub mod Orders
 pub mod Letters
 pub mod Dealing
 pub mod Plains
+pub mod Keys

@@ -1,0 +1,2 @@
+pub mod Messages
+pub mod Exchanges

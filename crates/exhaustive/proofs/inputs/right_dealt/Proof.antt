@@ -1,0 +1,96 @@
+-- `exhaustive::inputs::right_dealt` is safe and ends: both tapes keep their lengths, and a turn counts at most 961 answers.
+use Prim.Native.Nat.{_-_, _*_, _≤_}
+use mathlib.Core.Path.{_≡_}
+use native.Mathlib.Omega.{arith}
+use borrow.Author.Needs.{needs}
+use lib.ListN.{length}
+use Rattle.exhaustive.proofs.Small.{Small, small, first-below, second-below}
+use Rattle.exhaustive.proofs.inputs.right_dealt.Statement.{statement}
+use Rattle.exhaustive.proofs.inputs.right_dealt.Tie as tie
+
+abbrev Inv-loop : tie.InvT-loop
+Inv-loop n t1₀ t2₀ p seed₀ right₀ i₀ t1 t2 seed right i = (i ≤ p * p) × (right ≤ 961 * i) × (length t1 ≡ length t1₀) × (length t2 ≡ length t2₀)
+
+abbrev μ-loop : tie.MeasureT-loop
+μ-loop n t1₀ t2₀ p seed₀ right₀ i₀ t1 t2 seed right i = p * p - i
+
+-- what is known of p
+tiny : (m : tie.After-modulus-of Inv-loop μ-loop) → Small (m .before .before .before .args .n) (m .modulus-of .result)
+tiny m =
+    let s = m .before .before .before in
+    small (s .pre .0) (s .pre .1) (m .modulus-of .ensures)
+
+modulus-of-requires : tie.Need-modulus-of-requires Inv-loop μ-loop
+modulus-of-requires c κs = search needs
+
+loop-holds : tie.Need-loop-holds Inv-loop μ-loop
+loop-holds c = search needs
+
+mul-loop : tie.Need-mul-loop Inv-loop μ-loop
+mul-loop c = omega (arith, tiny (c .before) .pairs)
+
+div-dealt-turn : tie.Need-div-dealt-turn Inv-loop μ-loop
+div-dealt-turn c = tiny (c .before .before) .some
+
+rem-dealt-turn : tie.Need-rem-dealt-turn Inv-loop μ-loop
+rem-dealt-turn c = tiny (c .before .before) .some
+
+dealt-turn-requires : tie.Need-dealt-turn-requires Inv-loop μ-loop
+dealt-turn-requires c κs =
+    let i = c .before .before in
+    let l = i .before in
+    let m = l .before in
+    let s = m .before .before .before in
+    let p = s .pre in
+    let t = tiny m in
+    let e = m .modulus-of .ensures in
+    let less = i .loop-test .taken in (
+      (p .0, p .1, omega (arith, e, first-below less (t .some)), omega (arith, e, second-below (l .loop .i) (t .some))),
+      (omega (arith, p .2, l .loop .inv .2), omega (arith, p .3, l .loop .inv .3)),
+    )
+
+add-right : tie.Need-add-right Inv-loop μ-loop
+add-right c =
+    let d = c .before .before .before .before .before in
+    let l = d .before .before .before .before in
+    omega (arith, d .dealt-turn .ensures, l .loop .inv .0, l .loop .inv .1, tiny (l .before) .pairs)
+
+add-i : tie.Need-add-i Inv-loop μ-loop
+add-i c =
+    let l = c .before .before .before .before .before .before .before .before .before in
+    omega (arith, l .loop .inv .0, tiny (l .before) .pairs)
+
+loop-less : tie.Need-loop-less Inv-loop μ-loop
+loop-less c = search needs
+
+loop-again : tie.Need-loop-again Inv-loop μ-loop
+loop-again c = search needs
+
+same-length : tie.Need-same-length Inv-loop μ-loop
+same-length c = search needs
+
+same-length-2 : tie.Need-same-length-2 Inv-loop μ-loop
+same-length-2 c = search needs
+
+returns : tie.Need-returns Inv-loop μ-loop
+returns c = search needs
+
+pub right-dealt-spec : {M : Type 1} → statement M
+right-dealt-spec =
+    tie.close
+    (tie.spec
+    Inv-loop
+    μ-loop
+    modulus-of-requires
+    loop-holds
+    mul-loop
+    div-dealt-turn
+    rem-dealt-turn
+    dealt-turn-requires
+    add-right
+    add-i
+    loop-less
+    loop-again
+    same-length
+    same-length-2
+    returns)

@@ -1,0 +1,79 @@
+-- The shares that opened each job of a run: found by the job's place in the log, reduced so that they are in range in any case.
+use Prim.Native.Nat.{ℕ, zero, suc, _%_, _<_}
+use mathlib.Core.Path.{_≡_, refl, sym, ap, _∙_}
+use mathlib.Core.Bool.{true}
+use mathlib.Core.List.{List}
+use native.Mathlib.Nat.{mod-lt, mod-eq-of-lt}
+use native.Mathlib.Omega.{arith}
+use lib.ListN.{length}
+use Rattle.field.specs.Width.{listed, modulus}
+use Rattle.field.proofs.Widths.{Bounds, bounds}
+use Rattle.rules.specs.Grounds.{startGround}
+use Rattle.guarantees.specs.Boxes.{Box}
+use Rattle.guarantees.specs.Entries.{Lent, Step, wake, start, speak, hear, drop, cut, cutStart, Entry}
+use Rattle.guarantees.specs.Run.{Lending, Setting, Memory, Event, World, memoryOf, tapeWords, stepped, run}
+use Rattle.guarantees.specs.Places.{openedAt}
+use Rattle.guarantees.proofs.Passed.{start-passed}
+use Rattle.guarantees.proofs.Twins.{Twin, TwinMemory, Skeleton}
+use Rattle.guarantees.proofs.Skeletons.{Fit, memories}
+use Rattle.guarantees.proofs.Openings.{Marked, found}
+use Rattle.guarantees.proofs.Follows.{Booked}
+
+abbrev pub clip : ℕ → Lending → Lending
+clip n v = record { x = v .x % modulus n; y = v .y % modulus n }
+
+pub clip-same : (n : ℕ) (v : Lending) → v .x < modulus n → v .y < modulus n → clip n v ≡ v
+clip-same n v lx ly = rw (mod-eq-of-lt lx, mod-eq-of-lt ly) refl
+
+pub clip-x : (n : ℕ) (v : Lending) → listed n ≡ true → clip n v .x < modulus n
+clip-x n v l = mod-lt (v .x) (omega (arith, bounds l))
+
+pub clip-y : (n : ℕ) (v : Lending) → listed n ≡ true → clip n v .y < modulus n
+clip-y n v l = mod-lt (v .y) (omega (arith, bounds l))
+
+abbrev pub bookOf : (Box → ℕ → Lending) → List Event → Box → ℕ → ℕ → Lending
+bookOf shares log c number n = clip n (shares c (openedAt log c number n))
+
+-- the log of the run from here on finds a start that is not refused
+module _ (g : Setting) (pair : ℕ) (log : List Event) (es : List Entry) (place : ℕ) (w : World) (c : Box) (marked : Marked w)
+  (at : length (w .log) ≡ place) where
+  opened : (number : ℕ) (lent : Lent) → run g (suc place) (stepped g place w c (start number lent)) es .log ≡ log
+      → startGround (memoryOf w c .state) number (g .shares c place .x) (g .shares c place .y) (tapeWords g lent) (memoryOf w c .work) (memoryOf w c .tally)
+      ≡ 0
+      → openedAt log c number (memoryOf w c .state .n) ≡ place
+  opened number lent end ground =
+      ap (λ (l : List Event). openedAt l c number (memoryOf w c .state .n)) (sym end) ∙ found g place w c number lent es marked ground ∙ at
+
+  pub booked : (step : Step) → run g (suc place) (stepped g place w c step) es .log ≡ log
+      → Booked g pair (bookOf (g .shares) log) place w c step
+  booked (wake n side p) end = tt
+  booked (start number lent) end =
+      λ ground.
+        let m = memoryOf w c in
+        let p = start-passed (m .state) number _ _ _ _ _ ground in
+        ap (λ (k : ℕ). clip (m .state .n) (g .shares c k)) (opened number lent end ground)
+        ∙ clip-same (m .state .n) (g .shares c place) (p .x-fits) (p .y-fits)
+  booked (speak number round lent out) end = tt
+  booked (hear number round lent incoming) end = tt
+  booked drop end = tt
+  booked cut end = tt
+  booked (cutStart number lent value) end = tt
+
+  -- the second run's shares stand at the same places
+  pub booked-too : (g′ : Setting) (w′ : World) (step : Step) → Skeleton w w′ → Fit g g′ place w w′ c step
+      → run g (suc place) (stepped g place w c step) es .log ≡ log
+      → Booked g′ pair (bookOf (g′ .shares) log) place w′ c step
+  booked-too g′ w′ (wake n side p) k f end = tt
+  booked-too g′ w′ (start number lent) k f end =
+      λ ground.
+        let m′ = memoryOf w′ c in
+        let width = memories c k .state .n in
+        let p = start-passed (m′ .state) number _ _ _ _ _ ground in
+        ap (λ (i : ℕ). clip (m′ .state .n) (g′ .shares c i))
+        (ap (openedAt log c number) (sym width) ∙ opened number lent end (f ∙ ground))
+        ∙ clip-same (m′ .state .n) (g′ .shares c place) (p .x-fits) (p .y-fits)
+  booked-too g′ w′ (speak number round lent out) k f end = tt
+  booked-too g′ w′ (hear number round lent incoming) k f end = tt
+  booked-too g′ w′ drop k f end = tt
+  booked-too g′ w′ cut k f end = tt
+  booked-too g′ w′ (cutStart number lent value) k f end = tt

@@ -1,0 +1,284 @@
+-- Two runs over one list, entry by entry: they stay alike, and the second meets the premises as the first does.
+use Prim.Native.Nat.{ℕ, zero, suc, _+_, _%_, _<_}
+use mathlib.Core.Path.{_≡_, refl, sym, ap, subst, _∙_}
+use mathlib.Core.Bool.{Bool, true, false, cond, false≢true}
+use mathlib.Core.List.{List, [], _∷_, _++_, map}
+use mathlib.Core.Logic.{_⊎_, inl, inr}
+use native.Mathlib.Omega.{arith}
+use borrow.Author.Tests.{lt-ltb}
+use lib.Dec.{ltb}
+use lib.ListN.{length}
+use Rattle.field.specs.Width.{listed, modulus}
+use Rattle.tape.specs.Order.{inOrder}
+use Rattle.tape.proofs.Keys.{order-alike}
+use Rattle.rules.specs.Answers.{Reply, fresh, started, spoke, heard, share, dropped, refused}
+use Rattle.rules.specs.Modes.{modeOf, isAsleep}
+use Rattle.rules.specs.Grounds.{wordsFit, wakeGround, startGround, speakGround, hearGround}
+use Rattle.rules.specs.declared.state.State.{State}
+use Rattle.guarantees.specs.Boxes.{Box, first, second, sideOf, partner}
+use Rattle.guarantees.specs.Entries.{Lent, dealt, loose, Incoming, spokenAt, other, Step, wake, start, speak, hear, drop, cut, cutStart, Entry}
+use Rattle.guarantees.specs.Run.{Lending, Setting, Memory, Said, nothing, replied, Event, World, memoryOf, after, eventAt, tapeWords, incomingWords, stepped, run}
+use Rattle.guarantees.specs.Premises.{True, Keeps, Meets, InBoth, Compatible, AllCompatible}
+use Rattle.guarantees.specs.View.{covered, seen, view}
+use Rattle.guarantees.proofs.Twins.{Twin, TwinMemory, SameEvent, Skeleton}
+use Rattle.guarantees.proofs.Jobs.{sentBy, answerBy}
+use Rattle.guarantees.proofs.Turns.{asleep-same}
+use Rattle.guarantees.proofs.Refusals.{SharesAlike, wake-same, start-same, speak-same, hear-same}
+use Rattle.guarantees.proofs.Skeletons.{Fit, memories, next}
+use Rattle.guarantees.proofs.Covers.{isSpoke, spoke-same, uncover, uncover-spoke, said-to}
+use Rattle.guarantees.proofs.Follows.{Uttered, Answered, True-to, Follows, Booked, follows-next}
+
+-- ---- what is told of an event
+
+module _ (g : Setting) (pair : ℕ) (book : Box → ℕ → ℕ → Lending) (e : Event) where
+  uttered : (s : Said) → True-to g pair book e s → isSpoke s ≡ true → Uttered g pair book e
+  uttered nothing t h = absurd (false≢true h)
+  uttered (replied (fresh k)) t h = absurd (false≢true h)
+  uttered (replied started) t h = absurd (false≢true h)
+  uttered (replied (spoke k)) t h = t
+  uttered (replied heard) t h = absurd (false≢true h)
+  uttered (replied (share v)) t h = absurd (false≢true h)
+  uttered (replied dropped) t h = absurd (false≢true h)
+  uttered (replied (refused k)) t h = absurd (false≢true h)
+
+  silent : (s : Said) → True-to g pair book e s → isSpoke s ≡ false → e .spoken ≡ []
+  silent nothing t h = t
+  silent (replied (fresh k)) t h = t
+  silent (replied started) t h = t
+  silent (replied (spoke k)) t h = absurd (false≢true (sym h))
+  silent (replied heard) t h = t
+  silent (replied (share v)) t h = t .silent
+  silent (replied dropped) t h = t
+  silent (replied (refused k)) t h = t
+
+-- ---- logs
+
+view-same : (b : Box) (log log′ : List Event) → length log ≡ length log′ → ((k : ℕ) → seen b (eventAt log k) ≡ seen b (eventAt log′ k))
+    → view b log ≡ view b log′
+view-same b [] [] long each = refl
+view-same b [] (e ∷ log′) long each = absurd (omega (arith, long))
+view-same b (e ∷ log) [] long each = absurd (omega (arith, long))
+view-same b (e ∷ log) (e′ ∷ log′) long each =
+    ap (λ (d : Event). d ∷ map (seen b) log) (each zero)
+    ∙ ap (λ (l : List Event). seen b e′ ∷ l) (view-same b log log′ (omega (arith, long)) (λ k. each (suc k)))
+
+abbrev IncomingSame : List Event → List Event → Type 0
+IncomingSame log log′ = (k : ℕ) → eventAt log k .incoming ≡ eventAt log′ k .incoming
+
+incoming-more : (log log′ : List Event) (e e′ : Event) → length log ≡ length log′ → IncomingSame log log′ → e .incoming ≡ e′ .incoming
+    → IncomingSame (log ++ (e ∷ [])) (log′ ++ (e′ ∷ []))
+incoming-more [] [] e e′ long old new zero = new
+incoming-more [] [] e e′ long old new (suc k) = refl
+incoming-more [] (d′ ∷ log′) e e′ long old new k = absurd (omega (arith, long))
+incoming-more (d ∷ log) [] e e′ long old new k = absurd (omega (arith, long))
+incoming-more (d ∷ log) (d′ ∷ log′) e e′ long old new zero = old zero
+incoming-more (d ∷ log) (d′ ∷ log′) e e′ long old new (suc k) =
+    incoming-more log log′ e e′ (omega (arith, long)) (λ i. old (suc i)) new k
+
+incoming-after : (w w′ : World) (c : Box) (m m′ : Memory) (e e′ : Event) → length (w .log) ≡ length (w′ .log)
+    → IncomingSame (w .log) (w′ .log) → e .incoming ≡ e′ .incoming → IncomingSame (after w c m e .log) (after w′ c m′ e′ .log)
+incoming-after w w′ first m m′ e e′ long old new = incoming-more (w .log) (w′ .log) e e′ long old new
+incoming-after w w′ second m m′ e e′ long old new = incoming-more (w .log) (w′ .log) e e′ long old new
+
+-- ---- shares
+
+-- asleep, or below p alike
+share-alike : (m : Memory) (v v′ : ℕ) → InBoth m v v′
+    → (isAsleep (modeOf (m .state)) ≡ true) ⊎ (ltb v (modulus (m .state .n)) ≡ ltb v′ (modulus (m .state .n)))
+share-alike m v v′ (inl e) = inr (rw e)
+share-alike m v v′ (inr (inl asleep)) = inl asleep
+share-alike m v v′ (inr (inr fits)) = inr (lt-ltb _ _ (fits .0) ∙ sym (lt-ltb _ _ (fits .1)))
+
+shares-alike : (m : Memory) (x y x′ y′ : ℕ) → InBoth m x x′ → InBoth m y y′ → SharesAlike (m .state) x y x′ y′
+shares-alike m x y x′ y′ hx hy = go (share-alike m x x′ hx) (share-alike m y y′ hy)
+  where
+    go : (isAsleep (modeOf (m .state)) ≡ true) ⊎ (ltb x (modulus (m .state .n)) ≡ ltb x′ (modulus (m .state .n)))
+        → (isAsleep (modeOf (m .state)) ≡ true) ⊎ (ltb y (modulus (m .state .n)) ≡ ltb y′ (modulus (m .state .n)))
+        → SharesAlike (m .state) x y x′ y′
+    go (inl a) q = inl a
+    go (inr p) (inl a) = inl a
+    go (inr p) (inr q) = inr (p, q)
+
+-- seen from the second run
+in-both-back : {m m′ : Memory} (v v′ : ℕ) → TwinMemory m m′ → InBoth m v v′ → InBoth m′ v′ v
+in-both-back v v′ t (inl e) = inl (sym e)
+in-both-back v v′ t (inr (inl asleep)) = inr (inl (sym (asleep-same (t .state)) ∙ asleep))
+in-both-back v v′ t (inr (inr fits)) = inr (inr (rw (← t .state .n) (fits .1), rw (← t .state .n) (fits .0)))
+
+pub compatible-back : (g g′ : Setting) (place : ℕ) (w w′ : World) (c : Box) (step : Step) → Skeleton w w′ → Compatible (g′ .shares) g place w c step
+    → Compatible (g .shares) g′ place w′ c step
+compatible-back g g′ place w w′ c (wake n side p) k h = tt
+compatible-back g g′ place w w′ c (start number lent) k h =
+    (in-both-back _ _ (memories c k) (h .0), in-both-back _ _ (memories c k) (h .1))
+compatible-back g g′ place w w′ c (speak number round lent out) k h = tt
+compatible-back g g′ place w w′ c (hear number round lent incoming) k h = tt
+compatible-back g g′ place w w′ c drop k h = tt
+compatible-back g g′ place w w′ c cut k h = tt
+compatible-back g g′ place w w′ c (cutStart number lent value) k h =
+    (in-both-back _ _ (memories c k) (h .0), in-both-back _ _ (memories c k) (h .1))
+
+-- two books of shares, and two settings
+module _ (b : Box) (g g′ : Setting) (pair : ℕ) (book book′ : Box → ℕ → ℕ → Lending) where
+  -- the dealt tapes are in order, and each key's exchange looks the same under both
+  pub record Alike : Type 0 where
+    pub orders : (c : Box) (number n : ℕ) → listed n ≡ true → inOrder n pair (sideOf c) number (g .tapes c number n) ≡ true
+    pub orders′ : (c : Box) (number n : ℕ) → listed n ≡ true → inOrder n pair (sideOf c) number (g′ .tapes c number n) ≡ true
+    pub sent : (c : Box) (number n r : ℕ) → listed n ≡ true → r < 6
+        → sentBy (g .tapes) book c number n (suc r) ≡ sentBy (g′ .tapes) book′ c number n (suc r)
+    pub answer : (number n : ℕ) → listed n ≡ true
+        → answerBy (g .tapes) book (partner b) number n ≡ answerBy (g′ .tapes) book′ (partner b) number n
+
+  -- two worlds that the runs reach at one place
+  pub record Joint (w w′ : World) : Type 0 where
+    pub skeleton : Skeleton w w′
+    pub follows : Follows g pair book w
+    pub follows′ : Follows g′ pair book′ w′
+    pub heard-same : IncomingSame (w .log) (w′ .log)
+
+  module _ (a : Alike) (w w′ : World) (j : Joint w w′) where
+    spoken-same : (k : ℕ) → eventAt (w .log) k .spoken ≡ eventAt (w′ .log) k .spoken
+    spoken-same k = go (isSpoke (e .said)) refl
+      where
+        e : Event
+        e = eventAt (w .log) k
+        e′ : Event
+        e′ = eventAt (w′ .log) k
+        se : SameEvent e e′
+        se = j .skeleton .events k
+        told : isSpoke (e .said) ≡ isSpoke (e′ .said)
+        told = spoke-same (e .said) (e′ .said) (se .said)
+        go : (t : Bool) → isSpoke (e .said) ≡ t → e .spoken ≡ e′ .spoken
+        go false q =
+            silent g pair book e (e .said) (j .follows .events k) q
+            ∙ sym (silent g′ pair book′ e′ (e′ .said) (j .follows′ .events k) (sym told ∙ q))
+        go true q =
+            let u = uttered g pair book e (e .said) (j .follows .events k) q in
+            let u′ = uttered g′ pair book′ e′ (e′ .said) (j .follows′ .events k) (sym told ∙ q) in
+            let exchange : sentBy (g .tapes) book (e .box) (e .number) (e .width) (e .round)
+                ≡ sentBy (g′ .tapes) book′ (e′ .box) (e′ .number) (e′ .width) (e′ .round) =
+                rw (← se .box, ← se .number, ← se .width, ← se .round, u .round-is)
+                (a .sent (e .box) (e .number) (e .width) (u .heard) (u .width) (u .early)) in
+            u .words ∙ exchange ∙ sym (u′ .words)
+
+    said-same : (k : ℕ) → eventAt (w .log) k .box ≡ partner b → eventAt (w .log) k .said ≡ eventAt (w′ .log) k .said
+    said-same k at =
+        let e = eventAt (w .log) k in
+        let e′ = eventAt (w′ .log) k in
+        let se = j .skeleton .events k in
+        uncover (e .said) (e′ .said) (se .said)
+        (λ v v′ q q′.
+          let t : Answered g pair book e v = subst (True-to g pair book e) q (j .follows .events k) in
+          let t′ : Answered g′ pair book′ e′ v′ = subst (True-to g′ pair book′ e′) q′ (j .follows′ .events k) in
+          let exchange : answerBy (g .tapes) book (e .box) (e .number) (e .width)
+              ≡ answerBy (g′ .tapes) book′ (e′ .box) (e′ .number) (e′ .width) =
+              rw (← se .box, ← se .number, ← se .width, at) (a .answer (e .number) (e .width) (t .width)) in
+          t .is ∙ exchange ∙ sym (t′ .is))
+
+    pub views : view b (w .log) ≡ view b (w′ .log)
+    views = view-same b (w .log) (w′ .log) (j .skeleton .places) each
+      where
+        each : (k : ℕ) → seen b (eventAt (w .log) k) ≡ seen b (eventAt (w′ .log) k)
+        each k =
+            let e = eventAt (w .log) k in
+            let e′ = eventAt (w′ .log) k in
+            let se = j .skeleton .events k in
+            rw (said-to b (e .box) (e .said) (e′ .said) (se .said) (said-same k), spoken-same k, j .heard-same k, se .box, se .number, se .width, se .round)
+
+    words-same : (incoming : Incoming) → incomingWords (w .log) incoming ≡ incomingWords (w′ .log) incoming
+    words-same (spokenAt place) = spoken-same place
+    words-same (other words) = refl
+
+    order-same : (n p side number : ℕ) (lent : Lent)
+        → inOrder n p side number (tapeWords g lent) ≡ inOrder n p side number (tapeWords g′ lent)
+    order-same n p side number (loose words) = refl
+    order-same n p side number (dealt c k width) = go (listed width) refl
+      where
+        go : (t : Bool) → listed width ≡ t
+            → inOrder n p side number (cond t (g .tapes c k width) []) ≡ inOrder n p side number (cond t (g′ .tapes c k width) [])
+        go false q = refl
+        go true q = order-alike width pair (sideOf c) k n p side number _ _ (a .orders c k width q) (a .orders′ c k width q)
+
+    start-fit : (place : ℕ) (c : Box) (number : ℕ) (lent : Lent)
+        → InBoth (memoryOf w c) (g .shares c place .x) (g′ .shares c place .x) → InBoth (memoryOf w c) (g .shares c place .y) (g′ .shares c place .y)
+        → Fit g g′ place w w′ c (start number lent)
+    start-fit place c number lent hx hy =
+        let m = memoryOf w c in
+        let m′ = memoryOf w′ c in
+        let t = memories c (j .skeleton) in
+        start-same number _ _ (g′ .shares c place .x) (g′ .shares c place .y) _ (tapeWords g′ lent) _ (m′ .work) (m .tally) (t .state) (t .room)
+        (order-same (m .state .n) (m .state .pair) (m .state .side) number lent) (shares-alike m _ _ _ _ hx hy)
+        ∙ ap (startGround (m′ .state) number (g′ .shares c place .x) (g′ .shares c place .y) (tapeWords g′ lent) (m′ .work)) (t .tally)
+
+    -- the same ground of refusal in both runs
+    pub fit : (place : ℕ) (c : Box) (step : Step) → Compatible (g′ .shares) g place w c step → Fit g g′ place w w′ c step
+    fit place c (wake n side p) h = tt
+    fit place c (start number lent) h = start-fit place c number lent (h .0) (h .1)
+    fit place c (speak number round lent out) h =
+        let m = memoryOf w c in
+        let t = memories c (j .skeleton) in
+        speak-same number round _ _ _ _ out (t .state) (t .room) (order-same (m .state .n) (m .state .pair) (m .state .side) number lent)
+    fit place c (hear number round lent incoming) h =
+        let m = memoryOf w c in
+        let t = memories c (j .skeleton) in
+        hear-same number round _ _ _ _ _ _ (t .state) (t .room) (order-same (m .state .n) (m .state .pair) (m .state .side) number lent)
+        (ap length (words-same incoming)) (ap (wordsFit (m .state .n)) (words-same incoming))
+    fit place c drop h = tt
+    fit place c cut h = tt
+    fit place c (cutStart number lent value) h = start-fit place c number lent (h .0) (h .1)
+
+    -- a message true in the first run is true in the second
+    true-too : (c : Box) (number n n′ round : ℕ) (incoming : Incoming) → n ≡ n′ → True (w .log) c number n round incoming
+        → True (w′ .log) c number n′ round incoming
+    true-too c number n n′ round incoming width t =
+        let se = j .skeleton .events (t .place) in
+        record {
+          place = t .place;
+          named = t .named;
+          earlier = rw (← j .skeleton .places) (t .earlier);
+          by = sym (se .box) ∙ t .by;
+          numbered = sym (se .number) ∙ t .numbered;
+          wide = sym (se .width) ∙ t .wide ∙ width;
+          rounded = sym (se .round) ∙ t .rounded;
+          count = t .count;
+          uttered = uncover-spoke _ (t .count) (sym (se .said) ∙ ap covered (t .uttered));
+        }
+
+    -- the second run keeps to the premises
+    pub keeps-too : (place : ℕ) (c : Box) (step : Step) → Fit g g′ place w w′ c step → Keeps g pair place w c step → Keeps g′ pair place w′ c step
+    keeps-too place c (wake n side p) f h =
+        let t = memories c (j .skeleton) in
+        λ ground. h (wake-same n side (memoryOf w c .tally) (t .state) ∙ ap (wakeGround (memoryOf w′ c .state) n side) (t .tally) ∙ ground)
+    keeps-too place c (start number lent) f h = λ ground. h (f ∙ ground) ∙ ap (dealt c number) (memories c (j .skeleton) .state .n)
+    keeps-too place c (speak number round lent out) f h = λ ground. h (f ∙ ground) ∙ ap (dealt c number) (memories c (j .skeleton) .state .n)
+    keeps-too place c (hear number round lent incoming) f h =
+        λ ground.
+          let k = h (f ∙ ground) in
+          let width = memories c (j .skeleton) .state .n in
+          (k .0 ∙ ap (dealt c number) width, true-too c number _ _ round incoming width (k .1))
+    keeps-too place c drop f h = tt
+    keeps-too place c cut f h = tt
+    keeps-too place c (cutStart number lent value) f h = λ ground. h (f ∙ ground) ∙ ap (dealt c number) (memories c (j .skeleton) .state .n)
+
+    incoming-next : (place : ℕ) (c : Box) (step : Step) → IncomingSame (stepped g place w c step .log) (stepped g′ place w′ c step .log)
+    unfolding stepped
+    incoming-next place c (wake n side p) = incoming-after w w′ c _ _ _ _ (j .skeleton .places) (j .heard-same) refl
+    incoming-next place c (start number lent) = incoming-after w w′ c _ _ _ _ (j .skeleton .places) (j .heard-same) refl
+    incoming-next place c (speak number round lent out) = incoming-after w w′ c _ _ _ _ (j .skeleton .places) (j .heard-same) refl
+    incoming-next place c (hear number round lent incoming) =
+        incoming-after w w′ c _ _ _ _ (j .skeleton .places) (j .heard-same) (words-same incoming)
+    incoming-next place c drop = incoming-after w w′ c _ _ _ _ (j .skeleton .places) (j .heard-same) refl
+    incoming-next place c cut = incoming-after w w′ c _ _ _ _ (j .skeleton .places) (j .heard-same) refl
+    incoming-next place c (cutStart number lent value) = incoming-after w w′ c _ _ _ _ (j .skeleton .places) (j .heard-same) refl
+
+    -- one entry
+    pub joint-next : (place : ℕ) (c : Box) (step : Step) → Keeps g pair place w c step → Compatible (g′ .shares) g place w c step
+        → Booked g pair book place w c step → Booked g′ pair book′ place w′ c step
+        → Joint (stepped g place w c step) (stepped g′ place w′ c step)
+    joint-next place c step keeps h booked booked′ =
+        let f = fit place c step h in
+        record {
+          skeleton = next g g′ place w w′ c step (j .skeleton) f;
+          follows = follows-next g pair book place w c step (j .follows) keeps booked;
+          follows′ = follows-next g′ pair book′ place w′ c step (j .follows′) (keeps-too place c step f keeps) booked′;
+          heard-same = incoming-next place c step;
+        }
