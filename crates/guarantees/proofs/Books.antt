@@ -36,7 +36,7 @@ bookOf shares log c number n = clip n (shares c (openedAt log c number n))
 
 -- the log of the run from here on finds a start that is not refused
 module _ (g : Setting) (pair : ℕ) (log : List Event) (es : List Entry) (place : ℕ) (w : World) (c : Box) (marked : Marked w)
-  (at : length (w .log) ≡ place) where
+    (at : length (w .log) ≡ place) where
   opened : (number : ℕ) (lent : Lent) → run g (suc place) (stepped g place w c (start number lent)) es .log ≡ log
       → startGround (memoryOf w c .state) number (g .shares c place .x) (g .shares c place .y) (tapeWords g lent) (memoryOf w c .work) (memoryOf w c .tally)
       ≡ 0
@@ -49,10 +49,10 @@ module _ (g : Setting) (pair : ℕ) (log : List Event) (es : List Entry) (place 
   booked (wake n side p) end = tt
   booked (start number lent) end =
       λ ground.
-        let m = memoryOf w c in
-        let p = start-passed (m .state) number _ _ _ _ _ ground in
-        ap (λ (k : ℕ). clip (m .state .n) (g .shares c k)) (opened number lent end ground)
-        ∙ clip-same (m .state .n) (g .shares c place) (p .x-fits) (p .y-fits)
+      let m = memoryOf w c in
+      let p = start-passed (m .state) number _ _ _ _ _ ground in
+      ap (λ (k : ℕ). clip (m .state .n) (g .shares c k)) (opened number lent end ground)
+      ∙ clip-same (m .state .n) (g .shares c place) (p .x-fits) (p .y-fits)
   booked (speak number round lent out) end = tt
   booked (hear number round lent incoming) end = tt
   booked drop end = tt
@@ -66,12 +66,12 @@ module _ (g : Setting) (pair : ℕ) (log : List Event) (es : List Entry) (place 
   booked-too g′ w′ (wake n side p) k f end = tt
   booked-too g′ w′ (start number lent) k f end =
       λ ground.
-        let m′ = memoryOf w′ c in
-        let width = memories c k .state .n in
-        let p = start-passed (m′ .state) number _ _ _ _ _ ground in
-        ap (λ (i : ℕ). clip (m′ .state .n) (g′ .shares c i))
-        (ap (openedAt log c number) (sym width) ∙ opened number lent end (f ∙ ground))
-        ∙ clip-same (m′ .state .n) (g′ .shares c place) (p .x-fits) (p .y-fits)
+      let m′ = memoryOf w′ c in
+      let width = memories c k .state .n in
+      let p = start-passed (m′ .state) number _ _ _ _ _ ground in
+      ap (λ (i : ℕ). clip (m′ .state .n) (g′ .shares c i))
+      (ap (openedAt log c number) (sym width) ∙ opened number lent end (f ∙ ground))
+      ∙ clip-same (m′ .state .n) (g′ .shares c place) (p .x-fits) (p .y-fits)
   booked-too g′ w′ (speak number round lent out) k f end = tt
   booked-too g′ w′ (hear number round lent incoming) k f end = tt
   booked-too g′ w′ drop k f end = tt

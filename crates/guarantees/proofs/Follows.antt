@@ -215,10 +215,10 @@ module _ (g : Setting) (pair : ℕ) (book : Box → ℕ → ℕ → Lending) whe
   job-early s x y {turn} {number} awake job past count =
       let fits = subst (λ (p : Phase). phaseFits (s .n) (s .tally) p ≡ true) job (ranged s (awake-range s awake) .phased) in
       let most = leb-true (roundOf turn) 6
-          (and-right (leb 1 (roundOf turn)) (leb (roundOf turn) 6)
-          (and-right (ltb number (tapesOf (s .tally))) (roundFits (roundOf turn))
-          (and-left (ltb number (tapesOf (s .tally)) && roundFits (roundOf turn)) (ltb x (modulus (s .n)))
-          (and-left (ltb number (tapesOf (s .tally)) && roundFits (roundOf turn) && ltb x (modulus (s .n))) (ltb y (modulus (s .n))) fits)))) in
+      (and-right (leb 1 (roundOf turn)) (leb (roundOf turn) 6)
+      (and-right (ltb number (tapesOf (s .tally))) (roundFits (roundOf turn))
+      (and-left (ltb number (tapesOf (s .tally)) && roundFits (roundOf turn)) (ltb x (modulus (s .n)))
+      (and-left (ltb number (tapesOf (s .tally)) && roundFits (roundOf turn) && ltb x (modulus (s .n))) (ltb y (modulus (s .n))) fits)))) in
       omega (arith, most, count)
 
   going : (b : Box) (m : Memory) (number round : ℕ) (turn : Turn) (lent : Lent) → Holds b m
@@ -273,12 +273,18 @@ module _ (g : Setting) (pair : ℕ) (book : Box → ℕ → ℕ → Lending) whe
                 live = i .live;
               }));
         };
-        words = record { width = j .width; heard = i .heard; round-is = i .count; early = j .early; words =
-            front out (message (partyOf (m .state) (tapeWords g lent)) (m .work) round) (roundWords (m .state .n) round)
-            (message-length (partyOf (m .state) (tapeWords g lent)) (m .work) round ∙ rw (j .party-is)) (p .out-room)
-            ∙ rw (j .party-is, i .count)
-            (message-live (partyAt (g .tapes) book b number (m .state .n)) (i .heard) (m .work) (holding (g .tapes) book b number (m .state .n) (i .heard)) (i .live)
-            ∙ sym (sent-is (g .tapes) book b number (m .state .n) (i .heard))) };
+        words = record {
+          width = j .width;
+          heard = i .heard;
+          round-is = i .count;
+          early = j .early;
+          words =
+              front out (message (partyOf (m .state) (tapeWords g lent)) (m .work) round) (roundWords (m .state .n) round)
+              (message-length (partyOf (m .state) (tapeWords g lent)) (m .work) round ∙ rw (j .party-is)) (p .out-room)
+              ∙ rw (j .party-is, i .count)
+              (message-live (partyAt (g .tapes) book b number (m .state .n)) (i .heard) (m .work) (holding (g .tapes) book b number (m .state .n) (i .heard)) (i .live)
+              ∙ sym (sent-is (g .tapes) book b number (m .state .n) (i .heard)));
+        };
       })
       (record { holds = kept b m (m .tally) h; words = refl })
 

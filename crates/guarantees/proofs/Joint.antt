@@ -141,12 +141,16 @@ module _ (b : Box) (g g′ : Setting) (pair : ℕ) (book book′ : Box → ℕ �
       where
         e : Event
         e = eventAt (w .log) k
+
         e′ : Event
         e′ = eventAt (w′ .log) k
+
         se : SameEvent e e′
         se = j .skeleton .events k
+
         told : isSpoke (e .said) ≡ isSpoke (e′ .said)
         told = spoke-same (e .said) (e′ .said) (se .said)
+
         go : (t : Bool) → isSpoke (e .said) ≡ t → e .spoken ≡ e′ .spoken
         go false q =
             silent g pair book e (e .said) (j .follows .events k) q
@@ -155,9 +159,9 @@ module _ (b : Box) (g g′ : Setting) (pair : ℕ) (book book′ : Box → ℕ �
             let u = uttered g pair book e (e .said) (j .follows .events k) q in
             let u′ = uttered g′ pair book′ e′ (e′ .said) (j .follows′ .events k) (sym told ∙ q) in
             let exchange : sentBy (g .tapes) book (e .box) (e .number) (e .width) (e .round)
-                ≡ sentBy (g′ .tapes) book′ (e′ .box) (e′ .number) (e′ .width) (e′ .round) =
-                rw (← se .box, ← se .number, ← se .width, ← se .round, u .round-is)
-                (a .sent (e .box) (e .number) (e .width) (u .heard) (u .width) (u .early)) in
+            ≡ sentBy (g′ .tapes) book′ (e′ .box) (e′ .number) (e′ .width) (e′ .round) =
+            rw (← se .box, ← se .number, ← se .width, ← se .round, u .round-is)
+            (a .sent (e .box) (e .number) (e .width) (u .heard) (u .width) (u .early)) in
             u .words ∙ exchange ∙ sym (u′ .words)
 
     said-same : (k : ℕ) → eventAt (w .log) k .box ≡ partner b → eventAt (w .log) k .said ≡ eventAt (w′ .log) k .said
@@ -167,12 +171,12 @@ module _ (b : Box) (g g′ : Setting) (pair : ℕ) (book book′ : Box → ℕ �
         let se = j .skeleton .events k in
         uncover (e .said) (e′ .said) (se .said)
         (λ v v′ q q′.
-          let t : Answered g pair book e v = subst (True-to g pair book e) q (j .follows .events k) in
-          let t′ : Answered g′ pair book′ e′ v′ = subst (True-to g′ pair book′ e′) q′ (j .follows′ .events k) in
-          let exchange : answerBy (g .tapes) book (e .box) (e .number) (e .width)
-              ≡ answerBy (g′ .tapes) book′ (e′ .box) (e′ .number) (e′ .width) =
-              rw (← se .box, ← se .number, ← se .width, at) (a .answer (e .number) (e .width) (t .width)) in
-          t .is ∙ exchange ∙ sym (t′ .is))
+        let t : Answered g pair book e v = subst (True-to g pair book e) q (j .follows .events k) in
+        let t′ : Answered g′ pair book′ e′ v′ = subst (True-to g′ pair book′ e′) q′ (j .follows′ .events k) in
+        let exchange : answerBy (g .tapes) book (e .box) (e .number) (e .width)
+        ≡ answerBy (g′ .tapes) book′ (e′ .box) (e′ .number) (e′ .width) =
+        rw (← se .box, ← se .number, ← se .width, at) (a .answer (e .number) (e .width) (t .width)) in
+        t .is ∙ exchange ∙ sym (t′ .is))
 
     pub views : view b (w .log) ≡ view b (w′ .log)
     views = view-same b (w .log) (w′ .log) (j .skeleton .places) each
@@ -252,9 +256,9 @@ module _ (b : Box) (g g′ : Setting) (pair : ℕ) (book book′ : Box → ℕ �
     keeps-too place c (speak number round lent out) f h = λ ground. h (f ∙ ground) ∙ ap (dealt c number) (memories c (j .skeleton) .state .n)
     keeps-too place c (hear number round lent incoming) f h =
         λ ground.
-          let k = h (f ∙ ground) in
-          let width = memories c (j .skeleton) .state .n in
-          (k .0 ∙ ap (dealt c number) width, true-too c number _ _ round incoming width (k .1))
+        let k = h (f ∙ ground) in
+        let width = memories c (j .skeleton) .state .n in
+        (k .0 ∙ ap (dealt c number) width, true-too c number _ _ round incoming width (k .1))
     keeps-too place c drop f h = tt
     keeps-too place c cut f h = tt
     keeps-too place c (cutStart number lent value) f h = λ ground. h (f ∙ ground) ∙ ap (dealt c number) (memories c (j .skeleton) .state .n)

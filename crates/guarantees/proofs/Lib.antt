@@ -11,3 +11,6 @@ pub mod Covers
 pub mod Joint
 pub mod Books
 pub mod Runs
+pub mod Pairs
+pub mod Views
+pub mod Secrecy

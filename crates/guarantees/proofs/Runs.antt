@@ -24,12 +24,12 @@ module _ (b : Box) (g g′ : Setting) (pair : ℕ) (log : List Event) (a : Alike
   both (e ∷ es) place w w′ j marked at end meets compatible =
       let f = fit b g g′ pair _ _ a w w′ j place (e .box) (e .step) (compatible .0) in
       let rest =
-          both es (suc place) (stepped g place w (e .box) (e .step)) (stepped g′ place w′ (e .box) (e .step))
-          (joint-next b g g′ pair _ _ a w w′ j place (e .box) (e .step) (meets .0) (compatible .0)
-          (booked g pair log es place w (e .box) marked at (e .step) end)
-          (booked-too g pair log es place w (e .box) marked at g′ w′ (e .step) (j .skeleton) f end))
-          (marked-next g place w (e .box) (e .step) marked)
-          (next-place g place w (e .box) (e .step) ∙ ap suc at) end (meets .1) (compatible .1) in
+      both es (suc place) (stepped g place w (e .box) (e .step)) (stepped g′ place w′ (e .box) (e .step))
+      (joint-next b g g′ pair _ _ a w w′ j place (e .box) (e .step) (meets .0) (compatible .0)
+      (booked g pair log es place w (e .box) marked at (e .step) end)
+      (booked-too g pair log es place w (e .box) marked at g′ w′ (e .step) (j .skeleton) f end))
+      (marked-next g place w (e .box) (e .step) marked)
+      (next-place g place w (e .box) (e .step) ∙ ap suc at) end (meets .1) (compatible .1) in
       record {
         joint = rest .joint;
         meets = (keeps-too b g g′ pair _ _ a w w′ j place (e .box) (e .step) f (meets .0), rest .meets);

@@ -22,8 +22,10 @@ order-key n pair side number n′ pair′ side′ number′ tape e e′ =
   where
     long : tapeLength n ≡ tapeLength n′
     long = sym (readable n pair side number tape e .long) ∙ readable n′ pair′ side′ number′ tape e′ .long
+
     body : bodyLength n ≡ bodyLength n′
     body = omega (arith, long)
+
     word : (k : ℕ) → k < 7 → getD (trailer n pair side number) k 0 ≡ getD (trailer n′ pair′ side′ number′) k 0
     word k l =
         sym (order-trailer n pair side number tape e k l)
@@ -41,6 +43,7 @@ order-alike n pair side number n′ pair′ side′ number′ tape tape′ e e�
     both t t′ o o′ h =
         let k = order-key n pair side number n′ pair′ side′ number′ t o h in
         rw (← k .width, ← k .pair-is, ← k .side-is, ← k .number-is) o′
+
     go : (a b : Bool) → inOrder n′ pair′ side′ number′ tape ≡ a → inOrder n′ pair′ side′ number′ tape′ ≡ b → a ≡ b
     go true true p q = refl
     go false false p q = refl
