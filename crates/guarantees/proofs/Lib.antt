@@ -14,3 +14,4 @@ pub mod Runs
 pub mod Pairs
 pub mod Views
 pub mod Secrecy
+pub mod Possible

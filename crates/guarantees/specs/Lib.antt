@@ -5,3 +5,4 @@ pub mod Premises
 pub mod Places
 pub mod View
 pub mod Secrecy
+pub mod Possible

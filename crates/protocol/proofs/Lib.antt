@@ -25,3 +25,4 @@ pub mod Paired
 pub mod Exchanges
 pub mod Secrecy
 pub mod Lengths
+pub mod Reuse

@@ -11,3 +11,4 @@ pub mod Bench
 pub mod Change
 pub mod Shift
 pub mod Pairing
+pub mod Reuse

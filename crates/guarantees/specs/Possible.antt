@@ -1,0 +1,111 @@
+-- The premises of demand 3 are not empty: two lists at width 3 that meet them, on the plain tapes, in which both boxes answer.
+use Prim.Native.Nat.{ℕ, _+_, _%_}
+use mathlib.Core.Path.{_≡_}
+use mathlib.Core.List.{List, [], _∷_, _++_}
+use lib.Dec.{ltb}
+use lib.ListN.{replicate}
+use Rattle.field.specs.Width.{modulus}
+use Rattle.tape.specs.Plain.{plainTape}
+use Rattle.encoding.specs.Matching.{indicator}
+use Rattle.protocol.specs.Work.{workLength}
+use Rattle.protocol.specs.Rounds.{roundWords}
+use Rattle.rules.specs.Answers.{share}
+use Rattle.rules.specs.Grounds.{startGround}
+use Rattle.rules.specs.declared.state.Phase.the-variants.{Asleep}
+use Rattle.guarantees.specs.Boxes.{Box, first, second, sideOf, partner}
+use Rattle.guarantees.specs.Entries.{dealt, spokenAt, Step, wake, start, speak, hear, cutStart, Entry}
+use Rattle.guarantees.specs.Run.{Lending, replied, Event, eventAt, tapeWords, run}
+use Rattle.guarantees.specs.Secrecy.{TapeSet, Valid, Common, Loose, worldOf, settingOf, events, Premises}
+
+abbrev pub pairNumber : ℕ
+pairNumber = 5
+
+-- x = 5 + 5 and y = 1 + 3, that is 3 and 4 modulo 7
+abbrev pub sharesOf : Box → ℕ → Lending
+sharesOf first place = record { x = 5; y = 1 }
+sharesOf second place = record { x = 5; y = 3 }
+
+-- the second shares of the box that is to stay hidden
+abbrev pub sharesAnew : ℕ → Lending
+sharesAnew place = record { x = 0; y = 6 }
+
+abbrev pub plainSet : Box → TapeSet
+plainSet b number n = plainTape n pairNumber (sideOf b) number
+
+-- both boxes asleep, with room to work and two fresh tapes
+abbrev pub plainCommon : List Entry → Box → Common
+plainCommon entries b =
+    record {
+      entries = entries;
+      states = λ c. record { n = 0; side = 0; pair = 0; tally = 0; phase = Asleep };
+      tallies = λ c. 255 ∷ 255 ∷ [];
+      rooms = λ c. workLength 3;
+      pair = pairNumber;
+      others = plainSet (partner b);
+      lendings = sharesOf (partner b);
+    }
+
+abbrev pub zeros : Loose
+zeros = record { works = λ c k. 0; leftovers = λ place k. 0 }
+
+infixl 10 _does_
+abbrev pub _does_ : Box → Step → Entry
+b does s = record { box = b; step = s }
+
+abbrev pub wakes : Box → Entry
+wakes b = b does wake 3 (sideOf b) pairNumber
+
+-- a round from a place on: both speak, then both hear
+abbrev pub roundFrom : ℕ → ℕ → List Entry
+roundFrom place round =
+    let out : List ℕ = replicate (roundWords 3 round) 0 in
+    (first does speak 0 round (dealt first 0 3) out)
+    ∷ (second does speak 0 round (dealt second 0 3) out)
+    ∷ (first does hear 0 round (dealt first 0 3) (spokenAt (place + 1)))
+    ∷ (second does hear 0 round (dealt second 0 3) (spokenAt place))
+    ∷ []
+
+-- a whole job on tape 0, from a place on
+abbrev pub jobFrom : ℕ → List Entry
+jobFrom place =
+    (first does start 0 (dealt first 0 3))
+    ∷ (second does start 0 (dealt second 0 3))
+    ∷ roundFrom (place + 2) 1
+    ++ roundFrom (place + 6) 2
+    ++ roundFrom (place + 10) 3
+    ++ roundFrom (place + 14) 4
+    ++ roundFrom (place + 18) 5
+    ++ roundFrom (place + 22) 6
+
+unfoldable pub whole : List Entry
+whole = wakes first ∷ wakes second ∷ jobFrom 2
+
+-- at first the power fails in box 1's mark, which leaves FF there; the later job is on that very tape
+unfoldable pub again : List Entry
+again = wakes first ∷ wakes second ∷ (first does cutStart 0 (dealt first 0 3) 255) ∷ wakes first ∷ jobFrom 4
+
+-- the box answers at that place, on tape 0, with that share
+pub record AnswersAt (log : List Event) (place : ℕ) (b : Box) (v : ℕ) : Type 0 where
+  pub box : eventAt log place .box ≡ b
+  pub number : eventAt log place .number ≡ 0
+  pub width : eventAt log place .width ≡ 3
+  pub said : eventAt log place .said ≡ replied (share v)
+
+-- whichever box is to stay hidden: the list meets the premises, and both boxes answer with their last hears, from that place on
+pub record Possible (entries : List Entry) (place : ℕ) (b : Box) : Type 0 where
+  pub valid : Valid pairNumber b (plainSet (partner b)) (plainSet b)
+  pub premises : Premises (plainCommon entries b) b (sharesOf b) sharesAnew (plainSet b) zeros
+  pub first-answers : AnswersAt (events (plainCommon entries b) b (plainSet b) (sharesOf b) zeros) place first 2
+  pub second-answers : AnswersAt (events (plainCommon entries b) b (plainSet b) (sharesOf b) zeros) (place + 1) second 6
+
+-- the sum of the two answers is the bit of x < y
+abbrev pub RightSum : Type 0
+RightSum = (2 + 6) % modulus 3 ≡ indicator (ltb ((5 + 5) % modulus 3) ((1 + 3) % modulus 3))
+
+-- in the second list the power did fail in a mark: that start had passed its checks
+abbrev pub CutInMark : Type 0
+CutInMark =
+    let c = plainCommon again first in
+    let g = settingOf c first (plainSet first) (sharesOf first) zeros in
+    let m = run g 0 (worldOf c zeros) (wakes first ∷ wakes second ∷ []) .one in
+    startGround (m .state) 0 (g .shares first 2 .x) (g .shares first 2 .y) (tapeWords g (dealt first 0 3)) (m .work) (m .tally) ≡ 0
