@@ -74,6 +74,8 @@ module _ (g : Setting) (pair : ℕ) (book : Box → ℕ → ℕ → Lending) whe
   pub record Answered (e : Event) (v : ℕ) : Type 0 where
     pub width : listed (e .width) ≡ true
     pub is : v ≡ answerBy (g .tapes) book (e .box) (e .number) (e .width)
+    pub x-fits : book (e .box) (e .number) (e .width) .x < modulus (e .width)
+    pub y-fits : book (e .box) (e .number) (e .width) .y < modulus (e .width)
     pub silent : e .spoken ≡ []
 
   abbrev pub True-to : Event → Said → Type 0
@@ -207,25 +209,37 @@ module _ (g : Setting) (pair : ℕ) (book : Box → ℕ → ℕ → Lending) whe
     pub inside : InJob b (m .state) (m .work) turn number x y
     pub width : listed (m .state .n) ≡ true
     pub early : inside .heard < 6
+    pub x-fits : book b number (m .state .n) .x < modulus (m .state .n)
+    pub y-fits : book b number (m .state .n) .y < modulus (m .state .n)
     pub party-is : partyOf (m .state) tape ≡ partyAt (g .tapes) book b number (m .state .n)
 
-  -- a job's turn is of one of the six rounds
-  job-early : (s : State) (x y : ℕ) {turn : Turn} {number : ℕ} → isAsleep (modeOf s) ≡ false → s .phase ≡ Job turn number x y
-      → (past : ℕ) → roundOf turn ≡ suc past → past < 6
-  job-early s x y {turn} {number} awake job past count =
+  -- a job in range: its turn is of one of the six rounds, its shares are below p
+  record JobRange (s : State) (turn : Turn) (x y : ℕ) : Type 0 where
+    last : roundOf turn ≤ 6
+    x-fits : x < modulus (s .n)
+    y-fits : y < modulus (s .n)
+
+  job-range : (s : State) (x y : ℕ) {turn : Turn} {number : ℕ} → isAsleep (modeOf s) ≡ false → s .phase ≡ Job turn number x y → JobRange s turn x y
+  job-range s x y {turn} {number} awake job =
       let fits = subst (λ (p : Phase). phaseFits (s .n) (s .tally) p ≡ true) job (ranged s (awake-range s awake) .phased) in
-      let most = leb-true (roundOf turn) 6
-      (and-right (leb 1 (roundOf turn)) (leb (roundOf turn) 6)
-      (and-right (ltb number (tapesOf (s .tally))) (roundFits (roundOf turn))
-      (and-left (ltb number (tapesOf (s .tally)) && roundFits (roundOf turn)) (ltb x (modulus (s .n)))
-      (and-left (ltb number (tapesOf (s .tally)) && roundFits (roundOf turn) && ltb x (modulus (s .n))) (ltb y (modulus (s .n))) fits)))) in
-      omega (arith, most, count)
+      let two = ltb number (tapesOf (s .tally)) && roundFits (roundOf turn) in
+      let three = two && ltb x (modulus (s .n)) in
+      let threes = and-left three (ltb y (modulus (s .n))) fits in
+      let twos = and-left two (ltb x (modulus (s .n))) threes in
+      record {
+        last =
+          leb-true (roundOf turn) 6
+          (and-right (leb 1 (roundOf turn)) (leb (roundOf turn) 6) (and-right (ltb number (tapesOf (s .tally))) (roundFits (roundOf turn)) twos));
+        x-fits = ltb-true x (modulus (s .n)) (and-right two (ltb x (modulus (s .n))) threes);
+        y-fits = ltb-true y (modulus (s .n)) (and-right three (ltb y (modulus (s .n))) fits);
+      }
 
   going : (b : Box) (m : Memory) (number round : ℕ) (turn : Turn) (lent : Lent) → Holds b m
       → (awake : isAsleep (modeOf (m .state)) ≡ false) → Due (m .state) number turn → lent ≡ dealt b number (m .state .n)
       → Going b m number round turn (tapeWords g lent)
   going b m number round turn lent h awake d named =
       let l = awake-listed (m .state) awake in
+      let range = job-range (m .state) (d .x) (d .y) awake (d .job) in
       let inside : InJob b (m .state) (m .work) turn number (d .x) (d .y) = subst (Phased b (m .state) (m .work)) (d .job) (awake-phase b m h awake) in
       record {
         x = d .x;
@@ -233,7 +247,9 @@ module _ (g : Setting) (pair : ℕ) (book : Box → ℕ → ℕ → Lending) whe
         job = d .job;
         inside = inside;
         width = l;
-        early = job-early (m .state) (d .x) (d .y) awake (d .job) (inside .heard) (inside .count);
+        early = omega (arith, range .last, inside .count);
+        x-fits = rw (← inside .x-is) (range .x-fits);
+        y-fits = rw (← inside .y-is) (range .y-fits);
         party-is = rw (d .job, inside .own .side, inside .x-is, inside .y-is, named-tape lent b number (m .state .n) l named);
       }
 
@@ -345,7 +361,7 @@ module _ (g : Setting) (pair : ℕ) (book : Box → ℕ → ℕ → Lending) whe
         go true e =
             record {
               holds = record { holds = settle b _ work′ (record { side = j .inside .own .side; pair-is = j .inside .own .pair-is }) };
-              answer = record { width = j .width; is = answer-last (eqb-true round 6 e); silent = refl };
+              answer = record { width = j .width; is = answer-last (eqb-true round 6 e); x-fits = j .x-fits; y-fits = j .y-fits; silent = refl };
             }
         go false e =
             record {

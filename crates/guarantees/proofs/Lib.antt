@@ -13,5 +13,6 @@ pub mod Books
 pub mod Runs
 pub mod Pairs
 pub mod Views
+pub mod First
 pub mod Secrecy
-pub mod Possible
+pub mod Correctness

@@ -4,8 +4,8 @@ use mathlib.Core.Path.{_≡_, refl, sym, ap, subst, _∙_}
 use mathlib.Core.Bool.{Bool, true, false, _&&_, cond, false≢true, true≢false}
 use mathlib.Core.List.{List, [], _∷_, _++_, append-assoc, append-nil}
 use native.Mathlib.Omega.{arith}
-use borrow.Author.Tests.{eqb-true, eqb-false, eq-eqb, ne-eqb}
-use lib.Dec.{eqb}
+use borrow.Author.Tests.{eqb-true, eqb-false, eq-eqb, ltb-true, ltb-false}
+use lib.Dec.{eqb, ltb}
 use lib.ListN.{length, length-append}
 use Rattle.lists.proofs.Tests.{and-left, and-right, and-both, and-false}
 use Rattle.rules.specs.Answers.{Reply, fresh, started, spoke, heard, share, dropped, refused}
@@ -17,10 +17,10 @@ use Rattle.rules.specs.Calls.{Result, unless, partyOf, wakeRule, startRule, spe
 use Rattle.rules.proofs.Marks.{marked-spent, marked-other, cut-other}
 use Rattle.guarantees.specs.Boxes.{Box, first, second}
 use Rattle.guarantees.specs.Entries.{Lent, Step, wake, start, speak, hear, drop, cut, cutStart, Entry}
-use Rattle.guarantees.specs.Run.{Lending, Setting, Memory, Said, nothing, replied, Event, World, memoryOf, after, tapeWords, incomingWords, stepped, run}
+use Rattle.guarantees.specs.Run.{Lending, Setting, Memory, Said, nothing, replied, Event, World, memoryOf, after, eventAt, tapeWords, incomingWords, stepped, run}
 use Rattle.guarantees.specs.Places.{sameBox, isStarted, opens, openedAt}
 use Rattle.guarantees.proofs.Passed.{start-passed}
-use Rattle.guarantees.proofs.Logs.{log-length}
+use Rattle.guarantees.proofs.Logs.{log-length, event-before, event-end}
 
 -- no event of the log opened a job of this box under a number that is fresh
 abbrev pub Unopened : List Event → Box → ℕ → Type 0
@@ -199,19 +199,61 @@ marked-next g place w b (cutStart number lent value) h =
 
 -- ---- the log over a run
 
-pub record OneMore (log log′ : List Event) : Type 0 where
+-- one event more; if it opens a job, the number was fresh
+pub record OneMore (w : World) (log′ : List Event) : Type 0 where
   pub event : Event
-  pub is : log′ ≡ log ++ (event ∷ [])
+  pub is : log′ ≡ w .log ++ (event ∷ [])
+  pub fresh : (c : Box) (number : ℕ) → opens c number event ≡ true → isFresh (memoryOf w c .tally) number ≡ true
 
-pub one-more : (g : Setting) (place : ℕ) (w : World) (b : Box) (step : Step) → OneMore (w .log) (stepped g place w b step .log)
+dull-more : (w : World) (b : Box) (m : Memory) (e : Event) → isStarted (e .said) ≡ false → OneMore w (after w b m e .log)
+dull-more w b m e dull =
+    record {
+      event = e;
+      is = after-log w b m e;
+      fresh = λ c number opening. absurd (false≢true (sym (not-opening c number e dull) ∙ opening));
+    }
+
+pub same-box : (b c : Box) → sameBox b c ≡ true → b ≡ c
+same-box first first e = refl
+same-box first second e = absurd (false≢true e)
+same-box second first e = absurd (false≢true e)
+same-box second second e = refl
+
+start-fresh : (s : State) (number x y : ℕ) (tape work tally : List ℕ)
+    → isStarted (replied (startRule s number x y tape work tally .reply)) ≡ true → isFresh tally number ≡ true
+unfolding startRule
+start-fresh s number x y tape work tally =
+    decide (λ r. isStarted (replied (r .reply)) ≡ true → isFresh tally number ≡ true) (startGround s number x y tape work tally) s tally _
+    (λ zero-ground h. start-passed s number x y tape work tally zero-ground .fresh) (λ h. absurd (false≢true h))
+
+-- an opening is of its own box and number
+opening-fresh : (w : World) (b c : Box) (number k : ℕ) (t : Bool) → (t ≡ true → isFresh (memoryOf w b .tally) number ≡ true)
+    → sameBox c b && eqb k number && t ≡ true → isFresh (memoryOf w c .tally) k ≡ true
+opening-fresh w b c number k t fresh-there e =
+    let both = and-left (sameBox c b && eqb k number) t e in
+    rw (same-box c b (and-left (sameBox c b) (eqb k number) both), eqb-true k number (and-right (sameBox c b) (eqb k number) both))
+    (fresh-there (and-right (sameBox c b && eqb k number) t e))
+
+pub one-more : (g : Setting) (place : ℕ) (w : World) (b : Box) (step : Step) → OneMore w (stepped g place w b step .log)
 unfolding stepped
-one-more g place w b (wake n side p) = record { event = _; is = after-log w b _ _ }
-one-more g place w b (start number lent) = record { event = _; is = after-log w b _ _ }
-one-more g place w b (speak number round lent out) = record { event = _; is = after-log w b _ _ }
-one-more g place w b (hear number round lent incoming) = record { event = _; is = after-log w b _ _ }
-one-more g place w b drop = record { event = _; is = after-log w b _ _ }
-one-more g place w b cut = record { event = _; is = after-log w b _ _ }
-one-more g place w b (cutStart number lent value) = record { event = _; is = after-log w b _ _ }
+one-more g place w b (wake n side p) = dull-more w b _ _ (wake-opens (memoryOf w b .state) n side p (memoryOf w b .tally))
+one-more g place w b (start number lent) =
+    let m = memoryOf w b in
+    record {
+      event = _;
+      is = after-log w b _ _;
+      fresh =
+        λ c k opening.
+          opening-fresh w b c number k _
+          (start-fresh (m .state) number (g .shares b place .x) (g .shares b place .y) (tapeWords g lent) (m .work) (m .tally)) opening;
+    }
+one-more g place w b (speak number round lent out) =
+    dull-more w b _ _ (speak-opens (memoryOf w b .state) number round (tapeWords g lent) (memoryOf w b .work) out)
+one-more g place w b (hear number round lent incoming) =
+    dull-more w b _ _ (hear-opens (memoryOf w b .state) number round (tapeWords g lent) (memoryOf w b .work) (incomingWords (w .log) incoming))
+one-more g place w b drop = dull-more w b _ _ (drop-opens (memoryOf w b .state))
+one-more g place w b cut = dull-more w b _ _ refl
+one-more g place w b (cutStart number lent value) = dull-more w b _ _ refl
 
 pub next-place : (g : Setting) (place : ℕ) (w : World) (b : Box) (step : Step) → length (stepped g place w b step .log) ≡ suc (length (w .log))
 next-place g place w b step =
@@ -228,7 +270,7 @@ run-grows g place w (e ∷ es) =
       is = rest .is ∙ ap (λ (l : List Event). l ++ rest .more) (one .is) ∙ append-assoc (w .log) (one .event ∷ []) (rest .more);
     }
 
-same-self : (b : Box) → sameBox b b ≡ true
+pub same-self : (b : Box) → sameBox b b ≡ true
 same-self first = refl
 same-self second = refl
 
@@ -257,3 +299,50 @@ found g place w b number lent es h ground =
       eq-eqb (m .state .n) (m .state .n) refl,
     )
     refl)
+
+-- ---- a job is opened once
+
+-- each opening stands where the job's place is found
+abbrev pub Once : List Event → Type 0
+Once log =
+    (c : Box) (number n k : ℕ) → k < length log → opens c number (eventAt log k) && eqb n (eventAt log k .width) ≡ true
+    → openedAt log c number n ≡ k
+
+kept-by : (t : Bool) (here there : ℕ) (length : ℕ) → (there < length → here ≡ there)
+    → cond t 0 (suc there) < suc length → cond t 0 (suc here) ≡ cond t 0 (suc there)
+kept-by true here there length rest less = refl
+kept-by false here there length rest less = ap suc (rest (omega (arith, less)))
+
+opened-kept : (log more : List Event) (c : Box) (number n : ℕ) → openedAt log c number n < length log
+    → openedAt (log ++ more) c number n ≡ openedAt log c number n
+opened-kept [] more c number n less = absurd (omega (arith, less))
+opened-kept (e ∷ log) more c number n less =
+    kept-by (opens c number e && eqb n (e .width)) _ _ (length log) (opened-kept log more c number n) less
+
+pub once-next : (w : World) (log′ : List Event) → Marked w → OneMore w log′ → Once (w .log) → Once log′
+once-next w log′ marked one once c number n k less opening = go (ltb k (length (w .log))) refl
+  where
+    e : Event
+    e = one .event
+    grown : List Event
+    grown = w .log ++ (e ∷ [])
+    there : opens c number (eventAt grown k) && eqb n (eventAt grown k .width) ≡ true
+    there = subst (λ (l : List Event). opens c number (eventAt l k) && eqb n (eventAt l k .width) ≡ true) (one .is) opening
+    found-there : openedAt grown c number n ≡ k → openedAt log′ c number n ≡ k
+    found-there q = ap (λ (l : List Event). openedAt l c number n) (one .is) ∙ q
+    go : (t : Bool) → ltb k (length (w .log)) ≡ t → openedAt log′ c number n ≡ k
+    go true q =
+        let before = ltb-true k (length (w .log)) q in
+        let old =
+            once c number n k before
+            (subst (λ (d : Event). opens c number d && eqb n (d .width) ≡ true) (event-before (w .log) e k before) there) in
+        found-there (opened-kept (w .log) (e ∷ []) c number n (rw old before) ∙ old)
+    go false q =
+        let long : length log′ ≡ suc (length (w .log)) = ap length (one .is) ∙ log-length (w .log) e in
+        let last : k ≡ length (w .log) = omega (arith, ltb-false k (length (w .log)) q, less, long) in
+        let new =
+            subst (λ (d : Event). opens c number d && eqb n (d .width) ≡ true) (ap (eventAt grown) last ∙ event-end (w .log) e) there in
+        found-there
+        (at-end (w .log) e [] c number n
+        (marked .unopened c number (one .fresh c number (and-left (opens c number e) (eqb n (e .width)) new))) new
+        ∙ sym last)

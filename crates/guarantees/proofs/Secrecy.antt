@@ -2,7 +2,7 @@
 -- ask; where that was is the same in both runs.
 use Prim.Native.Nat.{ℕ, zero, suc, _<_}
 use mathlib.Core.Path.{_≡_, refl, sym, ap, subst, _∙_}
-use mathlib.Core.Bool.{true, false≢true}
+use mathlib.Core.Bool.{true}
 use mathlib.Core.List.{List, [], _∷_}
 use mathlib.Core.Logic.{inl}
 use lib.ListN.{length}
@@ -16,9 +16,6 @@ use Rattle.protocol.specs.Change.{sharesOf}
 use Rattle.protocol.specs.Shift.{shifted}
 use Rattle.protocol.specs.Pairing.{LooksAlike, Moves}
 use Rattle.protocol.proofs.Secrecy.{moves}
-use Rattle.rules.specs.Modes.{modeOf, isAsleep}
-use Rattle.rules.specs.declared.state.Phase.{Phase}
-use Rattle.rules.specs.declared.state.Phase.the-variants.{Asleep, Idle, Job}
 use Rattle.rules.specs.declared.state.State.{State}
 use Rattle.guarantees.specs.Boxes.{Box, first, second, sideOf, partner}
 use Rattle.guarantees.specs.Entries.{Step, wake, start, speak, hear, drop, cut, cutStart, Entry}
@@ -29,8 +26,7 @@ use Rattle.guarantees.specs.View.{view}
 use Rattle.guarantees.specs.Secrecy.{TapeSet, Valid, byBox, Common, Loose, memoryAt, worldOf, settingOf, events, Premises, Hidden, Paired}
 use Rattle.guarantees.proofs.Twins.{Twin, TwinMemory, Skeleton, same}
 use Rattle.guarantees.proofs.Logs.{same-event}
-use Rattle.guarantees.proofs.Follows.{Phased, Holds, Follows}
-use Rattle.guarantees.proofs.Openings.{Marked}
+use Rattle.guarantees.proofs.First.{follows-first, marked-first}
 use Rattle.guarantees.proofs.Joint.{Alike, Joint, views}
 use Rattle.guarantees.proofs.Books.{clip, clip-y, bookOf}
 use Rattle.guarantees.proofs.Runs.{Both, both}
@@ -67,15 +63,6 @@ moves-at c b log shares shares′ number n l =
 
 -- ---- both runs at first
 
-asleep-phased : (g : Setting) (pair : ℕ) (book : Box → ℕ → ℕ → Lending) (b : Box) (s : State) (work : List ℕ) → isAsleep (modeOf s) ≡ true
-    → Phased g pair book b s work (modeOf s)
-asleep-phased g pair book b s work h = go (modeOf s) h
-  where
-    go : (p : Phase) → isAsleep p ≡ true → Phased g pair book b s work p
-    go Asleep q = tt
-    go Idle q = absurd (false≢true q)
-    go (Job turn number x y) q = absurd (false≢true q)
-
 twin-first : (c : Common) (w w′ : Loose) (b : Box) → TwinMemory (memoryAt c w b) (memoryAt c w′ b)
 twin-first c w w′ b =
     record {
@@ -84,13 +71,9 @@ twin-first c w w′ b =
       room = length-tabulate (c .rooms b) (w .works b) ∙ sym (length-tabulate (c .rooms b) (w′ .works b));
     }
 
-follows-first : (c : Common) (w w′ : Loose) (g : Setting) (book : Box → ℕ → ℕ → Lending) → AtFirst (worldOf c w)
-    → Follows g (c .pair) book (worldOf c w′)
-follows-first c w w′ g book at = record { each = each; events = λ k. refl }
-  where
-    each : (b : Box) → Holds g (c .pair) book b (memoryOf (worldOf c w′) b)
-    each first = record { holds = asleep-phased g (c .pair) book first _ _ (at .first-asleep) }
-    each second = record { holds = asleep-phased g (c .pair) book second _ _ (at .second-asleep) }
+-- what work holds does not matter
+first-again : (c : Common) (w w′ : Loose) → AtFirst (worldOf c w) → AtFirst (worldOf c w′)
+first-again c w w′ at = record { first-asleep = at .first-asleep; second-asleep = at .second-asleep; no-events = refl }
 
 joint-first : (c : Common) (b : Box) (g g′ : Setting) (book book′ : Box → ℕ → ℕ → Lending) (w w′ : Loose) → AtFirst (worldOf c w)
     → Joint b g g′ (c .pair) book book′ (worldOf c w) (worldOf c w′)
@@ -103,8 +86,8 @@ joint-first c b g g′ book book′ w w′ at =
             places = refl;
             events = λ k. same-event quiet;
           };
-      follows = follows-first c w w g book at;
-      follows′ = follows-first c w w′ g′ book′ at;
+      follows = follows-first g (c .pair) book (worldOf c w) at;
+      follows′ = follows-first g′ (c .pair) book′ (worldOf c w′) (first-again c w w′ at);
       heard-same = λ k. refl;
     }
 
@@ -189,9 +172,6 @@ module _ (c : Common) (b : Box) where
         answer = λ number n l. refl;
       }
 
-  marked-first : (w : Loose) → Marked (worldOf c w)
-  marked-first w = record { unopened = λ d number f. tt }
-
   module _ (shares shares′ : ℕ → Lending) (own : TapeSet) (valid : Valid (c .pair) b (c .others) own) (w : Loose)
       (premises : Premises c b shares shares′ own w) where
     -- the places do not depend on what work holds
@@ -200,7 +180,7 @@ module _ (c : Common) (b : Box) where
         let a = self (events c b own shares w) shares own w zeros valid in
         let r =
         both b _ _ (c .pair) (events c b own shares w) a (c .entries) 0 (worldOf c w) (worldOf c zeros)
-        (joint-first c b _ _ _ _ w zeros (premises .asleep)) (marked-first w) refl refl (premises .meets)
+        (joint-first c b _ _ _ _ w zeros (premises .asleep)) (marked-first (worldOf c w) (premises .asleep)) refl refl (premises .meets)
         (compatible-self (settingOf c b own shares w) 0 (worldOf c w) (c .entries)) in
         sym (opened-same b (events c b own shares w) (events c b own shares zeros) (views b _ _ (c .pair) _ _ a _ _ (r .joint)) d number n)
 
@@ -209,7 +189,7 @@ module _ (c : Common) (b : Box) where
         (alike (events c b own shares w) (events c b own shares zeros) steady shares shares′ own w w′ valid) (c .entries) 0 (worldOf c w) (worldOf c w′)
     run-both w′ =
         both b _ _ (c .pair) (events c b own shares w) _ (c .entries) 0 (worldOf c w) (worldOf c w′)
-        (joint-first c b _ _ _ _ w w′ (premises .asleep)) (marked-first w) refl refl (premises .meets) (premises .compatible)
+        (joint-first c b _ _ _ _ w w′ (premises .asleep)) (marked-first (worldOf c w) (premises .asleep)) refl refl (premises .meets) (premises .compatible)
 
     looks-same : (w′ : Loose) → view b (events c b own shares w) ≡ view b (events c b (mapOf c b shares shares′ own) shares′ w′)
     looks-same w′ = views b _ _ (c .pair) _ _ (alike (events c b own shares w) (events c b own shares zeros) steady shares shares′ own w w′ valid) _ _ (run-both w′ .joint)
@@ -217,7 +197,7 @@ module _ (c : Common) (b : Box) where
     meets-too : (w′ : Loose) → Premises c b shares′ shares (mapOf c b shares shares′ own) w′
     meets-too w′ =
         record {
-          asleep = record { first-asleep = premises .asleep .first-asleep; second-asleep = premises .asleep .second-asleep; no-events = refl };
+          asleep = first-again c w w′ (premises .asleep);
           meets = run-both w′ .meets;
           compatible = run-both w′ .compatible;
         }

@@ -5,4 +5,5 @@ pub mod Premises
 pub mod Places
 pub mod View
 pub mod Secrecy
+pub mod Correctness
 pub mod Possible

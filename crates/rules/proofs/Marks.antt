@@ -1,4 +1,5 @@
--- The laws of the tally that the calls and the lists go by: a mark is not fresh, and a mark or a cut at one number changes no other's.
+-- The laws of the tally that the calls and the lists go by: a mark is not fresh, a cut leaves a tape fresh only by FF, and a mark or a cut at
+-- one number changes no other's.
 use Prim.Native.Nat.{ℕ, _<_}
 use mathlib.Core.Path.{_≡_, refl, ap}
 use mathlib.Core.Bool.{false}
@@ -8,9 +9,16 @@ use lib.ListN.{length, getD, set, length-set}
 use lib.Seq.{getD-set-same, getD-set-other}
 use Rattle.rules.specs.Tally.{tapesOf, isFresh, marked, cutMarked}
 
+-- after a cut the tape is fresh just where the cut left FF
+pub cut-leaves : (tally : List ℕ) (number value : ℕ) → number < tapesOf (length tally)
+    → isFresh (cutMarked tally number value) number ≡ eqb value 255
+unfolding tapesOf isFresh cutMarked
+cut-leaves tally number value less = rw (getD-set-same tally number value 0 less) refl
+
+-- a start's mark is 00
 pub marked-spent : (tally : List ℕ) (number : ℕ) → number < tapesOf (length tally) → isFresh (marked tally number) number ≡ false
-unfolding tapesOf isFresh marked
-marked-spent tally number less = rw (getD-set-same tally number 0 0 less) refl
+unfolding marked cutMarked
+marked-spent tally number less = cut-leaves tally number 0 less
 
 pub marked-other : (tally : List ℕ) (number k : ℕ) → (k ≡ number → ⊥) → isFresh (marked tally number) k ≡ isFresh tally k
 unfolding isFresh marked

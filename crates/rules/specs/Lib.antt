@@ -3,3 +3,4 @@ pub mod Tally
 pub mod Modes
 pub mod Grounds
 pub mod Calls
+pub mod Answering
