@@ -1,27 +1,16 @@
--- Lists of words below p: tabulated ones, and the sections of a readable tape. What is read past the end is 0, which is below p too.
+-- The sections of a readable tape are words below p. What is read past the end is 0, which is below p too.
 use Prim.Native.Nat.{ℕ, _<_}
 use mathlib.Core.List.{List}
 use mathlib.Core.Logic.{by-cases}
 use native.Mathlib.Decide.{decLt}
 use native.Mathlib.Omega.{arith}
 use lib.ListN.{List·getD-eq-default}
-use Rattle.lists.specs.Tabulate.{tabulate}
-use Rattle.lists.proofs.Tabulate.{length-tabulate, getD-tabulate}
 use Rattle.field.specs.Width.{modulus}
 use Rattle.field.proofs.Widths.{bounds}
 use Rattle.tape.specs.Layout.{section, sectionLength}
 use Rattle.tape.specs.Order.{Readable}
 use Rattle.tape.proofs.Sections.{section-length, section-below}
 use Rattle.protocol.specs.Words.{Below}
-
--- words that a function below p gives
-pub tabulated-below : {p : ℕ} (count : ℕ) (f : ℕ → ℕ) → ((i : ℕ) → f i < p) → Below p (tabulate count f)
-tabulated-below count f h =
-    record {
-      at = λ i. by-cases (decLt i count)
-          (λ inside. rw (getD-tabulate count f i 0 inside) (h i))
-          (λ outside. rw (List·getD-eq-default (tabulate count f) 0 {n = i} (rw (length-tabulate count f) (omega arith))) (omega (arith, h 0)));
-    }
 
 module _ {n : ℕ} {tape : List ℕ} (r : Readable n tape) (which : ℕ) (l : which < 3) where
   pub section-words : Below (modulus n) (section n which tape)

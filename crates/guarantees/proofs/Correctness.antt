@@ -29,7 +29,7 @@ use Rattle.guarantees.specs.Correctness.{Told, Right, Correctness}
 use Rattle.guarantees.proofs.Jobs.{blank, answerBy}
 use Rattle.guarantees.proofs.Openings.{Marked, marked-next, Once, once-next, one-more, next-place, run-grows, found, same-box, same-self}
 use Rattle.guarantees.proofs.First.{follows-first, marked-first, once-first}
-use Rattle.guarantees.proofs.Follows.{ Answered, True-to, Follows, Booked, follows-next}
+use Rattle.guarantees.proofs.Follows.{Answered, True-to, Follows, Booked, follows-next}
 
 -- ---- the shares that opened each job; out of range where none was opened
 
@@ -45,14 +45,14 @@ module _ (g : Setting) (pair : ℕ) (log : List Event) where
   booked es place w c (wake n side p) marked at end = tt
   booked es place w c (start number lent) marked at end =
       λ ground.
-        let n = memoryOf w c .state .n in
-        let grown = run-grows g (suc place) (stepped g place w c (start number lent)) es in
-        let long : length log ≡ suc (length (w .log)) + length (grown .more) =
-            ap length (sym end ∙ grown .is) ∙ length-append (stepped g place w c (start number lent) .log) (grown .more)
-            ∙ ap (λ (k : ℕ). k + length (grown .more)) (next-place g place w c (start number lent)) in
-        let here : openedAt log c number n ≡ place =
-            ap (λ (l : List Event). openedAt l c number n) (sym end) ∙ found g place w c number lent es marked ground ∙ at in
-        ap (bookAt (g .shares) (length log) n c) here ∙ rw (lt-ltb place (length log) (omega (arith, long, at))) refl
+      let n = memoryOf w c .state .n in
+      let grown = run-grows g (suc place) (stepped g place w c (start number lent)) es in
+      let long : length log ≡ suc (length (w .log)) + length (grown .more) =
+      ap length (sym end ∙ grown .is) ∙ length-append (stepped g place w c (start number lent) .log) (grown .more)
+      ∙ ap (λ (k : ℕ). k + length (grown .more)) (next-place g place w c (start number lent)) in
+      let here : openedAt log c number n ≡ place =
+      ap (λ (l : List Event). openedAt l c number n) (sym end) ∙ found g place w c number lent es marked ground ∙ at in
+      ap (bookAt (g .shares) (length log) n c) here ∙ rw (lt-ltb place (length log) (omega (arith, long, at))) refl
   booked es place w c (speak number round lent out) marked at end = tt
   booked es place w c (hear number round lent incoming) marked at end = tt
   booked es place w c drop marked at end = tt
@@ -71,7 +71,7 @@ module _ (g : Setting) (pair : ℕ) (log : List Event) where
       ran es (suc place) (stepped g place w (e .box) (e .step))
       (record {
         follows =
-          follows-next g pair (book (g .shares) log) place w (e .box) (e .step) (r .follows) (meets .0) (booked es place w (e .box) (e .step) marked at end);
+            follows-next g pair (book (g .shares) log) place w (e .box) (e .step) (r .follows) (meets .0) (booked es place w (e .box) (e .step) marked at end);
         once = once-next w _ marked (one-more g place w (e .box) (e .step)) (r .once);
       })
       (marked-next g place w (e .box) (e .step) marked) (next-place g place w (e .box) (e .step) ∙ ap suc at) end (meets .1)
@@ -95,10 +95,10 @@ opened-there (e ∷ log) c number n less = go (opens c number e && eqb n (e .wid
   where
     go : (t : Bool) → opens c number e && eqb n (e .width) ≡ t
         → (openedAt log c number n < length log
-          → opens c number (eventAt log (openedAt log c number n)) && eqb n (eventAt log (openedAt log c number n) .width) ≡ true)
+        → opens c number (eventAt log (openedAt log c number n)) && eqb n (eventAt log (openedAt log c number n) .width) ≡ true)
         → cond t 0 (suc (openedAt log c number n)) < suc (length log)
         → opens c number (eventAt (e ∷ log) (cond t 0 (suc (openedAt log c number n))))
-          && eqb n (eventAt (e ∷ log) (cond t 0 (suc (openedAt log c number n))) .width)
+        && eqb n (eventAt (e ∷ log) (cond t 0 (suc (openedAt log c number n))) .width)
         ≡ true
     go true q rest less′ = q
     go false q rest less′ = rest (omega (arith, less′))
@@ -162,8 +162,8 @@ exchange-right : (tapes : Box → ℕ → ℕ → List ℕ) (lent : Box → ℕ 
     → Matched n pair number (sideOf first) (tapes first number n) (tapes second number n)
     → lent first number n .y < modulus n → lent second number n .y < modulus n
     → Cong (modulus n) (answerBy tapes lent first number n + answerBy tapes lent second number n)
-      (indicator
-      (ltb ((lent first number n .x + lent second number n .x) % modulus n) ((lent first number n .y + lent second number n .y) % modulus n)))
+    (indicator
+    (ltb ((lent first number n .x + lent second number n .x) % modulus n) ((lent first number n .y + lent second number n .y) % modulus n)))
 unfolding other
 exchange-right tapes lent pair number n m l1 l2 =
     right m (lent first number n .x) (lent first number n .y) (lent second number n .x) (lent second number n .y) l1 l2 (blank n)
@@ -187,19 +187,25 @@ correctness g pair w entries at dealt meets k1 k2 number n v1 v2 t1 t2 =
   where
     log : List Event
     log = run g 0 w entries .log
+
     whole : Ran g pair log (run g 0 w entries)
     whole =
         ran g pair log entries 0 w (record { follows = follows-first g pair (book (g .shares) log) w at; once = once-first w at }) (marked-first w at)
         (ap length (at .no-events)) refl meets
+
     a1 : Answered g pair (book (g .shares) log) (record { box = first; number = number; width = n; round = 0; said = nothing; spoken = []; incoming = [] }) v1
     a1 = answer-told g pair log log k1 first number n v1 (whole .follows .events) t1
+
     a2 : Answered g pair (book (g .shares) log) (record { box = second; number = number; width = n; round = 0; said = nothing; spoken = []; incoming = [] }) v2
     a2 = answer-told g pair log log k2 second number n v2 (whole .follows .events) t2
+
     before : (c : Box) → openedAt log c number n < length log
     before first = opened-before (g .shares) log first number n (a1 .x-fits)
     before second = opened-before (g .shares) log second number n (a2 .x-fits)
+
     lent : Box → Lending
     lent c = book (g .shares) log c number n
+
     added : (v1 + v2) % modulus n ≡ bitOf n (g .shares first (openedAt log first number n)) (g .shares second (openedAt log second number n))
     added =
         ap (λ (k : ℕ). (k + v2) % modulus n) (a1 .is)

@@ -32,7 +32,7 @@ use Rattle.guarantees.specs.Entries.{Lent, dealt, loose, Incoming, spoke
 use Rattle.guarantees.specs.Run.{Lending, Setting, Memory, Said, nothing, replied, Event, World, memoryOf, after, quiet, eventAt, tapeWords, incomingWords, spokenWords, stepped}
 use Rattle.guarantees.specs.Premises.{True, Keeps}
 use Rattle.guarantees.proofs.Jobs.{partyAt, holding, sentBy, answerBy, sent-is, holding-next, answer-is, holding-room}
-use Rattle.guarantees.proofs.Passed.{pass, awake-range, Ranged, ranged, StartPassed, start-passed, SpeakPassed, speak-passed, HearPassed, hear-passed, awake-mode, awake-listed, Due, due-job}
+use Rattle.guarantees.proofs.Passed.{decide, spoken-front, pass, awake-range, Ranged, ranged, StartPassed, start-passed, SpeakPassed, speak-passed, HearPassed, hear-passed, awake-mode, awake-listed, Due, due-job}
 
 module _ (g : Setting) (pair : ℕ) (book : Box → ℕ → ℕ → Lending) where
   -- ---- what holds of one box
@@ -119,15 +119,6 @@ module _ (g : Setting) (pair : ℕ) (book : Box → ℕ → ℕ → Lending) whe
 
   asleep-holds : (b : Box) (s : State) (work tally : List ℕ) → Holds b (record { state = asleepState s; work = work; tally = tally })
   asleep-holds b s work tally = record { holds = settle b (asleepState s) work tt }
-
-  -- refused, or not: what holds of the rule's result
-  decide : (P : Result → Type 0) (k : ℕ) (s : State) (buffer : List ℕ) (ok : Result) → (k ≡ 0 → P ok)
-      → P (record { reply = refused k; state = s; buffer = buffer }) → P (unless k s buffer ok)
-  decide P k s buffer ok passed failed = go (eqb k 0) refl
-    where
-      go : (t : Bool) → eqb k 0 ≡ t → P (cond t ok (record { reply = refused k; state = s; buffer = buffer }))
-      go true e = passed (eqb-true k 0 e)
-      go false e = failed
 
   -- a box keeps what it held
   kept : (b : Box) (m : Memory) (tally : List ℕ) → Holds b m → Holds b (record { state = m .state; work = m .work; tally = tally })
@@ -228,8 +219,8 @@ module _ (g : Setting) (pair : ℕ) (book : Box → ℕ → ℕ → Lending) whe
       let twos = and-left two (ltb x (modulus (s .n))) threes in
       record {
         last =
-          leb-true (roundOf turn) 6
-          (and-right (leb 1 (roundOf turn)) (leb (roundOf turn) 6) (and-right (ltb number (tapesOf (s .tally))) (roundFits (roundOf turn)) twos));
+            leb-true (roundOf turn) 6
+            (and-right (leb 1 (roundOf turn)) (leb (roundOf turn) 6) (and-right (ltb number (tapesOf (s .tally))) (roundFits (roundOf turn)) twos));
         x-fits = ltb-true x (modulus (s .n)) (and-right two (ltb x (modulus (s .n))) threes);
         y-fits = ltb-true y (modulus (s .n)) (and-right three (ltb y (modulus (s .n))) fits);
       }
@@ -254,10 +245,6 @@ module _ (g : Setting) (pair : ℕ) (book : Box → ℕ → ℕ → Lending) whe
       }
 
   -- ---- speak
-
-  front : (out msg : List ℕ) (k : ℕ) → length msg ≡ k → k ≤ length out → take k (sets out 0 msg) ≡ msg
-  front out msg k e room =
-      ap (λ (l : List ℕ). take k l) (sets-front out msg (omega arith)) ∙ take-at msg _ k e
 
   -- the state goes on to hear, and the words are the exchange's
   pub record Spoken (b : Box) (m : Memory) (number round : ℕ) (r : Result) : Type 0 where
@@ -295,8 +282,7 @@ module _ (g : Setting) (pair : ℕ) (book : Box → ℕ → ℕ → Lending) whe
           round-is = i .count;
           early = j .early;
           words =
-              front out (message (partyOf (m .state) (tapeWords g lent)) (m .work) round) (roundWords (m .state .n) round)
-              (message-length (partyOf (m .state) (tapeWords g lent)) (m .work) round ∙ rw (j .party-is)) (p .out-room)
+              spoken-front (m .state) (tapeWords g lent) (m .work) out round (p .out-room)
               ∙ rw (j .party-is, i .count)
               (message-live (partyAt (g .tapes) book b number (m .state .n)) (i .heard) (m .work) (holding (g .tapes) book b number (m .state .n) (i .heard)) (i .live)
               ∙ sym (sent-is (g .tapes) book b number (m .state .n) (i .heard)));

@@ -25,7 +25,8 @@ use Rattle.guarantees.proofs.Jobs.{sentBy, answerBy}
 use Rattle.guarantees.proofs.Turns.{asleep-same}
 use Rattle.guarantees.proofs.Refusals.{SharesAlike, wake-same, start-same, speak-same, hear-same}
 use Rattle.guarantees.proofs.Skeletons.{Fit, memories, next}
-use Rattle.guarantees.proofs.Covers.{isSpoke, spoke-same, uncover, uncover-spoke, said-to}
+use Rattle.guarantees.proofs.Covers.{isSpoke, spoke-same, uncover, said-to}
+use Rattle.guarantees.proofs.Fits.{InOrder, order-same, start-fit, true-too}
 use Rattle.guarantees.proofs.Follows.{Uttered, Answered, True-to, Follows, Booked, follows-next}
 
 -- ---- what is told of an event
@@ -80,49 +81,12 @@ incoming-after : (w w′ : World) (c : Box) (m m′ : Memory) (e e′ : Event) �
 incoming-after w w′ first m m′ e e′ long old new = incoming-more (w .log) (w′ .log) e e′ long old new
 incoming-after w w′ second m m′ e e′ long old new = incoming-more (w .log) (w′ .log) e e′ long old new
 
--- ---- shares
-
--- asleep, or below p alike
-share-alike : (m : Memory) (v v′ : ℕ) → InBoth m v v′
-    → (isAsleep (modeOf (m .state)) ≡ true) ⊎ (ltb v (modulus (m .state .n)) ≡ ltb v′ (modulus (m .state .n)))
-share-alike m v v′ (inl e) = inr (rw e)
-share-alike m v v′ (inr (inl asleep)) = inl asleep
-share-alike m v v′ (inr (inr fits)) = inr (lt-ltb _ _ (fits .0) ∙ sym (lt-ltb _ _ (fits .1)))
-
-shares-alike : (m : Memory) (x y x′ y′ : ℕ) → InBoth m x x′ → InBoth m y y′ → SharesAlike (m .state) x y x′ y′
-shares-alike m x y x′ y′ hx hy = go (share-alike m x x′ hx) (share-alike m y y′ hy)
-  where
-    go : (isAsleep (modeOf (m .state)) ≡ true) ⊎ (ltb x (modulus (m .state .n)) ≡ ltb x′ (modulus (m .state .n)))
-        → (isAsleep (modeOf (m .state)) ≡ true) ⊎ (ltb y (modulus (m .state .n)) ≡ ltb y′ (modulus (m .state .n)))
-        → SharesAlike (m .state) x y x′ y′
-    go (inl a) q = inl a
-    go (inr p) (inl a) = inl a
-    go (inr p) (inr q) = inr (p, q)
-
--- seen from the second run
-in-both-back : {m m′ : Memory} (v v′ : ℕ) → TwinMemory m m′ → InBoth m v v′ → InBoth m′ v′ v
-in-both-back v v′ t (inl e) = inl (sym e)
-in-both-back v v′ t (inr (inl asleep)) = inr (inl (sym (asleep-same (t .state)) ∙ asleep))
-in-both-back v v′ t (inr (inr fits)) = inr (inr (rw (← t .state .n) (fits .1), rw (← t .state .n) (fits .0)))
-
-pub compatible-back : (g g′ : Setting) (place : ℕ) (w w′ : World) (c : Box) (step : Step) → Skeleton w w′ → Compatible (g′ .shares) g place w c step
-    → Compatible (g .shares) g′ place w′ c step
-compatible-back g g′ place w w′ c (wake n side p) k h = tt
-compatible-back g g′ place w w′ c (start number lent) k h =
-    (in-both-back _ _ (memories c k) (h .0), in-both-back _ _ (memories c k) (h .1))
-compatible-back g g′ place w w′ c (speak number round lent out) k h = tt
-compatible-back g g′ place w w′ c (hear number round lent incoming) k h = tt
-compatible-back g g′ place w w′ c drop k h = tt
-compatible-back g g′ place w w′ c cut k h = tt
-compatible-back g g′ place w w′ c (cutStart number lent value) k h =
-    (in-both-back _ _ (memories c k) (h .0), in-both-back _ _ (memories c k) (h .1))
-
 -- two books of shares, and two settings
 module _ (b : Box) (g g′ : Setting) (pair : ℕ) (book book′ : Box → ℕ → ℕ → Lending) where
   -- the dealt tapes are in order, and each key's exchange looks the same under both
   pub record Alike : Type 0 where
-    pub orders : (c : Box) (number n : ℕ) → listed n ≡ true → inOrder n pair (sideOf c) number (g .tapes c number n) ≡ true
-    pub orders′ : (c : Box) (number n : ℕ) → listed n ≡ true → inOrder n pair (sideOf c) number (g′ .tapes c number n) ≡ true
+    pub orders : InOrder g pair
+    pub orders′ : InOrder g′ pair
     pub sent : (c : Box) (number n r : ℕ) → listed n ≡ true → r < 6
         → sentBy (g .tapes) book c number n (suc r) ≡ sentBy (g′ .tapes) book′ c number n (suc r)
     pub answer : (number n : ℕ) → listed n ≡ true
@@ -192,60 +156,22 @@ module _ (b : Box) (g g′ : Setting) (pair : ℕ) (book book′ : Box → ℕ �
     words-same (spokenAt place) = spoken-same place
     words-same (other words) = refl
 
-    order-same : (n p side number : ℕ) (lent : Lent)
-        → inOrder n p side number (tapeWords g lent) ≡ inOrder n p side number (tapeWords g′ lent)
-    order-same n p side number (loose words) = refl
-    order-same n p side number (dealt c k width) = go (listed width) refl
-      where
-        go : (t : Bool) → listed width ≡ t
-            → inOrder n p side number (cond t (g .tapes c k width) []) ≡ inOrder n p side number (cond t (g′ .tapes c k width) [])
-        go false q = refl
-        go true q = order-alike width pair (sideOf c) k n p side number _ _ (a .orders c k width q) (a .orders′ c k width q)
-
-    start-fit : (place : ℕ) (c : Box) (number : ℕ) (lent : Lent)
-        → InBoth (memoryOf w c) (g .shares c place .x) (g′ .shares c place .x) → InBoth (memoryOf w c) (g .shares c place .y) (g′ .shares c place .y)
-        → Fit g g′ place w w′ c (start number lent)
-    start-fit place c number lent hx hy =
-        let m = memoryOf w c in
-        let m′ = memoryOf w′ c in
-        let t = memories c (j .skeleton) in
-        start-same number _ _ (g′ .shares c place .x) (g′ .shares c place .y) _ (tapeWords g′ lent) _ (m′ .work) (m .tally) (t .state) (t .room)
-        (order-same (m .state .n) (m .state .pair) (m .state .side) number lent) (shares-alike m _ _ _ _ hx hy)
-        ∙ ap (startGround (m′ .state) number (g′ .shares c place .x) (g′ .shares c place .y) (tapeWords g′ lent) (m′ .work)) (t .tally)
-
     -- the same ground of refusal in both runs
     pub fit : (place : ℕ) (c : Box) (step : Step) → Compatible (g′ .shares) g place w c step → Fit g g′ place w w′ c step
     fit place c (wake n side p) h = tt
-    fit place c (start number lent) h = start-fit place c number lent (h .0) (h .1)
+    fit place c (start number lent) h = start-fit g g′ pair (a .orders) (a .orders′) w w′ (j .skeleton) place c number lent (h .0) (h .1)
     fit place c (speak number round lent out) h =
         let m = memoryOf w c in
         let t = memories c (j .skeleton) in
-        speak-same number round _ _ _ _ out (t .state) (t .room) (order-same (m .state .n) (m .state .pair) (m .state .side) number lent)
+        speak-same number round _ _ _ _ out (t .state) (t .room) (order-same g g′ pair (a .orders) (a .orders′) (m .state .n) (m .state .pair) (m .state .side) number lent)
     fit place c (hear number round lent incoming) h =
         let m = memoryOf w c in
         let t = memories c (j .skeleton) in
-        hear-same number round _ _ _ _ _ _ (t .state) (t .room) (order-same (m .state .n) (m .state .pair) (m .state .side) number lent)
+        hear-same number round _ _ _ _ _ _ (t .state) (t .room) (order-same g g′ pair (a .orders) (a .orders′) (m .state .n) (m .state .pair) (m .state .side) number lent)
         (ap length (words-same incoming)) (ap (wordsFit (m .state .n)) (words-same incoming))
     fit place c drop h = tt
     fit place c cut h = tt
-    fit place c (cutStart number lent value) h = start-fit place c number lent (h .0) (h .1)
-
-    -- a message true in the first run is true in the second
-    true-too : (c : Box) (number n n′ round : ℕ) (incoming : Incoming) → n ≡ n′ → True (w .log) c number n round incoming
-        → True (w′ .log) c number n′ round incoming
-    true-too c number n n′ round incoming width t =
-        let se = j .skeleton .events (t .place) in
-        record {
-          place = t .place;
-          named = t .named;
-          earlier = rw (← j .skeleton .places) (t .earlier);
-          by = sym (se .box) ∙ t .by;
-          numbered = sym (se .number) ∙ t .numbered;
-          wide = sym (se .width) ∙ t .wide ∙ width;
-          rounded = sym (se .round) ∙ t .rounded;
-          count = t .count;
-          uttered = uncover-spoke _ (t .count) (sym (se .said) ∙ ap covered (t .uttered));
-        }
+    fit place c (cutStart number lent value) h = start-fit g g′ pair (a .orders) (a .orders′) w w′ (j .skeleton) place c number lent (h .0) (h .1)
 
     -- the second run keeps to the premises
     pub keeps-too : (place : ℕ) (c : Box) (step : Step) → Fit g g′ place w w′ c step → Keeps g pair place w c step → Keeps g′ pair place w′ c step
@@ -258,7 +184,7 @@ module _ (b : Box) (g g′ : Setting) (pair : ℕ) (book book′ : Box → ℕ �
         λ ground.
         let k = h (f ∙ ground) in
         let width = memories c (j .skeleton) .state .n in
-        (k .0 ∙ ap (dealt c number) width, true-too c number _ _ round incoming width (k .1))
+        (k .0 ∙ ap (dealt c number) width, true-too w w′ (j .skeleton) c number _ _ round incoming width (k .1))
     keeps-too place c drop f h = tt
     keeps-too place c cut f h = tt
     keeps-too place c (cutStart number lent value) f h = λ ground. h (f ∙ ground) ∙ ap (dealt c number) (memories c (j .skeleton) .state .n)

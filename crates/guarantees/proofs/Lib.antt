@@ -8,6 +8,8 @@ pub mod Refusals
 pub mod Logs
 pub mod Skeletons
 pub mod Covers
+pub mod Fits
+pub mod Steady
 pub mod Joint
 pub mod Books
 pub mod Runs
@@ -16,3 +18,4 @@ pub mod Views
 pub mod First
 pub mod Secrecy
 pub mod Correctness
+pub mod Possible

@@ -19,7 +19,7 @@ use Rattle.guarantees.specs.Boxes.{Box, first, second}
 use Rattle.guarantees.specs.Entries.{Lent, Step, wake, start, speak, hear, drop, cut, cutStart, Entry}
 use Rattle.guarantees.specs.Run.{Lending, Setting, Memory, Said, nothing, replied, Event, World, memoryOf, after, eventAt, tapeWords, incomingWords, stepped, run}
 use Rattle.guarantees.specs.Places.{sameBox, isStarted, opens, openedAt}
-use Rattle.guarantees.proofs.Passed.{start-passed}
+use Rattle.guarantees.proofs.Passed.{decide, start-passed}
 use Rattle.guarantees.proofs.Logs.{log-length, event-before, event-end}
 
 -- no event of the log opened a job of this box under a number that is fresh
@@ -76,14 +76,6 @@ marked-after w second m e h at keeps = record { unopened = go }
 -- an event that is no opening
 not-opening : (b : Box) (number : ℕ) (e : Event) → isStarted (e .said) ≡ false → opens b number e ≡ false
 not-opening b number e h = and-false (sameBox b (e .box) && eqb number (e .number)) h
-
-decide : (P : Result → Type 0) (k : ℕ) (s : State) (buffer : List ℕ) (ok : Result) → (k ≡ 0 → P ok)
-    → P (record { reply = refused k; state = s; buffer = buffer }) → P (unless k s buffer ok)
-decide P k s buffer ok passed failed = go (eqb k 0) refl
-  where
-    go : (t : Bool) → eqb k 0 ≡ t → P (cond t ok (record { reply = refused k; state = s; buffer = buffer }))
-    go true e = passed (eqb-true k 0 e)
-    go false e = failed
 
 -- which calls open a job
 wake-opens : (s : State) (n side p : ℕ) (tally : List ℕ) → isStarted (replied (wakeRule s n side p tally .reply)) ≡ false
@@ -243,7 +235,7 @@ one-more g place w b (start number lent) =
       event = _;
       is = after-log w b _ _;
       fresh =
-        λ c k opening.
+          λ c k opening.
           opening-fresh w b c number k _
           (start-fresh (m .state) number (g .shares b place .x) (g .shares b place .y) (tapeWords g lent) (m .work) (m .tally)) opening;
     }
@@ -324,24 +316,28 @@ once-next w log′ marked one once c number n k less opening = go (ltb k (length
   where
     e : Event
     e = one .event
+
     grown : List Event
     grown = w .log ++ (e ∷ [])
+
     there : opens c number (eventAt grown k) && eqb n (eventAt grown k .width) ≡ true
     there = subst (λ (l : List Event). opens c number (eventAt l k) && eqb n (eventAt l k .width) ≡ true) (one .is) opening
+
     found-there : openedAt grown c number n ≡ k → openedAt log′ c number n ≡ k
     found-there q = ap (λ (l : List Event). openedAt l c number n) (one .is) ∙ q
+
     go : (t : Bool) → ltb k (length (w .log)) ≡ t → openedAt log′ c number n ≡ k
     go true q =
         let before = ltb-true k (length (w .log)) q in
         let old =
-            once c number n k before
-            (subst (λ (d : Event). opens c number d && eqb n (d .width) ≡ true) (event-before (w .log) e k before) there) in
+        once c number n k before
+        (subst (λ (d : Event). opens c number d && eqb n (d .width) ≡ true) (event-before (w .log) e k before) there) in
         found-there (opened-kept (w .log) (e ∷ []) c number n (rw old before) ∙ old)
     go false q =
         let long : length log′ ≡ suc (length (w .log)) = ap length (one .is) ∙ log-length (w .log) e in
         let last : k ≡ length (w .log) = omega (arith, ltb-false k (length (w .log)) q, less, long) in
         let new =
-            subst (λ (d : Event). opens c number d && eqb n (d .width) ≡ true) (ap (eventAt grown) last ∙ event-end (w .log) e) there in
+        subst (λ (d : Event). opens c number d && eqb n (d .width) ≡ true) (ap (eventAt grown) last ∙ event-end (w .log) e) there in
         found-there
         (at-end (w .log) e [] c number n
         (marked .unopened c number (one .fresh c number (and-left (opens c number e) (eqb n (e .width)) new))) new

@@ -1,21 +1,29 @@
 -- What a call that is not refused was given: of every ground in the chain, that it does not hold.
 use Prim.Native.Nat.{ℕ, _<_, _≤_}
-use mathlib.Core.Path.{_≡_, refl}
+use mathlib.Core.Path.{_≡_, refl, sym, subst}
 use mathlib.Core.Bool.{Bool, true, false, not, _&&_, _||_, cond, true≢false, false≢true}
 use mathlib.Core.List.{List, [], _∷_}
 use native.Mathlib.Omega.{arith}
 use lib.Dec.{eqb, leb, ltb}
-use lib.ListN.{length}
-use borrow.Author.Tests.{ltb-true, leb-true, eqb-true, not-false}
+use lib.ListN.{length, take}
+use lib.Seq.{sets}
+use borrow.Author.Tests.{ltb-true, lt-ltb, leb-true, eqb-true, not-false}
+use Rattle.lists.proofs.Every.{every-intro}
 use Rattle.lists.proofs.Tests.{and-left, and-right}
 use Rattle.field.specs.Width.{listed, modulus}
 use Rattle.shares.specs.Side.{isSide}
 use Rattle.tape.specs.Order.{inOrder}
 use Rattle.protocol.specs.Work.{workLength}
-use Rattle.protocol.specs.Rounds.{roundWords}
+use Rattle.protocol.specs.Rounds.{roundWords, message}
+use Rattle.protocol.specs.Products.{Party}
+use Rattle.protocol.specs.Words.{Below}
+use Rattle.protocol.proofs.Lengths.{message-front}
+use Rattle.protocol.proofs.Ranges.{message-below}
 use Rattle.rules.specs.Tally.{tallyFits, tapesOf, isFresh}
 use Rattle.rules.specs.Modes.{phaseFits, inRange, modeOf, isAsleep, inJob, isDue, sameTurn}
 use Rattle.rules.specs.Grounds.{Ground, _when_, firstOf, wordsFit, startGround, speakGround, hearGround}
+use Rattle.rules.specs.Answers.{Reply, refused}
+use Rattle.rules.specs.Calls.{Result, unless, partyIn, partyOf}
 use Rattle.rules.specs.declared.state.Turn.{Turn}
 use Rattle.rules.specs.declared.state.Turn.the-variants.{Speak, Hear}
 use Rattle.rules.specs.declared.state.Phase.{Phase}
@@ -51,6 +59,15 @@ both-true : (a b : Bool) → not a || not b ≡ false → (a ≡ true) × (b ≡
 both-true true true e = (refl, refl)
 both-true true false e = absurd (true≢false e)
 both-true false b e = absurd (true≢false e)
+
+-- refused, or not: what holds of a rule's result
+pub decide : (P : Result → Type 0) (k : ℕ) (s : State) (buffer : List ℕ) (ok : Result) → (k ≡ 0 → P ok)
+    → P (record { reply = refused k; state = s; buffer = buffer }) → P (unless k s buffer ok)
+decide P k s buffer ok passed failed = go (eqb k 0) refl
+  where
+    go : (t : Bool) → eqb k 0 ≡ t → P (cond t ok (record { reply = refused k; state = s; buffer = buffer }))
+    go true e = passed (eqb-true k 0 e)
+    go false e = failed
 
 -- ---- start
 
@@ -231,3 +248,28 @@ due-job s number turn awake e = go (s .phase) refl (rw (awake-mode s awake) at e
         let same-number = eqb-true number own (and-left (eqb number own) (sameTurn turn due) h) in
         let same-turn = turn-same turn due (and-right (eqb number own) (sameTurn turn due) h) in
         record { x = x; y = y; job = rw (same-number, same-turn) q }
+
+-- ---- a message at the front of out
+
+party-width : (s : State) (tape : List ℕ) → partyOf s tape .n ≡ s .n
+party-width s tape = go (s .phase)
+  where
+    go : (p : Phase) → partyIn (s .n) (s .side) p tape .n ≡ s .n
+    go Asleep = refl
+    go Idle = refl
+    go (Job turn number x y) = refl
+
+pub spoken-front : (s : State) (tape work out : List ℕ) (round : ℕ) → roundWords (s .n) round ≤ length out
+    → take (roundWords (s .n) round) (sets out 0 (message (partyOf s tape) work round)) ≡ message (partyOf s tape) work round
+spoken-front s tape work out round room =
+    let width = party-width s tape in
+    subst (λ (n : ℕ). take (roundWords n round) (sets out 0 (message (partyOf s tape) work round)) ≡ message (partyOf s tape) work round) width
+    (message-front (partyOf s tape) work out round (subst (λ (n : ℕ). roundWords n round ≤ length out) (sym width) room))
+
+-- its words are below p
+pub message-fits : (s : State) (tape work : List ℕ) (round : ℕ) → listed (s .n) ≡ true → wordsFit (s .n) (message (partyOf s tape) work round) ≡ true
+message-fits s tape work round l =
+    let width = party-width s tape in
+    subst (λ (n : ℕ). wordsFit n (message (partyOf s tape) work round) ≡ true) width
+    (every-intro (length (message (partyOf s tape) work round)) _
+    (λ i less. lt-ltb _ _ (message-below (partyOf s tape) (subst (λ (n : ℕ). listed n ≡ true) (sym width) l) work round .at i)))

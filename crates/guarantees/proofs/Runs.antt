@@ -9,7 +9,8 @@ use Rattle.guarantees.specs.Run.{Lending, Setting, Event, World, stepped
 use Rattle.guarantees.specs.Premises.{Meets, AllCompatible}
 use Rattle.guarantees.proofs.Openings.{Marked, marked-next, next-place}
 use Rattle.guarantees.proofs.Books.{bookOf, booked, booked-too}
-use Rattle.guarantees.proofs.Joint.{Alike, Joint, fit, keeps-too, joint-next, compatible-back}
+use Rattle.guarantees.proofs.Joint.{Alike, Joint, fit, keeps-too, joint-next}
+use Rattle.guarantees.proofs.Fits.{compatible-back}
 
 module _ (b : Box) (g g′ : Setting) (pair : ℕ) (log : List Event) (a : Alike b g g′ pair (bookOf (g .shares) log) (bookOf (g′ .shares) log)) where
   pub record Both (es : List Entry) (place : ℕ) (w w′ : World) : Type 0 where

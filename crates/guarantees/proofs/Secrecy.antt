@@ -2,7 +2,7 @@
 -- ask; where that was is the same in both runs.
 use Prim.Native.Nat.{ℕ, zero, suc, _<_}
 use mathlib.Core.Path.{_≡_, refl, sym, ap, subst, _∙_}
-use mathlib.Core.Bool.{true}
+use mathlib.Core.Bool.{true, false≢true}
 use mathlib.Core.List.{List, [], _∷_}
 use mathlib.Core.Logic.{inl}
 use lib.ListN.{length}
@@ -20,10 +20,10 @@ use Rattle.rules.specs.declared.state.State.{State}
 use Rattle.guarantees.specs.Boxes.{Box, first, second, sideOf, partner}
 use Rattle.guarantees.specs.Entries.{Step, wake, start, speak, hear, drop, cut, cutStart, Entry}
 use Rattle.guarantees.specs.Run.{Lending, Setting, Memory, Event, World, memoryOf, quiet, stepped, run}
-use Rattle.guarantees.specs.Premises.{AtFirst, Compatible, AllCompatible}
+use Rattle.guarantees.specs.Premises.{AtFirst, Meets, Compatible, AllCompatible}
 use Rattle.guarantees.specs.Places.{openedAt}
 use Rattle.guarantees.specs.View.{view}
-use Rattle.guarantees.specs.Secrecy.{TapeSet, Valid, byBox, Common, Loose, memoryAt, worldOf, settingOf, events, Premises, Hidden, Paired}
+use Rattle.guarantees.specs.Secrecy.{TapeSet, Valid, byBox, Common, Loose, memoryAt, worldOf, settingOf, events, Premises, Hidden, Paired, Secrecy}
 use Rattle.guarantees.proofs.Twins.{Twin, TwinMemory, Skeleton, same}
 use Rattle.guarantees.proofs.Logs.{same-event}
 use Rattle.guarantees.proofs.First.{follows-first, marked-first}
@@ -31,12 +31,10 @@ use Rattle.guarantees.proofs.Joint.{Alike, Joint, views}
 use Rattle.guarantees.proofs.Books.{clip, clip-y, bookOf}
 use Rattle.guarantees.proofs.Runs.{Both, both}
 use Rattle.guarantees.proofs.Pairs.{KeyAlike, sent-alike, answer-alike}
-use Rattle.guarantees.proofs.Views.{opened-same}
+use Rattle.guarantees.proofs.Views.{opened-same, opened-twins}
+use Rattle.guarantees.proofs.Steady.{Steady, steady}
 
 -- ---- the maps
-
-abbrev zeros : Loose
-zeros = record { works = λ b k. 0; leftovers = λ place k. 0 }
 
 -- the shares that opened a job of box b, by the log, and those of the other box
 abbrev moved : Common → Box → List Event → (ℕ → Lending) → (ℕ → Lending) → TapeSet → TapeSet
@@ -45,10 +43,6 @@ moved c b log shares shares′ own number n =
     let v′ = clip n (shares′ (openedAt log b number n)) in
     let o = clip n (c .lendings (openedAt log (partner b) number n)) in
     shifted (sharesOf n (sideOf b) (v .x) (v .y) (o .x) (o .y)) (sharesOf n (sideOf b) (v′ .x) (v′ .y) (o .x) (o .y)) (own number n) (c .others number n)
-
--- the places do not depend on what work holds, so a run from zeros finds them
-abbrev mapOf : Common → Box → (ℕ → Lending) → (ℕ → Lending) → TapeSet → TapeSet
-mapOf c b shares shares′ own = moved c b (events c b own shares zeros) shares shares′ own
 
 moves-at : (c : Common) (b : Box) (log : List Event) (shares shares′ : ℕ → Lending) (number n : ℕ) → listed n ≡ true
     → let v = clip n (shares (openedAt log b number n)) in
@@ -75,17 +69,15 @@ twin-first c w w′ b =
 first-again : (c : Common) (w w′ : Loose) → AtFirst (worldOf c w) → AtFirst (worldOf c w′)
 first-again c w w′ at = record { first-asleep = at .first-asleep; second-asleep = at .second-asleep; no-events = refl }
 
+skeleton-first : (c : Common) (w w′ : Loose) → Skeleton (worldOf c w) (worldOf c w′)
+skeleton-first c w w′ =
+    record { one = twin-first c w w′ first; two = twin-first c w w′ second; places = refl; events = λ k. same-event quiet }
+
 joint-first : (c : Common) (b : Box) (g g′ : Setting) (book book′ : Box → ℕ → ℕ → Lending) (w w′ : Loose) → AtFirst (worldOf c w)
     → Joint b g g′ (c .pair) book book′ (worldOf c w) (worldOf c w′)
 joint-first c b g g′ book book′ w w′ at =
     record {
-      skeleton =
-          record {
-            one = twin-first c w w′ first;
-            two = twin-first c w w′ second;
-            places = refl;
-            events = λ k. same-event quiet;
-          };
+      skeleton = skeleton-first c w w′;
       follows = follows-first g (c .pair) book (worldOf c w) at;
       follows′ = follows-first g′ (c .pair) book′ (worldOf c w′) (first-again c w w′ at);
       heard-same = λ k. refl;
@@ -160,69 +152,73 @@ module _ (c : Common) (b : Box) where
         answer = λ number n l. answer-alike (byBox b own (c .others)) (byBox b own′ (c .others)) (bookOf (byBox b shares (c .lendings)) log) (bookOf (byBox b shares′ (c .lendings)) log) number n b (tape number n) (lent number n) (key-alike c b log log₀ e shares shares′ own v number n l);
       }
 
-  -- with the same tapes and shares, whatever work holds
-  self : (log : List Event) (shares : ℕ → Lending) (own : TapeSet) (w w′ : Loose) → Valid (c .pair) b (c .others) own
-      → let g = settingOf c b own shares w in
-      Alike b g (settingOf c b own shares w′) (c .pair) (bookOf (g .shares) log) (bookOf (g .shares) log)
-  self log shares own w w′ v =
-      record {
-        orders = orders (c .pair) b (c .others) own v;
-        orders′ = orders (c .pair) b (c .others) own v;
-        sent = λ d number n r l less. refl;
-        answer = λ number n l. refl;
-      }
+  -- whatever valid tapes and words in work: two runs with the same shares that meet the premises open the same jobs
+  same-places : (shares : ℕ → Lending) (own own′ : TapeSet) → Valid (c .pair) b (c .others) own → Valid (c .pair) b (c .others) own′
+      → (w w′ : Loose) → Meets (settingOf c b own shares w) (c .pair) 0 (worldOf c w) (c .entries)
+      → Meets (settingOf c b own′ shares w′) (c .pair) 0 (worldOf c w′) (c .entries)
+      → SamePlaces (events c b own shares w) (events c b own′ shares w′)
+  same-places shares own own′ v v′ w w′ meets meets′ =
+      let g = settingOf c b own shares w in
+      let g′ = settingOf c b own′ shares w′ in
+      let k =
+      steady g g′ (c .pair) (orders (c .pair) b (c .others) own v) (orders (c .pair) b (c .others) own′ v′) (c .entries) 0 (worldOf c w) (worldOf c w′)
+      (record { skeleton = skeleton-first c w w′; fits = λ i told. absurd (false≢true told); fits′ = λ i told. absurd (false≢true told) })
+      (compatible-self g 0 (worldOf c w) (c .entries)) meets meets′ in
+      opened-twins (events c b own shares w) (events c b own′ shares w′) (k .places) (k .events)
 
-  module _ (shares shares′ : ℕ → Lending) (own : TapeSet) (valid : Valid (c .pair) b (c .others) own) (w : Loose)
-      (premises : Premises c b shares shares′ own w) where
-    -- the places do not depend on what work holds
-    steady : SamePlaces (events c b own shares zeros) (events c b own shares w)
-    steady d number n =
-        let a = self (events c b own shares w) shares own w zeros valid in
-        let r =
-        both b _ _ (c .pair) (events c b own shares w) a (c .entries) 0 (worldOf c w) (worldOf c zeros)
-        (joint-first c b _ _ _ _ w zeros (premises .asleep)) (marked-first (worldOf c w) (premises .asleep)) refl refl (premises .meets)
-        (compatible-self (settingOf c b own shares w) 0 (worldOf c w) (c .entries)) in
-        sym (opened-same b (events c b own shares w) (events c b own shares zeros) (views b _ _ (c .pair) _ _ a _ _ (r .joint)) d number n)
-
+  -- the places that a log finds are those of a run
+  module _ (shares shares′ : ℕ → Lending) (log : List Event) (own : TapeSet) (valid : Valid (c .pair) b (c .others) own) (w : Loose)
+      (premises : Premises c b shares shares′ own w) (e : SamePlaces log (events c b own shares w)) where
     run-both : (w′ : Loose)
-        → Both b (settingOf c b own shares w) (settingOf c b (mapOf c b shares shares′ own) shares′ w′) (c .pair) (events c b own shares w)
-        (alike (events c b own shares w) (events c b own shares zeros) steady shares shares′ own w w′ valid) (c .entries) 0 (worldOf c w) (worldOf c w′)
+        → Both b (settingOf c b own shares w) (settingOf c b (moved c b log shares shares′ own) shares′ w′) (c .pair) (events c b own shares w)
+        (alike (events c b own shares w) log e shares shares′ own w w′ valid) (c .entries) 0 (worldOf c w) (worldOf c w′)
     run-both w′ =
         both b _ _ (c .pair) (events c b own shares w) _ (c .entries) 0 (worldOf c w) (worldOf c w′)
         (joint-first c b _ _ _ _ w w′ (premises .asleep)) (marked-first (worldOf c w) (premises .asleep)) refl refl (premises .meets) (premises .compatible)
 
-    looks-same : (w′ : Loose) → view b (events c b own shares w) ≡ view b (events c b (mapOf c b shares shares′ own) shares′ w′)
-    looks-same w′ = views b _ _ (c .pair) _ _ (alike (events c b own shares w) (events c b own shares zeros) steady shares shares′ own w w′ valid) _ _ (run-both w′ .joint)
+    looks-same : (w′ : Loose) → view b (events c b own shares w) ≡ view b (events c b (moved c b log shares shares′ own) shares′ w′)
+    looks-same w′ =
+        views b _ _ (c .pair) _ _ (alike (events c b own shares w) log e shares shares′ own w w′ valid) _ _ (run-both w′ .joint)
 
-    meets-too : (w′ : Loose) → Premises c b shares′ shares (mapOf c b shares shares′ own) w′
+    meets-too : (w′ : Loose) → Premises c b shares′ shares (moved c b log shares shares′ own) w′
     meets-too w′ =
-        record {
-          asleep = first-again c w w′ (premises .asleep);
-          meets = run-both w′ .meets;
-          compatible = run-both w′ .compatible;
-        }
+        record { asleep = first-again c w w′ (premises .asleep); meets = run-both w′ .meets; compatible = run-both w′ .compatible }
 
-    back-again : (number n : ℕ) → listed n ≡ true → mapOf c b shares′ shares (mapOf c b shares shares′ own) number n ≡ own number n
-    back-again number n l =
-        let there = opened-same b (events c b own shares w) (events c b (mapOf c b shares shares′ own) shares′ zeros) (looks-same zeros) in
-        rw (← there b number n, ← there (partner b) number n, steady b number n, steady (partner b) number n)
-        (moves-at c b (events c b own shares w) shares shares′ number n l .undone (own number n) (valid number n l))
-
-  hidden : (shares shares′ : ℕ → Lending) → Hidden c b shares shares′ (mapOf c b shares shares′) (mapOf c b shares′ shares)
-  hidden shares shares′ =
+  -- both maps go by one log
+  hidden : (shares shares′ : ℕ → Lending) (log : List Event)
+      → ((own : TapeSet) → Valid (c .pair) b (c .others) own → (w : Loose) → Premises c b shares shares′ own w
+      → SamePlaces log (events c b own shares w))
+      → Hidden c b shares shares′ (moved c b log shares shares′) (moved c b log shares′ shares)
+  hidden shares shares′ log places =
       record {
-        valid = λ own v. moved-valid (events c b own shares zeros) shares shares′ own v;
-        undone = λ own v w p. back-again shares shares′ own v w p;
-        meets = λ own v w w′ p. meets-too shares shares′ own v w p w′;
-        alike = λ own v w w′ p. looks-same shares shares′ own v w p w′;
+        valid = moved-valid log shares shares′;
+        undone = λ own v number n l. moves-at c b log shares shares′ number n l .undone (own number n) (v number n l);
+        meets = λ own v w w′ p. meets-too shares shares′ log own v w p (places own v w p) w′;
+        alike = λ own v w w′ p. looks-same shares shares′ log own v w p (places own v w p) w′;
       }
 
-  -- demand 3
-  pub secrecy : (shares shares′ : ℕ → Lending) → Paired c b shares shares′
-  secrecy shares shares′ =
-      record {
-        there = mapOf c b shares shares′;
-        back = mapOf c b shares′ shares;
-        hidden = hidden shares shares′;
-        hidden-back = hidden shares′ shares;
-      }
+-- demand 3
+pub secrecy : Secrecy
+secrecy c b shares shares′ own w valid premises =
+    record {
+      there = moved c b log shares shares′;
+      back = moved c b log shares′ shares;
+      hidden = hidden c b shares shares′ log (λ own′ v′ w′ p′. same-places c b shares own own′ valid v′ w w′ (premises .meets) (p′ .meets));
+      hidden-back = hidden c b shares′ shares log back-places;
+    }
+  where
+    log : List Event
+    log = events c b own shares w
+
+    image : TapeSet
+    image = moved c b log shares shares′ own
+
+    same-log : SamePlaces log log
+    same-log d number n = refl
+
+    back-places : (own′ : TapeSet) → Valid (c .pair) b (c .others) own′ → (w′ : Loose) → Premises c b shares′ shares own′ w′
+        → SamePlaces log (events c b own′ shares′ w′)
+    back-places own′ v′ w′ p′ d number n =
+        opened-same b log (events c b image shares′ w) (looks-same c b shares shares′ log own valid w premises same-log w) d number n
+        ∙ same-places c b shares′ image own′ (moved-valid c b log shares shares′ own valid) v′ w w′
+        (meets-too c b shares shares′ log own valid w premises same-log w .meets) (p′ .meets) d number n

@@ -1,14 +1,17 @@
 -- What is compared shows where each job was opened.
-use Prim.Native.Nat.{ℕ, suc}
+use Prim.Native.Nat.{ℕ, zero, suc}
 use mathlib.Core.Path.{_≡_, refl, sym, ap, _∙_}
 use mathlib.Core.Bool.{Bool, _&&_, cond}
 use mathlib.Core.List.{List, [], _∷_}
+use native.Mathlib.Omega.{arith}
 use lib.Dec.{eqb}
+use lib.ListN.{length}
 use Rattle.rules.specs.Answers.{Reply, fresh, started, spoke, heard, share, dropped, refused}
 use Rattle.guarantees.specs.Boxes.{Box, first, second}
-use Rattle.guarantees.specs.Run.{Said, nothing, replied, Event}
+use Rattle.guarantees.specs.Run.{Said, nothing, replied, Event, eventAt}
 use Rattle.guarantees.specs.Places.{sameBox, isStarted, opens, openedAt}
 use Rattle.guarantees.specs.View.{covered, saidTo, seen, view}
+use Rattle.guarantees.proofs.Twins.{SameEvent}
 
 covered-started : (s : Said) → isStarted (covered s) ≡ isStarted s
 covered-started nothing = refl
@@ -34,3 +37,19 @@ pub opened-same : (b : Box) (log log′ : List Event) → view b log ≡ view b 
     → (c : Box) (number n : ℕ) → openedAt log c number n ≡ openedAt log′ c number n
 opened-same b log log′ e c number n =
     sym (opened-view b log c number n) ∙ ap (λ (l : List Event). openedAt l c number n) e ∙ opened-view b log′ c number n
+
+-- so does all that two runs have in common
+pub opened-twins : (log log′ : List Event) → length log ≡ length log′ → ((k : ℕ) → SameEvent (eventAt log k) (eventAt log′ k))
+    → (c : Box) (number n : ℕ) → openedAt log c number n ≡ openedAt log′ c number n
+opened-twins [] [] long each c number n = refl
+opened-twins [] (e ∷ log′) long each c number n = absurd (omega (arith, long))
+opened-twins (e ∷ log) [] long each c number n = absurd (omega (arith, long))
+opened-twins (e ∷ log) (e′ ∷ log′) long each c number n =
+    let se = each zero in
+    rw (
+      se .box,
+      se .number,
+      se .width,
+      sym (covered-started (e .said)) ∙ ap isStarted (se .said) ∙ covered-started (e′ .said),
+      opened-twins log log′ (omega (arith, long)) (λ k. each (suc k)) c number n,
+    )

@@ -28,12 +28,12 @@ pub record Right (g : Setting) (log : List Event) (number n v1 v2 : ℕ) : Type 
   pub only : (b : Box) (other : ℕ) → Told log other b number n (replied started) → other ≡ place b
   pub sum : (v1 + v2) % modulus n
       ≡ indicator
-        (ltb ((g .shares first (place first) .x + g .shares second (place second) .x) % modulus n)
-        ((g .shares first (place first) .y + g .shares second (place second) .y) % modulus n))
+      (ltb ((g .shares first (place first) .x + g .shares second (place second) .x) % modulus n)
+      ((g .shares first (place first) .y + g .shares second (place second) .y) % modulus n))
 
 abbrev pub Correctness : Type 0
 Correctness =
     (g : Setting) (pair : ℕ) (w : World) (entries : List Entry) → AtFirst w → AllDealt (g .tapes) first pair → Meets g pair 0 w entries
     → let log = run g 0 w entries .log in
-      (k1 k2 number n v1 v2 : ℕ) → Told log k1 first number n (replied (share v1)) → Told log k2 second number n (replied (share v2))
+    (k1 k2 number n v1 v2 : ℕ) → Told log k1 first number n (replied (share v1)) → Told log k2 second number n (replied (share v2))
     → Right g log number n v1 v2

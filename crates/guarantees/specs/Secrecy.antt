@@ -65,20 +65,26 @@ pub record Premises (c : Common) (b : Box) (shares shares′ : ℕ → Lending) 
   pub meets : Meets (settingOf c b own shares w) (c .pair) 0 (worldOf c w) (c .entries)
   pub compatible : AllCompatible (byBox b shares′ (c .lendings)) (settingOf c b own shares w) 0 (worldOf c w) (c .entries)
 
--- the two maps: `there` takes valid sets to valid sets, `back` undoes it, and where a run with a set and the first shares meets the
--- premises, the run with the set's image and the second shares meets them too and looks the same, whatever words work holds in either
+-- the two maps: `there` takes valid sets to valid sets, `back` undoes it on them, and where a run with a set and the first shares meets
+-- the premises, the run with the set's image and the second shares meets them too and looks the same, whatever work holds in either
 pub record Hidden (c : Common) (b : Box) (shares shares′ : ℕ → Lending) (there back : TapeSet → TapeSet) : Type 0 where
   pub valid : (own : TapeSet) → Valid (c .pair) b (c .others) own → Valid (c .pair) b (c .others) (there own)
-  pub undone : (own : TapeSet) → Valid (c .pair) b (c .others) own → (w : Loose) → Premises c b shares shares′ own w
-      → (number n : ℕ) → listed n ≡ true → back (there own) number n ≡ own number n
+  pub undone : (own : TapeSet) → Valid (c .pair) b (c .others) own → (number n : ℕ) → listed n ≡ true
+      → back (there own) number n ≡ own number n
   pub meets : (own : TapeSet) → Valid (c .pair) b (c .others) own → (w w′ : Loose) → Premises c b shares shares′ own w
       → Premises c b shares′ shares (there own) w′
   pub alike : (own : TapeSet) → Valid (c .pair) b (c .others) own → (w w′ : Loose) → Premises c b shares shares′ own w
       → view b (events c b own shares w) ≡ view b (events c b (there own) shares′ w′)
 
--- the pairing: the same holds of the maps with the two tables of shares exchanged
+-- a pairing: the same holds of the two maps with the tables of shares exchanged, so none is left over
 pub record Paired (c : Common) (b : Box) (shares shares′ : ℕ → Lending) : Type 0 where
   pub there : TapeSet → TapeSet
   pub back : TapeSet → TapeSet
   pub hidden : Hidden c b shares shares′ there back
   pub hidden-back : Hidden c b shares′ shares back there
+
+-- demand 3: a list that meets the premises, as its run with one valid set shows, has a pairing
+abbrev pub Secrecy : Type 0
+Secrecy =
+    (c : Common) (b : Box) (shares shares′ : ℕ → Lending) (own : TapeSet) (w : Loose) → Valid (c .pair) b (c .others) own
+    → Premises c b shares shares′ own w → Paired c b shares shares′

@@ -1,12 +1,13 @@
 -- A round's message has as many words as the table says, and hearing keeps work's length.
-use Prim.Native.Nat.{ℕ, zero, suc, _+_, _*_}
-use mathlib.Core.Path.{_≡_, refl, ap₂, _∙_}
+use Prim.Native.Nat.{ℕ, zero, suc, _+_, _*_, _≤_}
+use mathlib.Core.Path.{_≡_, refl, ap, ap₂, _∙_}
 use mathlib.Core.List.{List}
 use native.Mathlib.Omega.{arith}
-use lib.ListN.{length, length-append}
-use lib.Seq.{length-sets}
+use lib.ListN.{length, length-append, take}
+use lib.Seq.{sets, length-sets, take-at}
 use Rattle.lists.specs.Tabulate.{tabulate}
 use Rattle.lists.proofs.Tabulate.{length-tabulate}
+use Rattle.lists.proofs.Sets.{sets-front}
 use Rattle.tape.specs.Layout.{squareCount, groupCount}
 use Rattle.protocol.specs.Work.{held}
 use Rattle.protocol.specs.Products.{Party, Products, openLeft, openRight, openings, alternating}
@@ -40,3 +41,11 @@ after-length q work heard (suc (suc (suc (suc zero)))) = simp length-sets
 after-length q work heard (suc (suc (suc (suc (suc zero))))) = simp length-sets
 after-length q work heard (suc (suc (suc (suc (suc (suc zero)))))) = refl
 after-length q work heard (suc (suc (suc (suc (suc (suc (suc round))))))) = refl
+
+-- the front of out, where a message was put, is the message
+pub message-front : (q : Party) (work out : List ℕ) (round : ℕ) → roundWords (q .n) round ≤ length out
+    → take (roundWords (q .n) round) (sets out 0 (message q work round)) ≡ message q work round
+message-front q work out round room =
+    let long = message-length q work round in
+    ap (λ (l : List ℕ). take (roundWords (q .n) round) l) (sets-front out (message q work round) (omega (arith, long)))
+    ∙ take-at (message q work round) _ (roundWords (q .n) round) long

@@ -26,3 +26,4 @@ pub mod Exchanges
 pub mod Secrecy
 pub mod Lengths
 pub mod Reuse
+pub mod Ranges

@@ -12,7 +12,8 @@ use Rattle.protocol.specs.Words.{Below}
 use Rattle.protocol.specs.Products.{Party, party}
 use Rattle.protocol.specs.Rounds.{roundWords, message, afterHearing, replyTo}
 use Rattle.protocol.proofs.Lengths.{message-length}
-use Rattle.exchange.proofs.Messages.{message-below, spoken}
+use Rattle.protocol.proofs.Ranges.{message-below}
+use Rattle.exchange.proofs.Messages.{spoken}
 use Rattle.exchange.proofs.round.Statement.{statement}
 use Rattle.exchange.proofs.round.Tie as tie
 

@@ -6,7 +6,7 @@ use Rattle.field.proofs.Widths.{bounds}
 use Rattle.protocol.specs.Tests.{doubled, lowBit}
 use Rattle.protocol.specs.Rounds.{roundWords}
 use Rattle.protocol.proofs.Values.{doubled-below}
-use Rattle.compare.proofs.Parts.{tabulated-below}
+use Rattle.protocol.proofs.Ranges.{tabulated-below}
 use Rattle.compare.proofs.Sound.{sound}
 use Rattle.compare.proofs.Heard.{first-heard}
 use Rattle.compare.proofs.hearing.hear_first.Statement.{statement}

@@ -11,7 +11,8 @@ use Rattle.protocol.specs.Tests.{doubled}
 use Rattle.protocol.specs.Products.{party}
 use Rattle.protocol.specs.Rounds.{roundWords}
 use Rattle.protocol.proofs.Values.{doubled-below}
-use Rattle.compare.proofs.Parts.{tabulated-below, section-words}
+use Rattle.protocol.proofs.Ranges.{tabulated-below}
+use Rattle.compare.proofs.Parts.{section-words}
 use Rattle.compare.proofs.Messages.{first-message}
 use Rattle.compare.proofs.speaking.speak_first.Statement.{statement}
 use Rattle.compare.proofs.speaking.speak_first.Tie as tie

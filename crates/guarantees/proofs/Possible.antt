@@ -1,0 +1,297 @@
+-- Two lists that meet the premises: the checker runs them.
+use Prim.Native.Nat.{ℕ, suc, _+_}
+use mathlib.Core.Path.{_≡_, refl}
+use mathlib.Core.Bool.{Bool, true, false, _&&_, false≢true}
+use mathlib.Core.List.{List, [], _∷_}
+use mathlib.Core.Logic.{inr}
+use borrow.Author.Tests.{ltb-true, eqb-true}
+use lib.Dec.{eqb, ltb}
+use lib.ListN.{length}
+use Rattle.lists.proofs.Tests.{and-left, and-right}
+use Rattle.field.specs.Width.{listed, modulus}
+use Rattle.shares.specs.Side.{isSide, other as otherSide}
+use Rattle.shares.specs.Share.{constantShare, masked, opened, squareShare, productShare}
+use Rattle.tape.specs.Layout.{section}
+use Rattle.tape.specs.Order.{trailerFits, bodyInRange, inOrder}
+use Rattle.tape.specs.Plain.{plainTape}
+use Rattle.tape.proofs.Plains.{plain-dealt}
+use Rattle.tape.proofs.Dealing.{matched-swap}
+use Rattle.encoding.specs.Codes.{rangeCode, pointCode, levelCode}
+use Rattle.encoding.specs.Polynomial.{coefficient, polynomial}
+use Rattle.protocol.specs.Tests.{complement, exclusive}
+use Rattle.protocol.specs.Work.{held}
+use Rattle.protocol.specs.Products.{openLeft, openRight, openings, closed, closing}
+use Rattle.protocol.specs.Squares.{bitDifference, squareClosing, matchCount}
+use Rattle.protocol.specs.Levels.{levelMatch, wrapShare}
+use Rattle.protocol.specs.Rounds.{squareWord, lowProducts, lowSum, levelProducts, wrapProducts, halfShare}
+use Rattle.protocol.specs.Rounds.{halfProduct, lastLeft, lastRight, lastProduct, answerShare, roundWords, message, afterHearing}
+use Rattle.rules.specs.Answers.{fresh, started, spoke, heard, share, dropped, refused}
+use Rattle.rules.specs.Tally.{tallyFits, tapesOf, isFresh, marked, cutMarked, freshCount}
+use Rattle.rules.specs.Modes.{inRange, modeOf}
+use Rattle.rules.specs.Grounds.{wakeGround, startGround, speakGround, hearGround}
+use Rattle.rules.specs.Calls.{wakeRule, startRule, speakRule, hearRule}
+use Rattle.guarantees.specs.Boxes.{Box, first, second, sideOf, partner}
+use Rattle.guarantees.specs.Entries.{Lent, dealt, loose, Incoming, spokenAt, other, Step, wake, start, speak, hear, drop, cut, cutStart, Entry}
+use Rattle.guarantees.specs.Run.{Lending, Setting, Memory, Said, nothing, replied, Event, World, memoryOf, eventAt, stepped}
+use Rattle.guarantees.specs.Premises.{True, Keeps, Meets, AtFirst, InBoth, Compatible, AllCompatible}
+use Rattle.guarantees.specs.Places.{sameBox}
+use Rattle.guarantees.specs.Secrecy.{Valid, byBox, worldOf, settingOf, events}
+use Rattle.guarantees.specs.Possible.{pairNumber, sharesOf, sharesAnew, plainSet, plainCommon, zeros, whole, again}
+use Rattle.guarantees.specs.Possible.{CutInMark, AnswersAt, RightSum, Possible}
+use Rattle.guarantees.proofs.Openings.{same-box}
+use Rattle.guarantees.proofs.Covers.{isSpoke}
+
+-- ---- a computed test of the premises, for lists in which no entry is to be refused
+
+-- the box's own dealt tape of that number and width
+abbrev ownTape : Box → ℕ → ℕ → Lent → Bool
+ownTape b number n (dealt c k m) = sameBox c b && (eqb k number && eqb m n)
+ownTape b number n (loose words) = false
+
+own-tape : (b : Box) (number n : ℕ) (lent : Lent) → ownTape b number n lent ≡ true → lent ≡ dealt b number n
+own-tape b number n (dealt c k m) e =
+    let rest = and-right (sameBox c b) (eqb k number && eqb m n) e in
+    rw (
+      same-box c b (and-left (sameBox c b) (eqb k number && eqb m n) e),
+      eqb-true k number (and-left (eqb k number) (eqb m n) rest),
+      eqb-true m n (and-right (eqb k number) (eqb m n) rest),
+    )
+    refl
+own-tape b number n (loose words) e = absurd (false≢true e)
+
+-- how many words were spoken
+abbrev spokeCount : Said → ℕ
+spokeCount nothing = 0
+spokeCount (replied (fresh k)) = 0
+spokeCount (replied started) = 0
+spokeCount (replied (spoke k)) = k
+spokeCount (replied heard) = 0
+spokeCount (replied (share v)) = 0
+spokeCount (replied dropped) = 0
+spokeCount (replied (refused k)) = 0
+
+spoke-said : (s : Said) → isSpoke s ≡ true → s ≡ replied (spoke (spokeCount s))
+spoke-said nothing e = absurd (false≢true e)
+spoke-said (replied (fresh k)) e = absurd (false≢true e)
+spoke-said (replied started) e = absurd (false≢true e)
+spoke-said (replied (spoke k)) e = refl
+spoke-said (replied heard) e = absurd (false≢true e)
+spoke-said (replied (share v)) e = absurd (false≢true e)
+spoke-said (replied dropped) e = absurd (false≢true e)
+spoke-said (replied (refused k)) e = absurd (false≢true e)
+
+-- the other box spoke it earlier, under that number, width and round
+abbrev aboutTest : Box → ℕ → ℕ → ℕ → Event → Bool
+aboutTest b number width round e =
+    sameBox (e .box) (partner b)
+    && (eqb (e .number) number && (eqb (e .width) width && (eqb (e .round) round && isSpoke (e .said))))
+
+abbrev trueTest : List Event → Box → ℕ → ℕ → ℕ → Incoming → Bool
+trueTest log b number width round (spokenAt place) = ltb place (length log) && aboutTest b number width round (eventAt log place)
+trueTest log b number width round (other words) = false
+
+true-message : (log : List Event) (b : Box) (number width round : ℕ) (incoming : Incoming)
+    → trueTest log b number width round incoming ≡ true → True log b number width round incoming
+true-message log b number width round (other words) t = absurd (false≢true t)
+true-message log b number width round (spokenAt place) t =
+    let e = eventAt log place in
+    let about = and-right (ltb place (length log)) (aboutTest b number width round e) t in
+    let t1 = and-right (sameBox (e .box) (partner b)) _ about in
+    let t2 = and-right (eqb (e .number) number) _ t1 in
+    let t3 = and-right (eqb (e .width) width) _ t2 in
+    record {
+      place = place;
+      named = refl;
+      earlier = ltb-true place (length log) (and-left (ltb place (length log)) _ t);
+      by = same-box (e .box) (partner b) (and-left (sameBox (e .box) (partner b)) _ about);
+      numbered = eqb-true (e .number) number (and-left (eqb (e .number) number) _ t1);
+      wide = eqb-true (e .width) width (and-left (eqb (e .width) width) _ t2);
+      rounded = eqb-true (e .round) round (and-left (eqb (e .round) round) _ t3);
+      count = spokeCount (e .said);
+      uttered = spoke-said (e .said) (and-right (eqb (e .round) round) _ t3);
+    }
+
+abbrev keepsTest : ℕ → World → Box → Step → Bool
+keepsTest pair w b (wake n side p) = eqb side (sideOf b) && eqb p pair
+keepsTest pair w b (start number lent) = ownTape b number (memoryOf w b .state .n) lent
+keepsTest pair w b (speak number round lent out) = ownTape b number (memoryOf w b .state .n) lent
+keepsTest pair w b (hear number round lent incoming) =
+    ownTape b number (memoryOf w b .state .n) lent && trueTest (w .log) b number (memoryOf w b .state .n) round incoming
+keepsTest pair w b drop = true
+keepsTest pair w b cut = true
+keepsTest pair w b (cutStart number lent value) = ownTape b number (memoryOf w b .state .n) lent
+
+keeps-tested : (g : Setting) (pair place : ℕ) (w : World) (b : Box) (s : Step) → keepsTest pair w b s ≡ true → Keeps g pair place w b s
+keeps-tested g pair place w b (wake n side p) e =
+    let own = eqb side (sideOf b) in
+    λ _. (eqb-true side (sideOf b) (and-left own (eqb p pair) e), eqb-true p pair (and-right own (eqb p pair) e))
+keeps-tested g pair place w b (start number lent) e = λ _. own-tape b number (memoryOf w b .state .n) lent e
+keeps-tested g pair place w b (speak number round lent out) e = λ _. own-tape b number (memoryOf w b .state .n) lent e
+keeps-tested g pair place w b (hear number round lent incoming) e =
+    let n = memoryOf w b .state .n in
+    let own = ownTape b number n lent in
+    let said = trueTest (w .log) b number n round incoming in
+    λ _. (own-tape b number n lent (and-left own said e), true-message (w .log) b number n round incoming (and-right own said e))
+keeps-tested g pair place w b drop e = tt
+keeps-tested g pair place w b cut e = tt
+keeps-tested g pair place w b (cutStart number lent value) e = λ _. own-tape b number (memoryOf w b .state .n) lent e
+
+abbrev meetsTest : Setting → ℕ → ℕ → World → List Entry → Bool
+meetsTest g pair place w [] = true
+meetsTest g pair place w (e ∷ es) =
+    keepsTest pair w (e .box) (e .step) && meetsTest g pair (suc place) (stepped g place w (e .box) (e .step)) es
+
+meets-tested : (g : Setting) (pair place : ℕ) (w : World) (es : List Entry)
+    → meetsTest g pair place w es ≡ true → Meets g pair place w es
+meets-tested g pair place w [] t = tt
+meets-tested g pair place w (e ∷ es) t =
+    let here = keepsTest pair w (e .box) (e .step) in
+    let next = stepped g place w (e .box) (e .step) in
+    let later = meetsTest g pair (suc place) next es in
+    (keeps-tested g pair place w (e .box) (e .step) (and-left here later t), meets-tested g pair (suc place) next es (and-right here later t))
+
+-- ---- a computed test of the second shares: all in range
+
+abbrev rangeTest : Memory → ℕ → ℕ → Bool
+rangeTest m v v′ = ltb v (modulus (m .state .n)) && ltb v′ (modulus (m .state .n))
+
+in-both : (m : Memory) (v v′ : ℕ) → rangeTest m v v′ ≡ true → InBoth m v v′
+in-both m v v′ t =
+    let p = modulus (m .state .n) in
+    inr (inr (ltb-true v p (and-left (ltb v p) (ltb v′ p) t), ltb-true v′ p (and-right (ltb v p) (ltb v′ p) t)))
+
+module _ (shares′ : Box → ℕ → Lending) (g : Setting) where
+  abbrev lendTest : ℕ → World → Box → Bool
+  lendTest place w b =
+      rangeTest (memoryOf w b) (g .shares b place .x) (shares′ b place .x)
+      && rangeTest (memoryOf w b) (g .shares b place .y) (shares′ b place .y)
+
+  abbrev compatibleTest : ℕ → World → Box → Step → Bool
+  compatibleTest place w b (wake n side p) = true
+  compatibleTest place w b (start number lent) = lendTest place w b
+  compatibleTest place w b (speak number round lent out) = true
+  compatibleTest place w b (hear number round lent incoming) = true
+  compatibleTest place w b drop = true
+  compatibleTest place w b cut = true
+  compatibleTest place w b (cutStart number lent value) = lendTest place w b
+
+  abbrev allTest : ℕ → World → List Entry → Bool
+  allTest place w [] = true
+  allTest place w (e ∷ es) =
+      compatibleTest place w (e .box) (e .step) && allTest (suc place) (stepped g place w (e .box) (e .step)) es
+
+  both-lent : (place : ℕ) (w : World) (b : Box) → lendTest place w b ≡ true
+      → InBoth (memoryOf w b) (g .shares b place .x) (shares′ b place .x) × InBoth (memoryOf w b) (g .shares b place .y) (shares′ b place .y)
+  both-lent place w b t =
+      let m = memoryOf w b in
+      let x = rangeTest m (g .shares b place .x) (shares′ b place .x) in
+      let y = rangeTest m (g .shares b place .y) (shares′ b place .y) in (
+        in-both m (g .shares b place .x) (shares′ b place .x) (and-left x y t),
+        in-both m (g .shares b place .y) (shares′ b place .y) (and-right x y t),
+      )
+
+  compatible-tested : (place : ℕ) (w : World) (b : Box) (s : Step) → compatibleTest place w b s ≡ true → Compatible shares′ g place w b s
+  compatible-tested place w b (wake n side p) t = tt
+  compatible-tested place w b (start number lent) t = both-lent place w b t
+  compatible-tested place w b (speak number round lent out) t = tt
+  compatible-tested place w b (hear number round lent incoming) t = tt
+  compatible-tested place w b drop t = tt
+  compatible-tested place w b cut t = tt
+  compatible-tested place w b (cutStart number lent value) t = both-lent place w b t
+
+  all-tested : (place : ℕ) (w : World) (es : List Entry) → allTest place w es ≡ true → AllCompatible shares′ g place w es
+  all-tested place w [] t = tt
+  all-tested place w (e ∷ es) t =
+      let here = compatibleTest place w (e .box) (e .step) in
+      let next = stepped g place w (e .box) (e .step) in
+      let later = allTest (suc place) next es in
+      (compatible-tested place w (e .box) (e .step) (and-left here later t), all-tested (suc place) next es (and-right here later t))
+
+-- ---- the two lists
+
+plain-valid : (b : Box) → Valid pairNumber b (plainSet (partner b)) (plainSet b)
+unfolding otherSide
+plain-valid first number n width = plain-dealt n pairNumber number width
+plain-valid second number n width = matched-swap (plain-dealt n pairNumber number width)
+
+at-first : (entries : List Entry) (b : Box) → AtFirst (worldOf (plainCommon entries b) zeros)
+unfolding listed inRange modeOf
+at-first entries b = record { first-asleep = refl; second-asleep = refl; no-events = refl }
+
+abbrev plainSetting : List Entry → Box → Setting
+plainSetting entries b = settingOf (plainCommon entries b) b (plainSet b) (sharesOf b) zeros
+
+abbrev plainWorld : List Entry → Box → World
+plainWorld entries b = worldOf (plainCommon entries b) zeros
+
+-- what is computed of a list
+record ByRun (entries : List Entry) (place : ℕ) (b : Box) : Type 0 where
+  meeting : meetsTest (plainSetting entries b) pairNumber 0 (plainWorld entries b) entries ≡ true
+  ranging : allTest (byBox b sharesAnew (sharesOf (partner b))) (plainSetting entries b) 0 (plainWorld entries b) entries ≡ true
+  first-answers : AnswersAt (events (plainCommon entries b) b (plainSet b) (sharesOf b) zeros) place first 2
+  second-answers : AnswersAt (events (plainCommon entries b) b (plainSet b) (sharesOf b) zeros) (place + 1) second 6
+
+computed : (b : Box) → ByRun whole 26 b × ByRun again 28 b
+unfolding modulus listed isSide otherSide constantShare masked opened squareShare productShare section trailerFits bodyInRange inOrder plainTape
+    rangeCode pointCode levelCode coefficient polynomial complement exclusive held
+    openLeft openRight openings closed closing bitDifference squareClosing matchCount levelMatch wrapShare
+    squareWord lowProducts lowSum levelProducts wrapProducts halfShare halfProduct lastLeft lastRight lastProduct
+    answerShare roundWords message afterHearing
+    tallyFits tapesOf isFresh marked cutMarked freshCount inRange modeOf
+    wakeGround startGround speakGround hearGround wakeRule startRule speakRule hearRule stepped whole again
+computed first = (
+  record {
+    meeting = refl;
+    ranging = refl;
+    first-answers = record { box = refl; number = refl; width = refl; said = refl };
+    second-answers = record { box = refl; number = refl; width = refl; said = refl };
+  },
+  record {
+    meeting = refl;
+    ranging = refl;
+    first-answers = record { box = refl; number = refl; width = refl; said = refl };
+    second-answers = record { box = refl; number = refl; width = refl; said = refl };
+  },
+)
+computed second = (
+  record {
+    meeting = refl;
+    ranging = refl;
+    first-answers = record { box = refl; number = refl; width = refl; said = refl };
+    second-answers = record { box = refl; number = refl; width = refl; said = refl };
+  },
+  record {
+    meeting = refl;
+    ranging = refl;
+    first-answers = record { box = refl; number = refl; width = refl; said = refl };
+    second-answers = record { box = refl; number = refl; width = refl; said = refl };
+  },
+)
+
+from-run : (entries : List Entry) (place : ℕ) (b : Box) → ByRun entries place b → Possible entries place b
+from-run entries place b c =
+    record {
+      valid = plain-valid b;
+      premises = record {
+        asleep = at-first entries b;
+        meets = meets-tested (plainSetting entries b) pairNumber 0 (plainWorld entries b) entries (c .meeting);
+        compatible = all-tested (byBox b sharesAnew (sharesOf (partner b))) (plainSetting entries b) 0 (plainWorld entries b) entries (c .ranging);
+      };
+      first-answers = c .first-answers;
+      second-answers = c .second-answers;
+    }
+
+pub whole-possible : (b : Box) → Possible whole 26 b
+whole-possible b = from-run whole 26 b (computed b .0)
+
+pub again-possible : (b : Box) → Possible again 28 b
+again-possible b = from-run again 28 b (computed b .1)
+
+pub right-sum : RightSum
+unfolding modulus
+right-sum = refl
+
+pub cut-in-mark : CutInMark
+unfolding modulus listed isSide trailerFits bodyInRange inOrder plainTape tallyFits tapesOf isFresh freshCount inRange modeOf
+    wakeGround startGround wakeRule stepped again
+cut-in-mark = refl
