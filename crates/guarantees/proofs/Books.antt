@@ -12,7 +12,7 @@ use Rattle.rules.specs.Grounds.{startGround}
 use Rattle.guarantees.specs.Boxes.{Box}
 use Rattle.guarantees.specs.Entries.{Lent, Step, wake, start, speak, hear, drop, cut, cutStart, Entry}
 use Rattle.guarantees.specs.Run.{Lending, Setting, Memory, Event, World, memoryOf, tapeWords, stepped, run}
-use Rattle.guarantees.specs.Places.{openedAt}
+use Rattle.guarantees.proofs.Places.{openedAt}
 use Rattle.guarantees.proofs.Passed.{start-passed}
 use Rattle.guarantees.proofs.Twins.{Twin, TwinMemory, Skeleton}
 use Rattle.guarantees.proofs.Skeletons.{Fit, memories}

@@ -24,7 +24,7 @@ use Rattle.guarantees.specs.Boxes.{Box, first, second, sideOf, partner}
 use Rattle.guarantees.specs.Entries.{Lent, Step, wake, start, speak, hear, drop, cut, cutStart, Entry}
 use Rattle.guarantees.specs.Run.{Lending, Setting, Memory, Said, nothing, replied, Event, World, memoryOf, eventAt, tapeWords, stepped, run}
 use Rattle.guarantees.specs.Premises.{AtFirst, AllDealt, Meets}
-use Rattle.guarantees.specs.Places.{sameBox, isStarted, opens, openedAt}
+use Rattle.guarantees.proofs.Places.{sameBox, isStarted, opens, openedAt}
 use Rattle.guarantees.specs.Correctness.{Told, Right, Correctness}
 use Rattle.guarantees.proofs.Jobs.{blank, answerBy}
 use Rattle.guarantees.proofs.Openings.{Marked, marked-next, Once, once-next, one-more, next-place, run-grows, found, same-box, same-self}

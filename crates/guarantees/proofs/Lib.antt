@@ -1,3 +1,4 @@
+pub mod Places
 pub mod Twins
 pub mod Jobs
 pub mod Passed

@@ -34,7 +34,7 @@ use Rattle.guarantees.specs.Boxes.{Box, first, second, sideOf, partner}
 use Rattle.guarantees.specs.Entries.{Lent, dealt, loose, Incoming, spokenAt, other, Step, wake, start, speak, hear, drop, cut, cutStart, Entry}
 use Rattle.guarantees.specs.Run.{Lending, Setting, Memory, Said, nothing, replied, Event, World, memoryOf, eventAt, stepped}
 use Rattle.guarantees.specs.Premises.{True, Keeps, Meets, AtFirst, InBoth, Compatible, AllCompatible}
-use Rattle.guarantees.specs.Places.{sameBox}
+use Rattle.guarantees.proofs.Places.{sameBox}
 use Rattle.guarantees.specs.Secrecy.{Valid, byBox, worldOf, settingOf, events}
 use Rattle.guarantees.specs.Possible.{pairNumber, sharesOf, sharesAnew, plainSet, plainCommon, zeros, whole, again}
 use Rattle.guarantees.specs.Possible.{CutInMark, AnswersAt, RightSum, Possible}

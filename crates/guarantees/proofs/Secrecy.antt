@@ -21,7 +21,7 @@ use Rattle.guarantees.specs.Boxes.{Box, first, second, sideOf, partner}
 use Rattle.guarantees.specs.Entries.{Step, wake, start, speak, hear, drop, cut, cutStart, Entry}
 use Rattle.guarantees.specs.Run.{Lending, Setting, Memory, Event, World, memoryOf, quiet, stepped, run}
 use Rattle.guarantees.specs.Premises.{AtFirst, Meets, Compatible, AllCompatible}
-use Rattle.guarantees.specs.Places.{openedAt}
+use Rattle.guarantees.proofs.Places.{openedAt}
 use Rattle.guarantees.specs.View.{view}
 use Rattle.guarantees.specs.Secrecy.{TapeSet, Valid, byBox, Common, Loose, memoryAt, worldOf, settingOf, events, Premises, Hidden, Paired, Secrecy}
 use Rattle.guarantees.proofs.Twins.{Twin, TwinMemory, Skeleton, same}

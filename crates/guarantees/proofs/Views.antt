@@ -9,7 +9,7 @@ use lib.ListN.{length}
 use Rattle.rules.specs.Answers.{Reply, fresh, started, spoke, heard, share, dropped, refused}
 use Rattle.guarantees.specs.Boxes.{Box, first, second}
 use Rattle.guarantees.specs.Run.{Said, nothing, replied, Event, eventAt}
-use Rattle.guarantees.specs.Places.{sameBox, isStarted, opens, openedAt}
+use Rattle.guarantees.proofs.Places.{sameBox, isStarted, opens, openedAt}
 use Rattle.guarantees.specs.View.{covered, saidTo, seen, view}
 use Rattle.guarantees.proofs.Twins.{SameEvent}
 

@@ -2,7 +2,6 @@ pub mod Boxes
 pub mod Entries
 pub mod Run
 pub mod Premises
-pub mod Places
 pub mod View
 pub mod Secrecy
 pub mod Correctness
