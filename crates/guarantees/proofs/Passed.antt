@@ -21,7 +21,7 @@ use Rattle.protocol.proofs.Lengths.{message-front}
 use Rattle.protocol.proofs.Ranges.{message-below}
 use Rattle.rules.specs.Tally.{tallyFits, tapesOf, isFresh}
 use Rattle.rules.specs.Modes.{phaseFits, inRange, modeOf, isAsleep, inJob, isDue, sameTurn}
-use Rattle.rules.specs.Grounds.{Ground, _when_, firstOf, wordsFit, startGround, speakGround, hearGround}
+use Rattle.rules.specs.Grounds.{Ground, firstOf, wordsFit, startGrounds, speakGrounds, hearGrounds, startGround, speakGround, hearGround}
 use Rattle.rules.specs.Answers.{Reply, refused}
 use Rattle.rules.specs.Calls.{Result, unless, partyIn, partyOf}
 use Rattle.rules.specs.declared.state.Turn.{Turn}
@@ -82,23 +82,11 @@ pub record StartPassed (s : State) (number x y : ℕ) (tape work tally : List �
   pub ordered : inOrder (s .n) (s .pair) (s .side) number tape ≡ true
   pub room : workLength (s .n) ≤ length work
 
-abbrev startChain : State → ℕ → ℕ → ℕ → List ℕ → List ℕ → List ℕ → List Ground
-startChain s number x y tape work tally =
-    (1 when isAsleep (modeOf s))
-    ∷ (5 when inJob (modeOf s))
-    ∷ (4 when not (eqb (length tally) (s .tally)))
-    ∷ (7 when not (ltb number (tapesOf (length tally))))
-    ∷ (8 when not (isFresh tally number))
-    ∷ (9 when not (ltb x (modulus (s .n))) || not (ltb y (modulus (s .n))))
-    ∷ (10 when not (inOrder (s .n) (s .pair) (s .side) number tape))
-    ∷ (12 when not (leb (workLength (s .n)) (length work)))
-    ∷ []
-
 pub start-passed : (s : State) (number x y : ℕ) (tape work tally : List ℕ) → startGround s number x y tape work tally ≡ 0
     → StartPassed s number x y tape work tally
 unfolding startGround
 start-passed s number x y tape work tally e =
-    let c = none (startChain s number x y tape work tally) (omega arith) e in
+    let c = none (startGrounds s number x y tape work tally) (omega arith) e in
     let shares = both-true (ltb x (modulus (s .n))) (ltb y (modulus (s .n))) (c .1 .1 .1 .1 .1 .0) in
     record {
       awake = c .0;
@@ -122,20 +110,11 @@ pub record SpeakPassed (s : State) (number round : ℕ) (tape work out : List �
   pub room : workLength (s .n) ≤ length work
   pub out-room : roundWords (s .n) round ≤ length out
 
-abbrev speakChain : State → ℕ → ℕ → List ℕ → List ℕ → List ℕ → List Ground
-speakChain s number round tape work out =
-    (1 when isAsleep (modeOf s))
-    ∷ (6 when not (inJob (modeOf s)))
-    ∷ (11 when not (isDue (modeOf s) number (Speak round)))
-    ∷ (10 when not (inOrder (s .n) (s .pair) (s .side) number tape))
-    ∷ (12 when not (leb (workLength (s .n)) (length work)) || not (leb (roundWords (s .n) round) (length out)))
-    ∷ []
-
 pub speak-passed : (s : State) (number round : ℕ) (tape work out : List ℕ) → speakGround s number round tape work out ≡ 0
     → SpeakPassed s number round tape work out
 unfolding speakGround
 speak-passed s number round tape work out e =
-    let c = none (speakChain s number round tape work out) (omega arith) e in
+    let c = none (speakGrounds s number round tape work out) (omega arith) e in
     let rooms = both-true (leb (workLength (s .n)) (length work)) (leb (roundWords (s .n) round) (length out)) (c .1 .1 .1 .1 .0) in
     record {
       awake = c .0;
@@ -157,21 +136,11 @@ pub record HearPassed (s : State) (number round : ℕ) (tape work incoming : Lis
   pub long : length incoming ≡ roundWords (s .n) round
   pub words : wordsFit (s .n) incoming ≡ true
 
-abbrev hearChain : State → ℕ → ℕ → List ℕ → List ℕ → List ℕ → List Ground
-hearChain s number round tape work incoming =
-    (1 when isAsleep (modeOf s))
-    ∷ (6 when not (inJob (modeOf s)))
-    ∷ (11 when not (isDue (modeOf s) number (Hear round)))
-    ∷ (10 when not (inOrder (s .n) (s .pair) (s .side) number tape))
-    ∷ (12 when not (leb (workLength (s .n)) (length work)) || not (eqb (length incoming) (roundWords (s .n) round)))
-    ∷ (13 when not (wordsFit (s .n) incoming))
-    ∷ []
-
 pub hear-passed : (s : State) (number round : ℕ) (tape work incoming : List ℕ) → hearGround s number round tape work incoming ≡ 0
     → HearPassed s number round tape work incoming
 unfolding hearGround
 hear-passed s number round tape work incoming e =
-    let c = none (hearChain s number round tape work incoming) (omega arith) e in
+    let c = none (hearGrounds s number round tape work incoming) (omega arith) e in
     let rooms = both-true (leb (workLength (s .n)) (length work)) (eqb (length incoming) (roundWords (s .n) round)) (c .1 .1 .1 .1 .0) in
     record {
       awake = c .0;

@@ -2,8 +2,8 @@
 use Prim.Native.Nat.{ℕ, _<_, _≤_}
 use mathlib.Core.Path.{_≡_, refl, sym, ap, _∙_}
 use mathlib.Core.Bool.{Bool, true, false, not, _||_, cond, true≢false, false≢true}
-use mathlib.Core.List.{List, [], _∷_}
-use mathlib.Core.Logic.{inl, inr}
+use mathlib.Core.List.{List, [], _∷_, map}
+use mathlib.Core.Logic.{_⊎_, inl, inr}
 use native.Mathlib.Omega.{arith}
 use borrow.Author.Tests.{eqb-true, eqb-false, ltb-true, not-false, eq-eqb, ne-eqb}
 use lib.Dec.{eqb, leb, ltb}
@@ -18,7 +18,7 @@ use Rattle.rules.specs.Tally.{tallyFits, tapesOf, isFresh}
 use Rattle.rules.specs.Modes.{inRange, modeOf, isAsleep, inJob, isDue, asleepState}
 use Rattle.rules.specs.Grounds.{Ground, _when_, firstOf, wordsFit, wakeGround, startGround, speakGround, hearGround, dropGround}
 use Rattle.rules.specs.Calls.{Result, unless, wakeRule, startRule, speakRule, hearRule, dropRule}
-use Rattle.rules.specs.Answering.{Call, wake, start, speak, hear, drop, groundOf, resultOf, bufferOf, isWake, isRefused, orderOf, OneOf}
+use Rattle.rules.specs.Answering.{Call, wake, start, speak, hear, drop, groundOf, resultOf, bufferOf, isWake, isRefused, orderOf, groundsOf}
 use Rattle.rules.specs.Answering.{Opens, TakesJob, Answering}
 use Rattle.rules.specs.declared.state.Turn.the-variants.{Speak, Hear}
 use Rattle.rules.specs.declared.state.Phase.the-variants.{Asleep}
@@ -105,38 +105,13 @@ wakes s n side pair tally asleep width sided fits = rw (wake-ground s n side tal
 
 -- ---- the numbers
 
-abbrev chainOf : State → Call → List Ground
-chainOf s (wake n side pair tally) =
-    (5 when not (isAsleep (modeOf s))) ∷ (2 when not (listed n)) ∷ (3 when not (isSide side)) ∷ (4 when not (tallyFits (length tally))) ∷ []
-chainOf s (start number x y tape work tally) =
-    (1 when isAsleep (modeOf s))
-    ∷ (5 when inJob (modeOf s))
-    ∷ (4 when not (eqb (length tally) (s .tally)))
-    ∷ (7 when not (ltb number (tapesOf (length tally))))
-    ∷ (8 when not (isFresh tally number))
-    ∷ (9 when not (ltb x (modulus (s .n))) || not (ltb y (modulus (s .n))))
-    ∷ (10 when not (inOrder (s .n) (s .pair) (s .side) number tape))
-    ∷ (12 when not (leb (workLength (s .n)) (length work)))
-    ∷ []
-chainOf s (speak number round tape work out) =
-    (1 when isAsleep (modeOf s))
-    ∷ (6 when not (inJob (modeOf s)))
-    ∷ (11 when not (isDue (modeOf s) number (Speak round)))
-    ∷ (10 when not (inOrder (s .n) (s .pair) (s .side) number tape))
-    ∷ (12 when not (leb (workLength (s .n)) (length work)) || not (leb (roundWords (s .n) round) (length out)))
-    ∷ []
-chainOf s (hear number round tape work incoming) =
-    (1 when isAsleep (modeOf s))
-    ∷ (6 when not (inJob (modeOf s)))
-    ∷ (11 when not (isDue (modeOf s) number (Hear round)))
-    ∷ (10 when not (inOrder (s .n) (s .pair) (s .side) number tape))
-    ∷ (12 when not (leb (workLength (s .n)) (length work)) || not (eqb (length incoming) (roundWords (s .n) round)))
-    ∷ (13 when not (wordsFit (s .n) incoming))
-    ∷ []
-chainOf s drop = (1 when isAsleep (modeOf s)) ∷ (6 when not (inJob (modeOf s))) ∷ []
+-- one of the numbers, or 0
+abbrev OneOf : List ℕ → ℕ → Type 0
+OneOf [] k = k ≡ 0
+OneOf (number ∷ numbers) k = (k ≡ number) ⊎ OneOf numbers k
 
--- the ground is the first of the chain
-first-is : (s : State) (call : Call) → groundOf s call ≡ firstOf (chainOf s call)
+-- the ground is the first of the call's
+first-is : (s : State) (call : Call) → groundOf s call ≡ firstOf (groundsOf s call)
 unfolding wakeGround startGround speakGround hearGround dropGround
 first-is s (wake n side pair tally) = refl
 first-is s (start number x y tape work tally) = refl
@@ -145,8 +120,7 @@ first-is s (hear number round tape work incoming) = refl
 first-is s drop = refl
 
 abbrev numbersOf : List Ground → List ℕ
-numbersOf [] = []
-numbersOf (g ∷ gs) = g .number ∷ numbersOf gs
+numbersOf gs = map (λ (g : Ground). g .number) gs
 
 pick-one : (t : Bool) (number rest : ℕ) (numbers : List ℕ) → OneOf numbers rest → OneOf (number ∷ numbers) (cond t number rest)
 pick-one true number rest numbers h = inl refl
@@ -156,7 +130,7 @@ pick : (gs : List Ground) → OneOf (numbersOf gs) (firstOf gs)
 pick [] = refl
 pick (g ∷ gs) = pick-one (g .holds) (g .number) (firstOf gs) (numbersOf gs) (pick gs)
 
-order-is : (s : State) (call : Call) → numbersOf (chainOf s call) ≡ orderOf call
+order-is : (s : State) (call : Call) → numbersOf (groundsOf s call) ≡ orderOf call
 order-is s (wake n side pair tally) = refl
 order-is s (start number x y tape work tally) = refl
 order-is s (speak number round tape work out) = refl
@@ -164,7 +138,7 @@ order-is s (hear number round tape work incoming) = refl
 order-is s drop = refl
 
 one-of : (s : State) (call : Call) → OneOf (orderOf call) (groundOf s call)
-one-of s call = rw (first-is s call, sym (order-is s call)) (pick (chainOf s call))
+one-of s call = rw (first-is s call, sym (order-is s call)) (pick (groundsOf s call))
 
 -- none of the numbers is above 13
 abbrev Low : List ℕ → Type 0
@@ -261,7 +235,7 @@ opens : (s : State) (number x y : ℕ) (tape work tally : List ℕ) → startGro
     → Opens s number tally (startRule s number x y tape work tally .buffer)
 opens s number x y tape work tally z =
     let call = start number x y tape work tally in
-    let c = none (chainOf s call) (omega arith) (sym (first-is s call) ∙ z) in
+    let c = none (groundsOf s call) (omega arith) (sym (first-is s call) ∙ z) in
     let less = ltb-true number (tapesOf (length tally)) (not-false (ltb number (tapesOf (length tally))) (c .1 .1 .1 .0)) in
     record {
       awake = c .0;
@@ -327,7 +301,8 @@ answering =
     record {
       answered =
           λ s call. record {
-            one-of = one-of s call;
+            first = first-is s call;
+            order = order-is s call;
             numbered = low (orderOf call) (groundOf s call) (order-low call) (one-of s call);
             answers = tells s call .answers;
             refuses = tells s call .refuses;

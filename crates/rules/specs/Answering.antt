@@ -2,15 +2,14 @@
 use Prim.Native.Nat.{ℕ, _≤_}
 use mathlib.Core.Path.{_≡_}
 use mathlib.Core.Bool.{Bool, true, false}
-use mathlib.Core.List.{List, [], _∷_}
-use mathlib.Core.Logic.{_⊎_}
+use mathlib.Core.List.{List, [], _∷_, map}
 use lib.ListN.{length}
 use Rattle.field.specs.Width.{listed}
 use Rattle.shares.specs.Side.{isSide}
 use Rattle.rules.specs.Answers.{Reply, fresh, started, spoke, heard, share, dropped, refused}
 use Rattle.rules.specs.Tally.{tallyFits, isFresh}
 use Rattle.rules.specs.Modes.{inRange, modeOf, isAsleep, inJob, asleepState}
-use Rattle.rules.specs.Grounds.{wakeGround, startGround, speakGround, hearGround, dropGround}
+use Rattle.rules.specs.Grounds.{Ground, firstOf, wakeGrounds, startGrounds, speakGrounds, hearGrounds, dropGrounds, wakeGround, startGround, speakGround, hearGround, dropGround}
 use Rattle.rules.specs.Calls.{Result, wakeRule, startRule, speakRule, hearRule, dropRule}
 use Rattle.rules.specs.declared.state.State.{State}
 
@@ -23,6 +22,13 @@ pub data Call : Type 0 where
   speak : (number round : ℕ) (tape work out : List ℕ) → Call
   hear : (number round : ℕ) (tape work incoming : List ℕ) → Call
   drop : Call
+
+abbrev pub groundsOf : State → Call → List Ground
+groundsOf s (wake n side pair tally) = wakeGrounds s n side tally
+groundsOf s (start number x y tape work tally) = startGrounds s number x y tape work tally
+groundsOf s (speak number round tape work out) = speakGrounds s number round tape work out
+groundsOf s (hear number round tape work incoming) = hearGrounds s number round tape work incoming
+groundsOf s drop = dropGrounds s
 
 -- the first ground of refusal that holds, in document 01's order for the call; 0 where none does
 abbrev pub groundOf : State → Call → ℕ
@@ -71,17 +77,14 @@ orderOf (speak number round tape work out) = 1 ∷ 6 ∷ 11 ∷ 10 ∷ 12 ∷ []
 orderOf (hear number round tape work incoming) = 1 ∷ 6 ∷ 11 ∷ 10 ∷ 12 ∷ 13 ∷ []
 orderOf drop = 1 ∷ 6 ∷ []
 
--- one of the numbers, or 0
-abbrev pub OneOf : List ℕ → ℕ → Type 0
-OneOf [] k = k ≡ 0
-OneOf (number ∷ numbers) k = (k ≡ number) ⊎ OneOf numbers k
-
 -- ---- the sentences of the demand
 
 -- every outcome is an answer, or a refusal with its number
 pub record Answered (s : State) (call : Call) : Type 0 where
-  -- the ground is one of the call's, or 0 for none
-  pub one-of : OneOf (orderOf call) (groundOf s call)
+  -- the ground is the first that holds of the call's grounds
+  pub first : groundOf s call ≡ firstOf (groundsOf s call)
+  -- these stand in document 01's order
+  pub order : map (λ (g : Ground). g .number) (groundsOf s call) ≡ orderOf call
   -- the numbers go to 13
   pub numbered : groundOf s call ≤ 13
   -- where no ground holds, the reply is an answer

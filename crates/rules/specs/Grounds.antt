@@ -33,14 +33,19 @@ firstOf (g ∷ gs) = cond (g .holds) (g .number) (firstOf gs)
 abbrev pub wordsFit : ℕ → List ℕ → Bool
 wordsFit n words = every (length words) (λ i. ltb (getD words i 0) (modulus n))
 
-unfoldable pub wakeGround : State → ℕ → ℕ → List ℕ → ℕ
-wakeGround s n side tally =
-    firstOf ((5 when not (isAsleep (modeOf s))) ∷ (2 when not (listed n)) ∷ (3 when not (isSide side)) ∷ (4 when not (tallyFits (length tally))) ∷ [])
+-- ---- the grounds of each call, in document 01's order
 
-unfoldable pub startGround : State → ℕ → ℕ → ℕ → List ℕ → List ℕ → List ℕ → ℕ
-startGround s number x y tape work tally =
-    firstOf
-    ((1 when isAsleep (modeOf s))
+abbrev pub wakeGrounds : State → ℕ → ℕ → List ℕ → List Ground
+wakeGrounds s n side tally =
+    (5 when not (isAsleep (modeOf s)))
+    ∷ (2 when not (listed n))
+    ∷ (3 when not (isSide side))
+    ∷ (4 when not (tallyFits (length tally)))
+    ∷ []
+
+abbrev pub startGrounds : State → ℕ → ℕ → ℕ → List ℕ → List ℕ → List ℕ → List Ground
+startGrounds s number x y tape work tally =
+    (1 when isAsleep (modeOf s))
     ∷ (5 when inJob (modeOf s))
     ∷ (4 when not (eqb (length tally) (s .tally)))
     ∷ (7 when not (ltb number (tapesOf (length tally))))
@@ -48,28 +53,43 @@ startGround s number x y tape work tally =
     ∷ (9 when not (ltb x (modulus (s .n))) || not (ltb y (modulus (s .n))))
     ∷ (10 when not (inOrder (s .n) (s .pair) (s .side) number tape))
     ∷ (12 when not (leb (workLength (s .n)) (length work)))
-    ∷ [])
+    ∷ []
 
-unfoldable pub speakGround : State → ℕ → ℕ → List ℕ → List ℕ → List ℕ → ℕ
-speakGround s number round tape work out =
-    firstOf
-    ((1 when isAsleep (modeOf s))
+abbrev pub speakGrounds : State → ℕ → ℕ → List ℕ → List ℕ → List ℕ → List Ground
+speakGrounds s number round tape work out =
+    (1 when isAsleep (modeOf s))
     ∷ (6 when not (inJob (modeOf s)))
     ∷ (11 when not (isDue (modeOf s) number (Speak round)))
     ∷ (10 when not (inOrder (s .n) (s .pair) (s .side) number tape))
     ∷ (12 when not (leb (workLength (s .n)) (length work)) || not (leb (roundWords (s .n) round) (length out)))
-    ∷ [])
+    ∷ []
 
-unfoldable pub hearGround : State → ℕ → ℕ → List ℕ → List ℕ → List ℕ → ℕ
-hearGround s number round tape work incoming =
-    firstOf
-    ((1 when isAsleep (modeOf s))
+abbrev pub hearGrounds : State → ℕ → ℕ → List ℕ → List ℕ → List ℕ → List Ground
+hearGrounds s number round tape work incoming =
+    (1 when isAsleep (modeOf s))
     ∷ (6 when not (inJob (modeOf s)))
     ∷ (11 when not (isDue (modeOf s) number (Hear round)))
     ∷ (10 when not (inOrder (s .n) (s .pair) (s .side) number tape))
     ∷ (12 when not (leb (workLength (s .n)) (length work)) || not (eqb (length incoming) (roundWords (s .n) round)))
     ∷ (13 when not (wordsFit (s .n) incoming))
-    ∷ [])
+    ∷ []
+
+abbrev pub dropGrounds : State → List Ground
+dropGrounds s = (1 when isAsleep (modeOf s)) ∷ (6 when not (inJob (modeOf s))) ∷ []
+
+-- ---- the one that counts
+
+unfoldable pub wakeGround : State → ℕ → ℕ → List ℕ → ℕ
+wakeGround s n side tally = firstOf (wakeGrounds s n side tally)
+
+unfoldable pub startGround : State → ℕ → ℕ → ℕ → List ℕ → List ℕ → List ℕ → ℕ
+startGround s number x y tape work tally = firstOf (startGrounds s number x y tape work tally)
+
+unfoldable pub speakGround : State → ℕ → ℕ → List ℕ → List ℕ → List ℕ → ℕ
+speakGround s number round tape work out = firstOf (speakGrounds s number round tape work out)
+
+unfoldable pub hearGround : State → ℕ → ℕ → List ℕ → List ℕ → List ℕ → ℕ
+hearGround s number round tape work incoming = firstOf (hearGrounds s number round tape work incoming)
 
 unfoldable pub dropGround : State → ℕ
-dropGround s = firstOf ((1 when isAsleep (modeOf s)) ∷ (6 when not (inJob (modeOf s))) ∷ [])
+dropGround s = firstOf (dropGrounds s)
