@@ -1,10 +1,12 @@
 // A small dealing unit: pairs of tapes by the rules of document 01, from a 32-bit xorshift generator.
 ghost use mathlib.Core.Path.{_≡_};
 ghost use mathlib.Core.Bool.{true};
-ghost use Prim.Native.Nat.{_+_, _<_, _≤_};
-ghost use lib.ListN.{length};
+ghost use Prim.Native.Nat.{ℕ, _+_, _-_, _<_, _≤_};
+ghost use lib.ListN.{length, getD};
+ghost use lib.Seq.{sets};
 ghost use Rattle.field.specs.Width.{listed, modulus};
-ghost use Rattle.tape.specs.Layout.{tapeLength};
+ghost use Rattle.tape.specs.Layout.{tapeLength, bodyLength, sectionStart, sectionLength, trailer as tailOf};
+ghost use Rattle.lists.specs.Tabulate.{tabulate};
 
 pub const PAIR: u32 = 7;
 
@@ -22,6 +24,7 @@ fn next(v: u32) -> u32 {
 // Random words below p, in every place.
 fn scatter(n: u32, seed: u32, tape: &mut [u32]) -> u32
     requires { ⌜ listed n ≡ true ⌝ }
+    ensures { λ _. ⌜ ((j : ℕ) → j < length (now (tape .entry)) → getD (now (tape .exit)) j 0 < modulus n) ⌝ }
 {
     let p = field::modulus_of(n);
     let mut v = seed;
@@ -122,6 +125,7 @@ fn powers(n: u32, seed: u32, start: usize, end: usize, t1: &[u32], t2: &mut [u32
 // The seven words after the body.
 fn trailer(n: u32, side: u32, tape: &mut [u32])
     requires { ⌜ (listed n ≡ true) × (tapeLength n ≤ length (now tape)) ⌝ }
+    ensures { λ _. ⌜ now (tape .exit) ≡ sets (now (tape .entry)) (bodyLength n) (tailOf n 7 side 0) ⌝ }
 {
     let words = [
         9 * (n * n) + 12 * n + 24,
@@ -143,15 +147,20 @@ fn trailer(n: u32, side: u32, tape: &mut [u32])
 // A tape of random words, and its trailer.
 fn random_tape(n: u32, side: u32, seed: u32, tape: &mut [u32]) -> u32
     requires { ⌜ (listed n ≡ true) × (tapeLength n ≤ length (now tape)) ⌝ }
+    ensures { λ _. ⌜ ((j : ℕ) → j < bodyLength n → getD (now (tape .exit)) j 0 < modulus n)
+        × ((k : ℕ) → k < 7 → getD (now (tape .exit)) (bodyLength n + k) 0 ≡ getD (tailOf n 7 side 0) k 0) ⌝ }
 {
     let v = scatter(n, seed, &mut *tape);
     trailer(n, side, tape);
     v
 }
 
-// A pair of tapes: box 1's words random, box 2's a and b too, and box 2's other words as the equations ask. Answers the generator's state.
+// A pair of tapes: box 1's words random, box 2's a and b too, and box 2's other words as the equations ask.
+// Answers the generator's state. Box 1's words are below p, and its trailer stands.
 pub fn deal(n: u32, seed: u32, t1: &mut [u32], t2: &mut [u32]) -> u32
     requires { ⌜ (listed n ≡ true) × (tapeLength n ≤ length (now t1)) × (tapeLength n ≤ length (now t2)) ⌝ }
+    ensures { λ _. ⌜ ((j : ℕ) → j < bodyLength n → getD (now (t1 .exit)) j 0 < modulus n)
+        × ((k : ℕ) → k < 7 → getD (now (t1 .exit)) (bodyLength n + k) 0 ≡ getD (tailOf n 7 1 0) k 0) ⌝ }
 {
     let a = tape::section_words(n, tape::SQUARES);
     let b = a + tape::section_words(n, tape::POWERS);
@@ -165,7 +174,8 @@ pub fn deal(n: u32, seed: u32, t1: &mut [u32], t2: &mut [u32]) -> u32
 
 // One word in every place from one to another.
 fn put(start: usize, end: usize, word: u32, tape: &mut [u32])
-    requires { ⌜ end ≤ length (now tape) ⌝ }
+    requires { ⌜ (start ≤ end) × (end ≤ length (now tape)) ⌝ }
+    ensures { λ _. ⌜ now (tape .exit) ≡ sets (now (tape .entry)) start (tabulate (end - start) (λ k. word)) ⌝ }
 {
     let mut at = start;
     while at < end {
@@ -177,6 +187,7 @@ fn put(start: usize, end: usize, word: u32, tape: &mut [u32])
 // A tape of zeros, and its trailer.
 fn zero_tape(n: u32, side: u32, tape: &mut [u32])
     requires { ⌜ (listed n ≡ true) × (tapeLength n ≤ length (now tape)) ⌝ }
+    ensures { λ _. ⌜ now (tape .exit) ≡ sets (sets (now (tape .entry)) 0 (tabulate (tapeLength n) (λ k. 0))) (bodyLength n) (tailOf n 7 side 0) ⌝ }
 {
     put(0, tape::tape_words(n), 0, &mut *tape);
     trailer(n, side, tape);
@@ -185,6 +196,9 @@ fn zero_tape(n: u32, side: u32, tape: &mut [u32])
 // The plain tapes: box 1's power words are 1, all other body words 0.
 pub fn plain(n: u32, t1: &mut [u32], t2: &mut [u32])
     requires { ⌜ (listed n ≡ true) × (tapeLength n ≤ length (now t1)) × (tapeLength n ≤ length (now t2)) ⌝ }
+    ensures { λ _. ⌜ (now (t1 .exit) ≡ sets (sets (sets (now (t1 .entry)) 0 (tabulate (tapeLength n) (λ k. 0))) (bodyLength n) (tailOf n 7 1 0))
+        (sectionStart n 1) (tabulate (sectionLength n 1) (λ k. 1)))
+        × (now (t2 .exit) ≡ sets (sets (now (t2 .entry)) 0 (tabulate (tapeLength n) (λ k. 0))) (bodyLength n) (tailOf n 7 2 0)) ⌝ }
 {
     let a = tape::section_words(n, tape::SQUARES);
     let b = a + tape::section_words(n, tape::POWERS);

@@ -2,7 +2,7 @@
 use exchange::Shares;
 ghost use mathlib.Core.Path.{_≡_};
 ghost use mathlib.Core.Bool.{true};
-ghost use Prim.Native.Nat.{_<_, _≤_};
+ghost use Prim.Native.Nat.{_*_, _<_, _≤_};
 ghost use lib.ListN.{length};
 ghost use Rattle.field.specs.Width.{listed, modulus};
 ghost use Rattle.tape.specs.Layout.{tapeLength};
@@ -26,7 +26,7 @@ fn expected(p: u32, one: Shares, two: Shares) -> u32
 // All y1 and y2, with one pair of tapes.
 fn right_of(n: u32, x1: u32, x2: u32, t1: &[u32], t2: &[u32]) -> u64
     requires { ⌜ (n ≤ 5) × (x1 < modulus n) × (x2 < modulus n) × Readable n (now t1) × Readable n (now t2) ⌝ }
-    ensures { λ r. ⌜ r ≤ 961 ⌝ }
+    ensures { λ r. ⌜ r ≤ modulus n * modulus n ⌝ }
 {
     let p = field::modulus_of(n);
     let mut w1 = [0u32; 124];
@@ -50,7 +50,7 @@ fn right_of(n: u32, x1: u32, x2: u32, t1: &[u32], t2: &[u32]) -> u64
 // The same on tapes that may be out of order: then none is right.
 fn right_on(n: u32, x1: u32, x2: u32, t1: &[u32], t2: &[u32]) -> u64
     requires { ⌜ (listed n ≡ true) × (n ≤ 5) × (x1 < modulus n) × (x2 < modulus n) ⌝ }
-    ensures { λ r. ⌜ r ≤ 961 ⌝ }
+    ensures { λ r. ⌜ r ≤ modulus n * modulus n ⌝ }
 {
     if !tape::in_order(t1, n, crate::dealer::PAIR, 1, crate::dealer::NUMBER) {
         return 0;
@@ -65,16 +65,17 @@ fn right_on(n: u32, x1: u32, x2: u32, t1: &[u32], t2: &[u32]) -> u64
 fn dealt_turn(n: u32, seed: u32, x1: u32, x2: u32, t1: &mut [u32], t2: &mut [u32]) -> Turn
     requires { ⌜ (listed n ≡ true) × (n ≤ 5) × (x1 < modulus n) × (x2 < modulus n) ⌝ }
     requires { ⌜ (tapeLength n ≤ length (now t1)) × (tapeLength n ≤ length (now t2)) ⌝ }
-    ensures { λ r. ⌜ r .right ≤ 961 ⌝ }
+    ensures { λ r. ⌜ r .right ≤ modulus n * modulus n ⌝ }
 {
     let next = crate::dealer::deal(n, seed, &mut *t1, &mut *t2);
     let right = right_on(n, x1, x2, &*t1, &*t2);
     Turn { right, seed: next }
 }
 
-// All inputs of a width, on random tapes.
+// All inputs of a width, on random tapes: p^4 of them.
 pub fn right_dealt(n: u32, t1: &mut [u32], t2: &mut [u32]) -> u64
     requires { ⌜ (listed n ≡ true) × (n ≤ 5) × (tapeLength n ≤ length (now t1)) × (tapeLength n ≤ length (now t2)) ⌝ }
+    ensures { λ r. ⌜ r ≤ modulus n * modulus n * (modulus n * modulus n) ⌝ }
 {
     let p = field::modulus_of(n);
     let mut seed: u32 = 2463534242;
@@ -92,6 +93,7 @@ pub fn right_dealt(n: u32, t1: &mut [u32], t2: &mut [u32]) -> u64
 // All inputs of a width, on the plain tapes.
 pub fn right_plain(n: u32, t1: &mut [u32], t2: &mut [u32]) -> u64
     requires { ⌜ (listed n ≡ true) × (n ≤ 5) × (tapeLength n ≤ length (now t1)) × (tapeLength n ≤ length (now t2)) ⌝ }
+    ensures { λ r. ⌜ r ≤ modulus n * modulus n * (modulus n * modulus n) ⌝ }
 {
     crate::dealer::plain(n, &mut *t1, &mut *t2);
     let p = field::modulus_of(n);

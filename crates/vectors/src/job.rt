@@ -1,4 +1,4 @@
-// One job of both boxes against the words of its file.
+// Jobs of both boxes against the words of their files.
 use crate::numbers::Cursor;
 use exchange::Shares;
 ghost use mathlib.Core.Path.{_≡_};
@@ -8,8 +8,27 @@ ghost use lib.ListN.{length};
 ghost use Rattle.field.specs.Width.{listed, modulus};
 ghost use Rattle.tape.specs.Order.{Readable};
 
+// How many of a width's jobs agree. The files' names are job-WW-K.txt.
+pub fn agreed_of(w: u64, count: u8) -> u64
+    ensures { λ r. ⌜ r ≤ count ⌝ }
+{
+    let mut name = [106u8, 111, 98, 45, 48, 48, 45, 49, 46, 116, 120, 116];
+    name[4] = 48 + ((w / 10) % 10) as u8;
+    name[5] = 48 + (w % 10) as u8;
+    let mut agreed: u64 = 0;
+    let mut k: u8 = 0;
+    while k < count {
+        k += 1;
+        name[7] = 48 + k % 10;
+        if agrees(&name) {
+            agreed += 1;
+        }
+    }
+    agreed
+}
+
 // Whether the file is there and every word of its job is as the boxes give it.
-pub fn agrees(name: &[u8]) -> bool {
+fn agrees(name: &[u8]) -> bool {
     let fd = os::open_read(name);
     if fd < 0 {
         return false;

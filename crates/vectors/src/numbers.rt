@@ -1,5 +1,8 @@
 // Decimal numbers of a text, one after another.
-ghost use Prim.Native.Nat.{_≤_};
+ghost use mathlib.Core.Path.{_≡_};
+ghost use mathlib.Core.Bool.{true};
+ghost use Prim.Native.Nat.{_+_, _<_, _≤_};
+ghost use lib.ListN.{length};
 
 // How far a text was read, and whether it had what was asked.
 pub struct Cursor {
@@ -27,7 +30,9 @@ fn digit(b: u8) -> u8
 }
 
 // The place of the next digit, or the text's end.
-fn skipped(text: &[u8], from: usize) -> usize {
+fn skipped(text: &[u8], from: usize) -> usize
+    ensures { λ r. ⌜ (from ≤ r) × (from ≤ length (now (text .entry)) → r ≤ length (now (text .entry))) ⌝ }
+{
     let mut at = from;
     while at < text.len() {
         if digit(text[at]) < 10 {
@@ -38,8 +43,10 @@ fn skipped(text: &[u8], from: usize) -> usize {
     at
 }
 
-// The next number, past anything that is no digit. It must fit a word.
-pub fn next(text: &[u8], from: usize) -> Number {
+// The next number, past anything that is no digit. It must fit a word. A reading never goes back, nor past the text's end.
+pub fn next(text: &[u8], from: usize) -> Number
+    ensures { λ r. ⌜ (from ≤ r .at) × (from ≤ length (now (text .entry)) → r .at ≤ length (now (text .entry))) × (r .ok ≡ true → from < r .at) ⌝ }
+{
     let start = skipped(text, from);
     let mut at = start;
     let mut value: u64 = 0;
@@ -68,8 +75,11 @@ pub fn next(text: &[u8], from: usize) -> Number {
     }
 }
 
-// Fills a slice with the next numbers.
-pub fn fill(text: &[u8], from: usize, into: &mut [u32]) -> Cursor {
+// Fills a slice with the next numbers. Each takes a byte or more.
+pub fn fill(text: &[u8], from: usize, into: &mut [u32]) -> Cursor
+    ensures { λ r. ⌜ (from ≤ r .at) × (from ≤ length (now (text .entry)) → r .at ≤ length (now (text .entry)))
+        × (r .ok ≡ true → from + length (now (into .entry)) ≤ r .at) ⌝ }
+{
     let mut at = from;
     let mut i = 0;
     while i < into.len() {
@@ -85,7 +95,10 @@ pub fn fill(text: &[u8], from: usize, into: &mut [u32]) -> Cursor {
 }
 
 // Whether the next numbers are these words.
-pub fn same(text: &[u8], from: usize, words: &[u32]) -> Cursor {
+pub fn same(text: &[u8], from: usize, words: &[u32]) -> Cursor
+    ensures { λ r. ⌜ (from ≤ r .at) × (from ≤ length (now (text .entry)) → r .at ≤ length (now (text .entry)))
+        × (r .ok ≡ true → from + length (now (words .entry)) ≤ r .at) ⌝ }
+{
     let mut at = from;
     let mut i = 0;
     while i < words.len() {

@@ -1,15 +1,16 @@
--- `exhaustive::inputs::right_dealt` is safe and ends: both tapes keep their lengths, and a turn counts at most 961 answers.
+-- `exhaustive::inputs::right_dealt` meets its contract: both tapes keep their lengths, and a turn counts at most p * p answers.
 use Prim.Native.Nat.{_-_, _*_, _≤_}
 use mathlib.Core.Path.{_≡_}
 use native.Mathlib.Omega.{arith}
 use borrow.Author.Needs.{needs}
 use lib.ListN.{length}
-use Rattle.exhaustive.proofs.Small.{Small, small, first-below, second-below}
+use Rattle.exhaustive.proofs.Small.{Small, small, counted, fits, first-below, second-below}
+use Rattle.field.specs.Width.{modulus}
 use Rattle.exhaustive.proofs.inputs.right_dealt.Statement.{statement}
 use Rattle.exhaustive.proofs.inputs.right_dealt.Tie as tie
 
 abbrev Inv-loop : tie.InvT-loop
-Inv-loop n t1₀ t2₀ p seed₀ right₀ i₀ t1 t2 seed right i = (i ≤ p * p) × (right ≤ 961 * i) × (length t1 ≡ length t1₀) × (length t2 ≡ length t2₀)
+Inv-loop n t1₀ t2₀ p seed₀ right₀ i₀ t1 t2 seed right i = (i ≤ p * p) × (right ≤ i * (modulus n * modulus n)) × (length t1 ≡ length t1₀) × (length t2 ≡ length t2₀)
 
 abbrev μ-loop : tie.MeasureT-loop
 μ-loop n t1₀ t2₀ p seed₀ right₀ i₀ t1 t2 seed right i = p * p - i
@@ -53,7 +54,8 @@ add-right : tie.Need-add-right Inv-loop μ-loop
 add-right c =
     let d = c .before .before .before .before .before in
     let l = d .before .before .before .before in
-    omega (arith, d .dealt-turn .ensures, l .loop .inv .0, l .loop .inv .1, tiny (l .before) .pairs)
+    let inv = l .loop .inv in
+    omega (arith, fits (l .before .modulus-of .ensures) (tiny (l .before) .pairs) (inv .1) (inv .0) (d .dealt-turn .ensures))
 
 add-i : tie.Need-add-i Inv-loop μ-loop
 add-i c =
@@ -64,7 +66,10 @@ loop-less : tie.Need-loop-less Inv-loop μ-loop
 loop-less c = search needs
 
 loop-again : tie.Need-loop-again Inv-loop μ-loop
-loop-again c = search needs
+loop-again c =
+    let d = c .before .before .before .before .before in
+    let i = d .before .before .before in
+    (omega (arith, i .loop-test .taken), omega (arith, i .before .loop .inv .1, d .dealt-turn .ensures), search needs, search needs)
 
 same-length : tie.Need-same-length Inv-loop μ-loop
 same-length c = search needs
@@ -73,7 +78,9 @@ same-length-2 : tie.Need-same-length-2 Inv-loop μ-loop
 same-length-2 c = search needs
 
 returns : tie.Need-returns Inv-loop μ-loop
-returns c = search needs
+returns c =
+    let l = c .before in
+    counted (l .before .modulus-of .ensures) (l .loop .inv .1) (l .loop .inv .0)
 
 pub right-dealt-spec : {M : Type 1} → statement M
 right-dealt-spec =

@@ -1,7 +1,7 @@
 -- `exhaustive::inputs::right_of` meets its contract: the buffers keep their lengths, and an input is counted at most once.
 use Prim.Native.Nat.{_-_, _*_, _/_, _%_, _<_, _≤_}
 use mathlib.Core.Logic.{⊎-elim}
-use mathlib.Core.Path.{_≡_}
+use mathlib.Core.Path.{_≡_, subst}
 use native.Mathlib.Omega.{arith}
 use borrow.Author.Needs.{needs}
 use lib.ListN.{length}
@@ -120,7 +120,8 @@ loop-again c =
 returns : tie.Need-returns Inv-loop μ-loop
 returns c =
     let l = c .before in
-    omega (arith, l .loop .inv .0, l .loop .inv .1, tiny (l .before) .pairs)
+    let inv = l .loop .inv in
+    subst (λ x. l .loop .right ≤ x * x) (l .before .modulus-of .ensures) (omega (arith, inv .0, inv .1))
 
 pub right-of-spec : {M : Type 1} → statement M
 right-of-spec =

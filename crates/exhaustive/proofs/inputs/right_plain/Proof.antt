@@ -1,13 +1,14 @@
--- `exhaustive::inputs::right_plain` is safe and ends: a turn counts at most 961 answers.
+-- `exhaustive::inputs::right_plain` meets its contract: a turn counts at most p * p answers.
 use Prim.Native.Nat.{_-_, _*_, _≤_}
 use native.Mathlib.Omega.{arith}
 use borrow.Author.Needs.{needs}
-use Rattle.exhaustive.proofs.Small.{Small, small, first-below, second-below}
+use Rattle.exhaustive.proofs.Small.{Small, small, counted, fits, first-below, second-below}
+use Rattle.field.specs.Width.{modulus}
 use Rattle.exhaustive.proofs.inputs.right_plain.Statement.{statement}
 use Rattle.exhaustive.proofs.inputs.right_plain.Tie as tie
 
 abbrev Inv-loop : tie.InvT-loop
-Inv-loop n t1 t2 p right₀ i₀ right i = (i ≤ p * p) × (right ≤ 961 * i)
+Inv-loop n t1 t2 p right₀ i₀ right i = (i ≤ p * p) × (right ≤ i * (modulus n * modulus n))
 
 abbrev μ-loop : tie.MeasureT-loop
 μ-loop n t1 t2 p right₀ i₀ right i = p * p - i
@@ -54,7 +55,8 @@ right-on-requires c κs =
 add-right : tie.Need-add-right Inv-loop μ-loop
 add-right c =
     let l = c .before .before .before .before in
-    omega (arith, c .right-on .ensures, l .loop .inv .0, l .loop .inv .1, tiny (l .before) .pairs)
+    let inv = l .loop .inv in
+    omega (arith, fits (l .before .modulus-of .ensures) (tiny (l .before) .pairs) (inv .1) (inv .0) (c .right-on .ensures))
 
 add-i : tie.Need-add-i Inv-loop μ-loop
 add-i c =
@@ -65,7 +67,9 @@ loop-less : tie.Need-loop-less Inv-loop μ-loop
 loop-less c = search needs
 
 loop-again : tie.Need-loop-again Inv-loop μ-loop
-loop-again c = search needs
+loop-again c =
+    let i = c .before .before .before in
+    (omega (arith, i .loop-test .taken), omega (arith, i .before .loop .inv .1, c .right-on .ensures))
 
 same-length : tie.Need-same-length Inv-loop μ-loop
 same-length c = search needs
@@ -74,7 +78,9 @@ same-length-2 : tie.Need-same-length-2 Inv-loop μ-loop
 same-length-2 c = search needs
 
 returns : tie.Need-returns Inv-loop μ-loop
-returns c = search needs
+returns c =
+    let l = c .before in
+    counted (l .before .modulus-of .ensures) (l .loop .inv .1) (l .loop .inv .0)
 
 pub right-plain-spec : {M : Type 1} → statement M
 right-plain-spec =

@@ -1,13 +1,13 @@
--- `vectors::agreed_of` is safe and ends: the name keeps its length, and a job is counted at most once.
+-- `vectors::job::agreed_of` meets its contract: the name keeps its length, and a job is counted at most once.
 use Prim.Native.Nat.{_-_, _≤_}
 use mathlib.Core.Path.{_≡_}
 use borrow.Author.Needs.{needs}
 use lib.ListN.{length}
-use Rattle.vectors.proofs.agreed_of.Statement.{statement}
-use Rattle.vectors.proofs.agreed_of.Tie as tie
+use Rattle.vectors.proofs.job.agreed_of.Statement.{statement}
+use Rattle.vectors.proofs.job.agreed_of.Tie as tie
 
 abbrev Inv-loop : tie.InvT-loop
-Inv-loop w count name₀ agreed₀ k₀ name agreed k = (length name ≡ 12) × (agreed ≤ k)
+Inv-loop w count name₀ agreed₀ k₀ name agreed k = (length name ≡ 12) × (agreed ≤ k) × (k ≤ count)
 
 abbrev μ-loop : tie.MeasureT-loop
 μ-loop w count name₀ agreed₀ k₀ name agreed k = count - k
