@@ -29,7 +29,7 @@ use Rattle.rules.specs.declared.state.Phase.the-variants.{Asleep, Idle, Job}
 use Rattle.rules.specs.declared.state.State.{State}
 use Rattle.guarantees.specs.Boxes.{Box, first, second, sideOf, partner}
 use Rattle.guarantees.specs.Entries.{Lent, dealt, loose, Incoming, spokenAt, other, Step, wake, start, speak, hear, drop, cut, cutStart}
-use Rattle.guarantees.specs.Run.{Lending, Setting, Memory, Said, nothing, replied, Event, World, memoryOf, after, quiet, eventAt, tapeWords, incomingWords, spokenWords, stepped}
+use Rattle.guarantees.specs.Run.{Lending, Setting, Memory, Said, nothing, replied, Event, World, memoryOf, after, afterCut, quiet, eventAt, tapeWords, incomingWords, spokenWords, stepped}
 use Rattle.guarantees.specs.Premises.{True, Keeps}
 use Rattle.guarantees.proofs.Jobs.{partyAt, holding, sentBy, answerBy, sent-is, holding-next, answer-is, holding-room}
 use Rattle.guarantees.proofs.Passed.{decide, spoken-front, pass, awake-range, Ranged, ranged, StartPassed, start-passed, SpeakPassed, speak-passed, HearPassed, hear-passed, awake-mode, awake-listed, Due, due-job}
@@ -117,8 +117,8 @@ module _ (g : Setting) (pair : ℕ) (book : Box → ℕ → ℕ → Lending) whe
   awake-phase : (b : Box) (m : Memory) → Holds b m → isAsleep (modeOf (m .state)) ≡ false → Phased b (m .state) (m .work) (m .state .phase)
   awake-phase b m h awake = subst (Phased b (m .state) (m .work)) (awake-mode (m .state) awake) (h .holds)
 
-  asleep-holds : (b : Box) (s : State) (work tally : List ℕ) → Holds b (record { state = asleepState s; work = work; tally = tally })
-  asleep-holds b s work tally = record { holds = settle b (asleepState s) work tt }
+  cut-holds : (b : Box) (place : ℕ) (m : Memory) (tally : List ℕ) → Holds b (afterCut g place m tally)
+  cut-holds b place m tally = record { holds = settle b _ _ tt }
 
   -- a box keeps what it held
   kept : (b : Box) (m : Memory) (tally : List ℕ) → Holds b m → Holds b (record { state = m .state; work = m .work; tally = tally })
@@ -453,6 +453,6 @@ module _ (g : Setting) (pair : ℕ) (book : Box → ℕ → ℕ → Lending) whe
   follows-next place w b drop f keeps booked =
       after-follows w b _ _ f (drop-holds b (memoryOf w b) (f .each b)) (quiet-drop (memoryOf w b) _ refl)
   follows-next place w b cut f keeps booked =
-      after-follows w b _ _ f (asleep-holds b (memoryOf w b .state) _ _) refl
+      after-follows w b _ _ f (cut-holds b place (memoryOf w b) _) refl
   follows-next place w b (cutStart number lent value) f keeps booked =
-      after-follows w b _ _ f (asleep-holds b (memoryOf w b .state) _ _) refl
+      after-follows w b _ _ f (cut-holds b place (memoryOf w b) _) refl

@@ -169,7 +169,7 @@ cut-twin : (g g′ : Setting) (place : ℕ) {m m′ : Memory} {tally tally′ : 
     → TwinMemory (afterCut g place m tally) (afterCut g′ place m′ tally′)
 cut-twin g g′ place {m} {m′} t equal =
     record {
-      state = in-phase (t .state) (same Asleep);
+      state = in-phase (t .state) (same _);
       tally = equal;
       room =
           length-tabulate (length (m .work)) (g .leftovers place)
