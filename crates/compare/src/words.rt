@@ -1,9 +1,10 @@
-// How many words each round opens.
+// How many words each round opens, and how many a job works in.
 ghost use mathlib.Core.Path.{_≡_};
 ghost use mathlib.Core.Bool.{true};
 ghost use Prim.Native.Nat.{_+_, _*_};
 ghost use Rattle.field.specs.Width.{listed};
 ghost use Rattle.protocol.specs.Rounds.{roundWords};
+ghost use Rattle.protocol.specs.Work.{workLength};
 
 pub const LAST_ROUND: u32 = 6;
 
@@ -22,4 +23,11 @@ pub fn words_of(n: u32, round: u32) -> usize
         6 => 2,
         _ => 0,
     }
+}
+
+// How many words of work a job may use.
+pub fn work_words(n: u32) -> usize
+    ensures { λ r. ⌜ r ≡ workLength n ⌝ }
+{
+    12 * (n as usize) + 64
 }

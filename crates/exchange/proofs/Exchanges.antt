@@ -1,14 +1,13 @@
 -- The rounds one after another are the protocol's exchange, and on dealt tapes the opened answer is right.
-use Prim.Native.Nat.{ℕ, zero, suc, _+_, _%_, _<_, _≤_}
-use mathlib.Core.Bool.{true}
+use Prim.Native.Nat.{ℕ, _+_, _%_, _<_, _≤_}
 use mathlib.Core.List.{List}
 use mathlib.Core.Path.{_≡_, _∙_}
-use native.Mathlib.Nat.{mod-eq-of-lt, mul-le-mul-right}
+use native.Mathlib.Nat.{mod-eq-of-lt}
 use native.Mathlib.Numerals.{add-one}
 use native.Mathlib.Omega.{arith}
 use lib.Dec.{ltb}
 use lib.ListN.{length}
-use Rattle.field.specs.Width.{modulus, listed}
+use Rattle.field.specs.Width.{modulus}
 use Rattle.field.proofs.Widths.{bounds}
 use Rattle.shares.specs.Side.{other}
 use Rattle.tape.specs.Dealt.{Dealt}
@@ -16,23 +15,11 @@ use Rattle.tape.proofs.Dealing.{own-readable}
 use Rattle.encoding.specs.Matching.{indicator}
 use Rattle.protocol.specs.Work.{workLength}
 use Rattle.protocol.specs.Products.{Party}
-use Rattle.protocol.specs.Rounds.{roundWords, message, afterHearing, replyTo}
+use Rattle.protocol.specs.Rounds.{message, afterHearing, replyTo}
 use Rattle.protocol.specs.Exchange.{Both, exchanged, sentOwn, sentOthers, answerOwn, answerOthers}
 use Rattle.protocol.proofs.Halves.{indicator-bit}
 use Rattle.protocol.proofs.Right.{right}
 use Rattle.exchange.specs.Boxes.{works, answerOne, answerTwo}
-
--- no round has more words than the first
-pub most-words : (n round : ℕ) → listed n ≡ true → roundWords n round ≤ roundWords n 1
-unfolding roundWords
-most-words n zero l = omega arith
-most-words n (suc zero) l = omega arith
-most-words n (suc (suc zero)) l = omega (arith, mul-le-mul-right n (bounds l .least))
-most-words n (suc (suc (suc zero))) l = omega (arith, mul-le-mul-right n (bounds l .least))
-most-words n (suc (suc (suc (suc zero)))) l = omega arith
-most-words n (suc (suc (suc (suc (suc zero))))) l = omega arith
-most-words n (suc (suc (suc (suc (suc (suc zero)))))) l = omega arith
-most-words n (suc (suc (suc (suc (suc (suc (suc round))))))) l = omega arith
 
 module _ (b c : Party) (w : Both) where
   -- one round more

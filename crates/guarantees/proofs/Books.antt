@@ -1,5 +1,5 @@
 -- The shares that opened each job of a run: found by the job's place in the log, reduced so that they are in range in any case.
-use Prim.Native.Nat.{ℕ, zero, suc, _%_, _<_}
+use Prim.Native.Nat.{ℕ, suc, _%_, _<_}
 use mathlib.Core.Path.{_≡_, refl, sym, ap, _∙_}
 use mathlib.Core.Bool.{true}
 use mathlib.Core.List.{List}
@@ -7,14 +7,14 @@ use native.Mathlib.Nat.{mod-lt, mod-eq-of-lt}
 use native.Mathlib.Omega.{arith}
 use lib.ListN.{length}
 use Rattle.field.specs.Width.{listed, modulus}
-use Rattle.field.proofs.Widths.{Bounds, bounds}
+use Rattle.field.proofs.Widths.{bounds}
 use Rattle.rules.specs.Grounds.{startGround}
 use Rattle.guarantees.specs.Boxes.{Box}
 use Rattle.guarantees.specs.Entries.{Lent, Step, wake, start, speak, hear, drop, cut, cutStart, Entry}
-use Rattle.guarantees.specs.Run.{Lending, Setting, Memory, Event, World, memoryOf, tapeWords, stepped, run}
+use Rattle.guarantees.specs.Run.{Lending, Setting, Event, World, memoryOf, tapeWords, stepped, run}
 use Rattle.guarantees.proofs.Places.{openedAt}
-use Rattle.guarantees.proofs.Passed.{start-passed}
-use Rattle.guarantees.proofs.Twins.{Twin, TwinMemory, Skeleton}
+use Rattle.rules.proofs.Passed.{start-passed}
+use Rattle.guarantees.proofs.Twins.{Skeleton}
 use Rattle.guarantees.proofs.Skeletons.{Fit, memories}
 use Rattle.guarantees.proofs.Openings.{Marked, found}
 use Rattle.guarantees.proofs.Follows.{Booked}

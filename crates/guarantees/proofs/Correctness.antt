@@ -1,14 +1,14 @@
 -- Demand 2 over lists, from what one run follows and the exchange's own theorem.
-use Prim.Native.Nat.{ℕ, zero, suc, _+_, _%_, _<_, _≤_}
+use Prim.Native.Nat.{ℕ, suc, _+_, _%_, _<_}
 use mathlib.Core.Path.{_≡_, refl, sym, ap, subst, _∙_}
 use mathlib.Core.Bool.{Bool, true, false, _&&_, cond, false≢true}
-use mathlib.Core.List.{List, [], _∷_, _++_}
+use mathlib.Core.List.{List, [], _∷_}
 use native.Mathlib.Nat.{le-of-eq, mod-eq-of-lt}
 use native.Mathlib.Omega.{arith}
 use borrow.Author.Tests.{eqb-true, eq-eqb, ltb-true, lt-ltb}
 use lib.Dec.{eqb, ltb}
 use lib.ListN.{length, length-append, length-replicate}
-use Rattle.lists.proofs.Tests.{and-left, and-right, and-both}
+use Rattle.lists.proofs.Tests.{and-left, and-right}
 use Rattle.field.specs.Width.{listed, modulus}
 use Rattle.field.specs.Congruence.{Cong}
 use Rattle.field.proofs.Widths.{bounds}
@@ -18,14 +18,13 @@ use Rattle.encoding.specs.Matching.{indicator}
 use Rattle.protocol.specs.Work.{workLength}
 use Rattle.protocol.proofs.Halves.{indicator-bit}
 use Rattle.protocol.proofs.Right.{right}
-use Rattle.rules.specs.Answers.{Reply, fresh, started, spoke, heard, share, dropped, refused}
-use Rattle.rules.specs.Grounds.{startGround}
-use Rattle.guarantees.specs.Boxes.{Box, first, second, sideOf, partner}
-use Rattle.guarantees.specs.Entries.{Lent, Step, wake, start, speak, hear, drop, cut, cutStart, Entry}
-use Rattle.guarantees.specs.Run.{Lending, Setting, Memory, Said, nothing, replied, Event, World, memoryOf, eventAt, tapeWords, stepped, run}
-use Rattle.guarantees.specs.Premises.{AtFirst, AllDealt, Meets}
+use Rattle.rules.specs.Answers.{fresh, started, spoke, heard, share, dropped, refused}
+use Rattle.guarantees.specs.Boxes.{Box, first, second, sideOf}
+use Rattle.guarantees.specs.Entries.{Step, wake, start, speak, hear, drop, cut, cutStart, Entry}
+use Rattle.guarantees.specs.Run.{Lending, Setting, Said, nothing, replied, Event, World, memoryOf, eventAt, stepped, run}
+use Rattle.guarantees.specs.Premises.{Meets}
 use Rattle.guarantees.proofs.Places.{sameBox, isStarted, opens, openedAt}
-use Rattle.guarantees.specs.Correctness.{Told, Right, Correctness}
+use Rattle.guarantees.specs.Correctness.{Told, Correctness}
 use Rattle.guarantees.proofs.Jobs.{blank, answerBy}
 use Rattle.guarantees.proofs.Openings.{Marked, marked-next, Once, once-next, one-more, next-place, run-grows, found, same-box, same-self}
 use Rattle.guarantees.proofs.First.{follows-first, marked-first, once-first}

@@ -1,8 +1,8 @@
 -- What holds before the first entry: both boxes are asleep and the log is empty.
-use Prim.Native.Nat.{ℕ, _<_}
+use Prim.Native.Nat.{ℕ}
 use mathlib.Core.Path.{_≡_, refl, sym, ap, subst}
 use mathlib.Core.Bool.{true, false≢true}
-use mathlib.Core.List.{List, []}
+use mathlib.Core.List.{List}
 use native.Mathlib.Omega.{arith}
 use lib.ListN.{length}
 use Rattle.rules.specs.Modes.{modeOf, isAsleep}
@@ -10,7 +10,7 @@ use Rattle.rules.specs.declared.state.Phase.{Phase}
 use Rattle.rules.specs.declared.state.Phase.the-variants.{Asleep, Idle, Job}
 use Rattle.rules.specs.declared.state.State.{State}
 use Rattle.guarantees.specs.Boxes.{Box, first, second}
-use Rattle.guarantees.specs.Run.{Lending, Setting, Memory, Event, World, memoryOf, eventAt}
+use Rattle.guarantees.specs.Run.{Lending, Setting, Event, World, memoryOf, eventAt}
 use Rattle.guarantees.specs.Premises.{AtFirst}
 use Rattle.guarantees.proofs.Openings.{Unopened, Marked, Once}
 use Rattle.guarantees.proofs.Follows.{Phased, Holds, True-to, Follows}

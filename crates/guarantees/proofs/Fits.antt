@@ -1,24 +1,22 @@
 -- Two runs at one place: what makes their grounds of refusal the same.
-use Prim.Native.Nat.{ℕ, _<_}
+use Prim.Native.Nat.{ℕ}
 use mathlib.Core.Path.{_≡_, refl, sym, ap, _∙_}
 use mathlib.Core.Bool.{Bool, true, false, cond}
-use mathlib.Core.List.{List, []}
+use mathlib.Core.List.{[]}
 use mathlib.Core.Logic.{_⊎_, inl, inr}
 use borrow.Author.Tests.{lt-ltb}
 use lib.Dec.{ltb}
-use lib.ListN.{length}
 use Rattle.field.specs.Width.{listed, modulus}
 use Rattle.tape.specs.Order.{inOrder}
 use Rattle.tape.proofs.Keys.{order-alike}
-use Rattle.rules.specs.Answers.{Reply, spoke}
 use Rattle.rules.specs.Modes.{modeOf, isAsleep}
 use Rattle.rules.specs.Grounds.{startGround}
 use Rattle.guarantees.specs.Boxes.{Box, sideOf}
 use Rattle.guarantees.specs.Entries.{Lent, dealt, loose, Incoming, Step, wake, start, speak, hear, drop, cut, cutStart}
-use Rattle.guarantees.specs.Run.{Lending, Setting, Memory, Event, World, memoryOf, eventAt, tapeWords}
+use Rattle.guarantees.specs.Run.{Setting, Memory, World, memoryOf, tapeWords}
 use Rattle.guarantees.specs.Premises.{True, InBoth, Compatible}
 use Rattle.guarantees.specs.View.{covered}
-use Rattle.guarantees.proofs.Twins.{Twin, TwinMemory, SameEvent, Skeleton}
+use Rattle.guarantees.proofs.Twins.{TwinMemory, Skeleton}
 use Rattle.guarantees.proofs.Turns.{asleep-same}
 use Rattle.guarantees.proofs.Refusals.{SharesAlike, start-same}
 use Rattle.guarantees.proofs.Skeletons.{Fit, memories}

@@ -1,38 +1,34 @@
 -- One run by itself: in a job, what work holds of the rounds heard so far is what the job's exchange gives, and so is every message spoken
 -- and every answer share.
-use Prim.Native.Nat.{ℕ, zero, suc, _+_, _-_, _*_, _<_, _≤_}
+use Prim.Native.Nat.{ℕ, zero, suc, _+_, _<_, _≤_}
 use mathlib.Core.Path.{_≡_, refl, sym, ap, subst, _∙_}
-use mathlib.Core.Bool.{Bool, true, false, not, _&&_, cond, true≢false}
+use mathlib.Core.Bool.{Bool, true, false, not, cond, true≢false}
 use mathlib.Core.List.{List, [], _∷_, _++_}
 use native.Mathlib.Omega.{arith}
-use borrow.Author.Tests.{eqb-true, eqb-false, leb-true, ltb-true}
-use lib.Dec.{eqb, leb, ltb}
-use lib.ListN.{length, getD, take}
-use lib.Seq.{sets, take-at}
-use Rattle.lists.proofs.Tests.{and-left, and-right}
-use Rattle.lists.proofs.Sets.{sets-front}
+use borrow.Author.Tests.{eqb-true}
+use lib.Dec.{eqb}
+use lib.ListN.{length}
 use Rattle.field.specs.Width.{listed, modulus}
 use Rattle.protocol.specs.Work.{workLength}
-use Rattle.protocol.specs.Products.{Party, party}
-use Rattle.protocol.specs.Rounds.{roundWords, message, afterHearing, answerShare}
+use Rattle.protocol.specs.Rounds.{afterHearing, answerShare}
 use Rattle.protocol.proofs.Live.{Live, message-live, after-live, answer-live}
-use Rattle.protocol.proofs.Lengths.{message-length, after-length}
-use Rattle.rules.specs.Answers.{Reply, fresh, started, spoke, heard, share, dropped, refused}
-use Rattle.rules.specs.Tally.{tapesOf}
-use Rattle.rules.specs.Modes.{roundOf, roundFits, phaseFits, inRange, modeOf, isAsleep, inJob, asleepState}
+use Rattle.protocol.proofs.Lengths.{after-length}
+use Rattle.rules.specs.Answers.{fresh, started, spoke, heard, share, dropped, refused}
+use Rattle.rules.specs.Modes.{roundOf, inRange, modeOf, isAsleep, inJob}
 use Rattle.rules.specs.Grounds.{_when_, wakeGround, startGround, speakGround, hearGround, dropGround}
-use Rattle.rules.specs.Calls.{Result, inPhase, unless, partyOf, turned, wakeRule, startRule, speakRule, hearRule, dropRule}
+use Rattle.rules.specs.Calls.{Result, inPhase, partyOf, turned, wakeRule, startRule, speakRule, hearRule, dropRule}
 use Rattle.rules.specs.declared.state.Turn.{Turn}
 use Rattle.rules.specs.declared.state.Turn.the-variants.{Speak, Hear}
 use Rattle.rules.specs.declared.state.Phase.{Phase}
 use Rattle.rules.specs.declared.state.Phase.the-variants.{Asleep, Idle, Job}
 use Rattle.rules.specs.declared.state.State.{State}
 use Rattle.guarantees.specs.Boxes.{Box, first, second, sideOf, partner}
-use Rattle.guarantees.specs.Entries.{Lent, dealt, loose, Incoming, spokenAt, other, Step, wake, start, speak, hear, drop, cut, cutStart}
-use Rattle.guarantees.specs.Run.{Lending, Setting, Memory, Said, nothing, replied, Event, World, memoryOf, after, afterCut, quiet, eventAt, tapeWords, incomingWords, spokenWords, stepped}
+use Rattle.guarantees.specs.Entries.{Lent, dealt, Incoming, Step, wake, start, speak, hear, drop, cut, cutStart}
+use Rattle.guarantees.specs.Run.{Lending, Setting, Memory, Said, nothing, replied, Event, World, memoryOf, after, afterCut, eventAt, tapeWords, incomingWords, spokenWords, stepped}
 use Rattle.guarantees.specs.Premises.{True, Keeps}
 use Rattle.guarantees.proofs.Jobs.{partyAt, holding, sentBy, answerBy, sent-is, holding-next, answer-is, holding-room}
-use Rattle.guarantees.proofs.Passed.{decide, spoken-front, pass, awake-range, Ranged, ranged, StartPassed, start-passed, SpeakPassed, speak-passed, HearPassed, hear-passed, awake-mode, awake-listed, Due, due-job}
+use Rattle.guarantees.proofs.Spoken.{spoken-front}
+use Rattle.rules.proofs.Passed.{decide, pass, start-passed, speak-passed, hear-passed, awake-mode, awake-listed, Due, due-job, job-range}
 
 module _ (g : Setting) (pair : ℕ) (book : Box → ℕ → ℕ → Lending) where
   -- ---- what holds of one box
@@ -203,27 +199,6 @@ module _ (g : Setting) (pair : ℕ) (book : Box → ℕ → ℕ → Lending) whe
     pub x-fits : book b number (m .state .n) .x < modulus (m .state .n)
     pub y-fits : book b number (m .state .n) .y < modulus (m .state .n)
     pub party-is : partyOf (m .state) tape ≡ partyAt (g .tapes) book b number (m .state .n)
-
-  -- a job in range: its turn is of one of the six rounds, its shares are below p
-  record JobRange (s : State) (turn : Turn) (x y : ℕ) : Type 0 where
-    last : roundOf turn ≤ 6
-    x-fits : x < modulus (s .n)
-    y-fits : y < modulus (s .n)
-
-  job-range : (s : State) (x y : ℕ) {turn : Turn} {number : ℕ} → isAsleep (modeOf s) ≡ false → s .phase ≡ Job turn number x y → JobRange s turn x y
-  job-range s x y {turn} {number} awake job =
-      let fits = subst (λ (p : Phase). phaseFits (s .n) (s .tally) p ≡ true) job (ranged s (awake-range s awake) .phased) in
-      let two = ltb number (tapesOf (s .tally)) && roundFits (roundOf turn) in
-      let three = two && ltb x (modulus (s .n)) in
-      let threes = and-left three (ltb y (modulus (s .n))) fits in
-      let twos = and-left two (ltb x (modulus (s .n))) threes in
-      record {
-        last =
-            leb-true (roundOf turn) 6
-            (and-right (leb 1 (roundOf turn)) (leb (roundOf turn) 6) (and-right (ltb number (tapesOf (s .tally))) (roundFits (roundOf turn)) twos));
-        x-fits = ltb-true x (modulus (s .n)) (and-right two (ltb x (modulus (s .n))) threes);
-        y-fits = ltb-true y (modulus (s .n)) (and-right three (ltb y (modulus (s .n))) fits);
-      }
 
   going : (b : Box) (m : Memory) (number round : ℕ) (turn : Turn) (lent : Lent) → Holds b m
       → (awake : isAsleep (modeOf (m .state)) ≡ false) → Due (m .state) number turn → lent ≡ dealt b number (m .state .n)

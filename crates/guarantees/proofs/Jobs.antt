@@ -1,6 +1,6 @@
 -- A job's exchange: what the two boxes of a key (tape number and width) send and hold, round by round, whatever work held at first.
-use Prim.Native.Nat.{ℕ, zero, suc, _+_, _*_, _<_, _≤_}
-use mathlib.Core.Path.{_≡_, refl, sym, ap, _∙_}
+use Prim.Native.Nat.{ℕ, zero, suc, _≤_}
+use mathlib.Core.Path.{_≡_, refl, sym}
 use mathlib.Core.List.{List}
 use native.Mathlib.Nat.{le-of-eq}
 use lib.ListN.{length, replicate, length-replicate}

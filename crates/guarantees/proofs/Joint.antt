@@ -1,29 +1,21 @@
 -- Two runs over one list, entry by entry: they stay alike, and the second meets the premises as the first does.
-use Prim.Native.Nat.{ℕ, zero, suc, _+_, _%_, _<_}
+use Prim.Native.Nat.{ℕ, zero, suc, _<_}
 use mathlib.Core.Path.{_≡_, refl, sym, ap, subst, _∙_}
-use mathlib.Core.Bool.{Bool, true, false, cond, false≢true}
+use mathlib.Core.Bool.{Bool, true, false, false≢true}
 use mathlib.Core.List.{List, [], _∷_, _++_, map}
-use mathlib.Core.Logic.{_⊎_, inl, inr}
 use native.Mathlib.Omega.{arith}
-use borrow.Author.Tests.{lt-ltb}
-use lib.Dec.{ltb}
 use lib.ListN.{length}
-use Rattle.field.specs.Width.{listed, modulus}
-use Rattle.tape.specs.Order.{inOrder}
-use Rattle.tape.proofs.Keys.{order-alike}
-use Rattle.rules.specs.Answers.{Reply, fresh, started, spoke, heard, share, dropped, refused}
-use Rattle.rules.specs.Modes.{modeOf, isAsleep}
-use Rattle.rules.specs.Grounds.{wordsFit, wakeGround, startGround, speakGround, hearGround}
-use Rattle.rules.specs.declared.state.State.{State}
-use Rattle.guarantees.specs.Boxes.{Box, first, second, sideOf, partner}
-use Rattle.guarantees.specs.Entries.{Lent, dealt, loose, Incoming, spokenAt, other, Step, wake, start, speak, hear, drop, cut, cutStart, Entry}
-use Rattle.guarantees.specs.Run.{Lending, Setting, Memory, Said, nothing, replied, Event, World, memoryOf, after, eventAt, tapeWords, incomingWords, stepped, run}
-use Rattle.guarantees.specs.Premises.{True, Keeps, Meets, InBoth, Compatible, AllCompatible}
-use Rattle.guarantees.specs.View.{covered, seen, view}
-use Rattle.guarantees.proofs.Twins.{Twin, TwinMemory, SameEvent, Skeleton}
+use Rattle.field.specs.Width.{listed}
+use Rattle.rules.specs.Answers.{fresh, started, spoke, heard, share, dropped, refused}
+use Rattle.rules.specs.Grounds.{wordsFit, wakeGround}
+use Rattle.guarantees.specs.Boxes.{Box, first, second, partner}
+use Rattle.guarantees.specs.Entries.{dealt, Incoming, spokenAt, other, Step, wake, start, speak, hear, drop, cut, cutStart}
+use Rattle.guarantees.specs.Run.{Lending, Setting, Memory, Said, nothing, replied, Event, World, memoryOf, after, eventAt, incomingWords, stepped}
+use Rattle.guarantees.specs.Premises.{Keeps, Compatible}
+use Rattle.guarantees.specs.View.{seen, view}
+use Rattle.guarantees.proofs.Twins.{SameEvent, Skeleton}
 use Rattle.guarantees.proofs.Jobs.{sentBy, answerBy}
-use Rattle.guarantees.proofs.Turns.{asleep-same}
-use Rattle.guarantees.proofs.Refusals.{SharesAlike, wake-same, start-same, speak-same, hear-same}
+use Rattle.guarantees.proofs.Refusals.{wake-same, speak-same, hear-same}
 use Rattle.guarantees.proofs.Skeletons.{Fit, memories, next}
 use Rattle.guarantees.proofs.Covers.{isSpoke, spoke-same, uncover, said-to}
 use Rattle.guarantees.proofs.Fits.{InOrder, order-same, start-fit, true-too}

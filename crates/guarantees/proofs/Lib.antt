@@ -1,7 +1,7 @@
 pub mod Places
 pub mod Twins
 pub mod Jobs
-pub mod Passed
+pub mod Spoken
 pub mod Follows
 pub mod Openings
 pub mod Turns

@@ -1,25 +1,25 @@
 -- At one box a tape number opens a job only once: what is marked never becomes fresh again. So a job's place in the log is found again.
-use Prim.Native.Nat.{ℕ, zero, suc, _+_, _<_, _≤_}
+use Prim.Native.Nat.{ℕ, suc, _<_}
 use mathlib.Core.Path.{_≡_, refl, sym, ap, subst, _∙_}
 use mathlib.Core.Bool.{Bool, true, false, _&&_, cond, false≢true, true≢false}
 use mathlib.Core.List.{List, [], _∷_, _++_, append-assoc, append-nil}
 use native.Mathlib.Omega.{arith}
 use borrow.Author.Tests.{eqb-true, eqb-false, eq-eqb, ltb-true, ltb-false}
 use lib.Dec.{eqb, ltb}
-use lib.ListN.{length, length-append}
-use Rattle.lists.proofs.Tests.{and-left, and-right, and-both, and-false}
-use Rattle.rules.specs.Answers.{Reply, fresh, started, spoke, heard, share, dropped, refused}
+use lib.ListN.{length}
+use Rattle.lists.proofs.Tests.{and-left, and-right, and-false}
+use Rattle.rules.specs.Answers.{fresh, started, heard, share, refused}
 use Rattle.rules.specs.Tally.{tapesOf, isFresh, marked, cutMarked}
 use Rattle.rules.specs.Grounds.{wakeGround, startGround, speakGround, hearGround, dropGround}
 use Rattle.rules.specs.declared.state.State.{State}
 use Rattle.protocol.specs.Rounds.{answerShare}
-use Rattle.rules.specs.Calls.{Result, unless, partyOf, wakeRule, startRule, speakRule, hearRule, dropRule}
+use Rattle.rules.specs.Calls.{Result, partyOf, wakeRule, startRule, speakRule, hearRule, dropRule}
 use Rattle.rules.proofs.Marks.{marked-spent, marked-other, cut-other}
 use Rattle.guarantees.specs.Boxes.{Box, first, second}
 use Rattle.guarantees.specs.Entries.{Lent, Step, wake, start, speak, hear, drop, cut, cutStart, Entry}
-use Rattle.guarantees.specs.Run.{Lending, Setting, Memory, Said, nothing, replied, Event, World, memoryOf, after, eventAt, tapeWords, incomingWords, stepped, run}
+use Rattle.guarantees.specs.Run.{Setting, Memory, replied, Event, World, memoryOf, after, eventAt, tapeWords, incomingWords, stepped, run}
 use Rattle.guarantees.proofs.Places.{sameBox, isStarted, opens, openedAt}
-use Rattle.guarantees.proofs.Passed.{decide, start-passed}
+use Rattle.rules.proofs.Passed.{decide, start-passed}
 use Rattle.guarantees.proofs.Logs.{log-length, event-before, event-end}
 
 -- no event of the log opened a job of this box under a number that is fresh

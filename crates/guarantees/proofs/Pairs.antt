@@ -1,12 +1,12 @@
 -- One key's exchange as both boxes of a run see it: what protocol/specs/Pairing.antt says of the box in question, said of box 1 and box 2.
-use Prim.Native.Nat.{ℕ, zero, suc, _<_, _≤_}
-use mathlib.Core.Path.{_≡_, refl, sym, ap, _∙_}
+use Prim.Native.Nat.{ℕ, zero, suc, _<_}
+use mathlib.Core.Path.{_≡_, refl, sym, _∙_}
 use mathlib.Core.List.{List}
 use native.Mathlib.Nat.{le-of-eq}
-use lib.ListN.{length, replicate, length-replicate}
+use lib.ListN.{length-replicate}
 use Rattle.shares.specs.Side.{other}
 use Rattle.protocol.specs.Work.{workLength}
-use Rattle.protocol.specs.Products.{Party, party}
+use Rattle.protocol.specs.Products.{Party}
 use Rattle.protocol.specs.Exchange.{Both, exchanged, sentOwn, sentOthers, answerOwn, answerOthers}
 use Rattle.protocol.specs.Pairing.{Roomy, LooksAlike}
 use Rattle.guarantees.specs.Boxes.{Box, first, second, sideOf, partner}

@@ -1,11 +1,11 @@
 -- Two runs over a whole list: alike at the end, and the second meets the premises.
-use Prim.Native.Nat.{ℕ, zero, suc}
-use mathlib.Core.Path.{_≡_, refl, sym, ap, _∙_}
+use Prim.Native.Nat.{ℕ, suc}
+use mathlib.Core.Path.{_≡_, ap, _∙_}
 use mathlib.Core.List.{List, [], _∷_}
 use lib.ListN.{length}
 use Rattle.guarantees.specs.Boxes.{Box}
 use Rattle.guarantees.specs.Entries.{Entry}
-use Rattle.guarantees.specs.Run.{Lending, Setting, Event, World, stepped, run}
+use Rattle.guarantees.specs.Run.{Setting, Event, World, stepped, run}
 use Rattle.guarantees.specs.Premises.{Meets, AllCompatible}
 use Rattle.guarantees.proofs.Openings.{Marked, marked-next, next-place}
 use Rattle.guarantees.proofs.Books.{bookOf, booked, booked-too}

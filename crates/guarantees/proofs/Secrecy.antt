@@ -1,30 +1,26 @@
 -- Demand 3: the pairing of a box's valid tape sets. A set's image moves the tape of each number and width as the shares that opened its job
 -- ask; where that was is the same in both runs.
-use Prim.Native.Nat.{ℕ, zero, suc, _<_}
-use mathlib.Core.Path.{_≡_, refl, sym, ap, subst, _∙_}
+use Prim.Native.Nat.{ℕ, suc}
+use mathlib.Core.Path.{_≡_, refl, sym, ap, _∙_}
 use mathlib.Core.Bool.{true, false≢true}
 use mathlib.Core.List.{List, [], _∷_}
 use mathlib.Core.Logic.{inl}
-use lib.ListN.{length}
-use Rattle.lists.specs.Tabulate.{tabulate}
 use Rattle.lists.proofs.Tabulate.{length-tabulate}
-use Rattle.field.specs.Width.{listed, modulus}
+use Rattle.field.specs.Width.{listed}
 use Rattle.shares.specs.Side.{other}
 use Rattle.tape.specs.Order.{inOrder}
-use Rattle.tape.specs.Dealt.{Matched}
 use Rattle.protocol.specs.Change.{sharesOf}
 use Rattle.protocol.specs.Shift.{shifted}
-use Rattle.protocol.specs.Pairing.{LooksAlike, Moves}
+use Rattle.protocol.specs.Pairing.{Moves}
 use Rattle.protocol.proofs.Secrecy.{moves}
-use Rattle.rules.specs.declared.state.State.{State}
 use Rattle.guarantees.specs.Boxes.{Box, first, second, sideOf, partner}
 use Rattle.guarantees.specs.Entries.{Step, wake, start, speak, hear, drop, cut, cutStart, Entry}
-use Rattle.guarantees.specs.Run.{Lending, Setting, Memory, Event, World, memoryOf, quiet, stepped, run}
+use Rattle.guarantees.specs.Run.{Lending, Setting, Event, World, quiet, stepped}
 use Rattle.guarantees.specs.Premises.{AtFirst, Meets, Compatible, AllCompatible}
 use Rattle.guarantees.proofs.Places.{openedAt}
 use Rattle.guarantees.specs.View.{view}
-use Rattle.guarantees.specs.Secrecy.{TapeSet, Valid, byBox, Common, Loose, memoryAt, worldOf, settingOf, events, Premises, Hidden, Paired, Secrecy}
-use Rattle.guarantees.proofs.Twins.{Twin, TwinMemory, Skeleton, same}
+use Rattle.guarantees.specs.Secrecy.{TapeSet, Valid, byBox, Common, Loose, memoryAt, worldOf, settingOf, events, Premises, Hidden, Secrecy}
+use Rattle.guarantees.proofs.Twins.{TwinMemory, Skeleton, same}
 use Rattle.guarantees.proofs.Logs.{same-event}
 use Rattle.guarantees.proofs.First.{follows-first, marked-first}
 use Rattle.guarantees.proofs.Joint.{Alike, Joint, views}
@@ -32,7 +28,7 @@ use Rattle.guarantees.proofs.Books.{clip, clip-y, bookOf}
 use Rattle.guarantees.proofs.Runs.{Both, both}
 use Rattle.guarantees.proofs.Pairs.{KeyAlike, sent-alike, answer-alike}
 use Rattle.guarantees.proofs.Views.{opened-same, opened-twins}
-use Rattle.guarantees.proofs.Steady.{Steady, steady}
+use Rattle.guarantees.proofs.Steady.{steady}
 
 -- ---- the maps
 

@@ -17,14 +17,14 @@ use Rattle.rules.specs.Calls.{Result, inPhase, unless, turned, partyOf, wakeRul
 use Rattle.rules.specs.declared.state.Turn.{Turn}
 use Rattle.rules.specs.declared.state.Turn.the-variants.{Speak, Hear}
 use Rattle.rules.specs.declared.state.Phase.{Phase}
-use Rattle.rules.specs.declared.state.Phase.the-variants.{Asleep, Idle}
+use Rattle.rules.specs.declared.state.Phase.the-variants.{Idle}
 use Rattle.rules.specs.declared.state.State.{State}
 use Rattle.guarantees.specs.Boxes.{Box, first, second}
 use Rattle.guarantees.specs.Entries.{Step, wake, start, speak, hear, drop, cut, cutStart}
 use Rattle.guarantees.specs.Run.{Setting, Memory, replied, Event, World, memoryOf, after, tapeWords, incomingWords, spokenWords, afterCut, stepped}
 use Rattle.guarantees.specs.View.{covered}
 use Rattle.guarantees.proofs.Twins.{PhaseTwin, same, jobs, Twin, TwinMemory, SameEvent, Skeleton}
-use Rattle.guarantees.proofs.Passed.{start-passed}
+use Rattle.rules.proofs.Passed.{start-passed}
 use Rattle.guarantees.proofs.Refusals.{wake-same, drop-same}
 use Rattle.guarantees.proofs.Logs.{log-length, events-more}
 

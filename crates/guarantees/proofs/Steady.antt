@@ -1,36 +1,28 @@
 -- Two runs that both meet the premises come to the same places, whatever valid tapes they use: a message is taken just when it is true.
-use Prim.Native.Nat.{ℕ, zero, suc, _<_, _≤_}
+use Prim.Native.Nat.{ℕ, zero, suc}
 use mathlib.Core.Path.{_≡_, refl, sym, ap, subst, _∙_}
 use mathlib.Core.Bool.{Bool, true, false, not, _||_, cond, true≢false, false≢true}
 use mathlib.Core.List.{List, [], _∷_, _++_}
 use native.Mathlib.Omega.{arith}
-use borrow.Author.Tests.{eqb-true, eqb-false, lt-ltb}
 use lib.Dec.{eqb, leb, ltb}
-use lib.ListN.{length, getD, take}
-use lib.Seq.{sets, take-at}
+use lib.ListN.{length, getD}
 use Rattle.lists.proofs.Every.{every-intro}
-use Rattle.lists.proofs.Sets.{sets-front}
-use Rattle.field.specs.Width.{listed, modulus}
+use Rattle.field.specs.Width.{modulus}
 use Rattle.tape.specs.Order.{inOrder}
-use Rattle.protocol.specs.Words.{Below}
 use Rattle.protocol.specs.Work.{workLength}
-use Rattle.protocol.specs.Products.{Party}
-use Rattle.protocol.specs.Rounds.{roundWords, message}
-use Rattle.protocol.proofs.Lengths.{message-length}
-use Rattle.protocol.proofs.Ranges.{message-below}
-use Rattle.rules.specs.Answers.{Reply, fresh, started, spoke, heard, share, dropped, refused}
+use Rattle.protocol.specs.Rounds.{roundWords}
 use Rattle.rules.specs.Modes.{modeOf, isAsleep, inJob, isDue}
-use Rattle.rules.specs.Grounds.{Ground, _when_, firstOf, wordsFit, wakeGround, speakGround, hearGround}
-use Rattle.rules.specs.Calls.{Result, unless, partyOf, speakRule}
-use Rattle.rules.specs.declared.state.Turn.{Turn}
-use Rattle.rules.specs.declared.state.Turn.the-variants.{Speak, Hear}
+use Rattle.rules.specs.Grounds.{Ground, _when_, firstOf, wordsFit, speakGround, hearGround}
+use Rattle.rules.specs.Calls.{speakRule}
+use Rattle.rules.specs.declared.state.Turn.the-variants.{Hear}
 use Rattle.rules.specs.declared.state.State.{State}
-use Rattle.guarantees.specs.Boxes.{Box, first, second, sideOf}
-use Rattle.guarantees.specs.Entries.{Lent, Incoming, spokenAt, other, Step, wake, start, speak, hear, drop, cut, cutStart, Entry}
-use Rattle.guarantees.specs.Run.{Lending, Setting, Memory, Said, nothing, replied, Event, World, memoryOf, after, eventAt, tapeWords, incomingWords, spokenWords, stepped, run}
+use Rattle.guarantees.specs.Boxes.{Box, first, second}
+use Rattle.guarantees.specs.Entries.{Incoming, spokenAt, other, Step, wake, start, speak, hear, drop, cut, cutStart, Entry}
+use Rattle.guarantees.specs.Run.{Setting, Memory, replied, Event, World, memoryOf, after, eventAt, tapeWords, incomingWords, spokenWords, stepped, run}
 use Rattle.guarantees.specs.Premises.{True, Keeps, Meets, Compatible, AllCompatible}
-use Rattle.guarantees.proofs.Twins.{Twin, TwinMemory, SameEvent, Skeleton}
-use Rattle.guarantees.proofs.Passed.{decide, spoken-front, message-fits, SpeakPassed, speak-passed, awake-listed}
+use Rattle.guarantees.proofs.Twins.{Twin, Skeleton}
+use Rattle.rules.proofs.Passed.{decide, speak-passed, awake-listed}
+use Rattle.guarantees.proofs.Spoken.{spoken-front, message-fits}
 use Rattle.guarantees.proofs.Turns.{asleep-same, job-same, due-same}
 use Rattle.guarantees.proofs.Refusals.{OrderAlike, speak-same, hear-same}
 use Rattle.guarantees.proofs.Skeletons.{Fit, memories, next}

@@ -1,7 +1,6 @@
 -- Two runs over one list that differ in tapes, in-range shares and words of work only: what they have in common at every place.
 use Prim.Native.Nat.{ℕ, _<_}
 use mathlib.Core.Path.{_≡_}
-use mathlib.Core.List.{List}
 use lib.ListN.{length}
 use Rattle.field.specs.Width.{modulus}
 use Rattle.rules.specs.declared.state.Turn.{Turn}

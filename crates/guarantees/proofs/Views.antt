@@ -1,16 +1,14 @@
 -- What is compared shows where each job was opened.
 use Prim.Native.Nat.{ℕ, zero, suc}
 use mathlib.Core.Path.{_≡_, refl, sym, ap, _∙_}
-use mathlib.Core.Bool.{Bool, _&&_, cond}
 use mathlib.Core.List.{List, [], _∷_}
 use native.Mathlib.Omega.{arith}
-use lib.Dec.{eqb}
 use lib.ListN.{length}
-use Rattle.rules.specs.Answers.{Reply, fresh, started, spoke, heard, share, dropped, refused}
+use Rattle.rules.specs.Answers.{fresh, started, spoke, heard, share, dropped, refused}
 use Rattle.guarantees.specs.Boxes.{Box, first, second}
 use Rattle.guarantees.specs.Run.{Said, nothing, replied, Event, eventAt}
-use Rattle.guarantees.proofs.Places.{sameBox, isStarted, opens, openedAt}
-use Rattle.guarantees.specs.View.{covered, saidTo, seen, view}
+use Rattle.guarantees.proofs.Places.{isStarted, openedAt}
+use Rattle.guarantees.specs.View.{covered, saidTo, view}
 use Rattle.guarantees.proofs.Twins.{SameEvent}
 
 covered-started : (s : Said) → isStarted (covered s) ≡ isStarted s

@@ -7,10 +7,10 @@ use lib.Dec.{ltb}
 use lib.ListN.{length}
 use Rattle.encoding.specs.Matching.{indicator}
 use Rattle.field.specs.Width.{modulus}
-use Rattle.rules.specs.Answers.{Reply, started, share}
+use Rattle.rules.specs.Answers.{started, share}
 use Rattle.guarantees.specs.Boxes.{Box, first, second}
 use Rattle.guarantees.specs.Entries.{Entry}
-use Rattle.guarantees.specs.Run.{Lending, Setting, Said, replied, Event, World, eventAt, run}
+use Rattle.guarantees.specs.Run.{Setting, Said, replied, Event, World, eventAt, run}
 use Rattle.guarantees.specs.Premises.{AtFirst, AllDealt, Meets}
 
 -- at that place of the list the box was told this, under that number and width

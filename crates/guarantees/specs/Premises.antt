@@ -1,5 +1,5 @@
 -- The premises of demand 3, along the run (document 01, "The lists of demand 3").
-use Prim.Native.Nat.{ℕ, suc, _<_, _≤_}
+use Prim.Native.Nat.{ℕ, suc, _<_}
 use mathlib.Core.Path.{_≡_}
 use mathlib.Core.Bool.{true}
 use mathlib.Core.List.{List, [], _∷_}
@@ -7,11 +7,11 @@ use mathlib.Core.Logic.{_⊎_}
 use lib.ListN.{length}
 use Rattle.field.specs.Width.{listed, modulus}
 use Rattle.tape.specs.Dealt.{Matched}
-use Rattle.rules.specs.Answers.{Reply, spoke, refused}
+use Rattle.rules.specs.Answers.{spoke}
 use Rattle.rules.specs.Modes.{modeOf, isAsleep}
 use Rattle.rules.specs.Grounds.{wakeGround, startGround, speakGround, hearGround}
 use Rattle.guarantees.specs.Boxes.{Box, sideOf, partner}
-use Rattle.guarantees.specs.Entries.{Lent, dealt, Incoming, spokenAt, Step, wake, start, speak, hear, drop, cut, cutStart, Entry}
+use Rattle.guarantees.specs.Entries.{dealt, Incoming, spokenAt, Step, wake, start, speak, hear, drop, cut, cutStart, Entry}
 use Rattle.guarantees.specs.Run.{Lending, Setting, Memory, Event, replied, World, memoryOf, eventAt, tapeWords, incomingWords, stepped}
 
 -- a message is true: it was spoken at an earlier place of the list by the other box, under the same number, width and round

@@ -1,16 +1,16 @@
 -- A run threads state, work and tally of each box through the list, by the very rules that the contracts of the five calls cite.
-use Prim.Native.Nat.{ℕ, zero, suc, _+_}
-use mathlib.Core.Bool.{Bool, true, false, cond}
+use Prim.Native.Nat.{ℕ, zero, suc}
+use mathlib.Core.Bool.{cond}
 use mathlib.Core.List.{List, [], _∷_, _++_}
 use lib.Dec.{eqb}
-use lib.ListN.{length, getD, take}
+use lib.ListN.{length, take}
 use Rattle.lists.specs.Tabulate.{tabulate}
 use Rattle.field.specs.Width.{listed}
 use Rattle.rules.specs.Answers.{Reply, fresh, started, spoke, heard, share, dropped, refused}
 use Rattle.rules.specs.Tally.{cutMarked}
 use Rattle.rules.specs.Modes.{asleepState}
 use Rattle.rules.specs.Grounds.{startGround}
-use Rattle.rules.specs.Calls.{Result, wakeRule, startRule, speakRule, hearRule, dropRule}
+use Rattle.rules.specs.Calls.{wakeRule, startRule, speakRule, hearRule, dropRule}
 use Rattle.rules.specs.declared.state.State.{State}
 use Rattle.guarantees.specs.Boxes.{Box, first, second}
 use Rattle.guarantees.specs.Entries.{Lent, dealt, loose, Incoming, spokenAt, other, Step, wake, start, speak, hear, drop, cut, cutStart, Entry}

@@ -8,7 +8,7 @@ use Rattle.lists.specs.Tabulate.{tabulate}
 use Rattle.field.specs.Width.{listed}
 use Rattle.tape.specs.Dealt.{Matched}
 use Rattle.rules.specs.declared.state.State.{State}
-use Rattle.guarantees.specs.Boxes.{Box, first, second, sideOf, partner}
+use Rattle.guarantees.specs.Boxes.{Box, first, second, sideOf}
 use Rattle.guarantees.specs.Entries.{Entry}
 use Rattle.guarantees.specs.Run.{Lending, Setting, Memory, Event, World, run}
 use Rattle.guarantees.specs.Premises.{AtFirst, Meets, AllCompatible}

@@ -1,7 +1,6 @@
 -- What is compared: of every entry all that it came to, but for the answer share of the box whose shares are to stay hidden.
-use Prim.Native.Nat.{ℕ}
 use mathlib.Core.List.{List, map}
-use Rattle.rules.specs.Answers.{Reply, fresh, started, spoke, heard, share, dropped, refused}
+use Rattle.rules.specs.Answers.{fresh, started, spoke, heard, share, dropped, refused}
 use Rattle.guarantees.specs.Boxes.{Box, first, second}
 use Rattle.guarantees.specs.Run.{Said, nothing, replied, Event}
 

@@ -1,22 +1,21 @@
 -- With tapes dealt by the rules, the two boxes' shares of an opened square or product add up to the square or the product.
-use Prim.Native.Nat.{ℕ, _+_, _*_, _<_, _≤_}
-use mathlib.Core.Path.{_≡_, refl, sym, ap, _∙_}
+use Prim.Native.Nat.{ℕ, _+_, _*_, _<_}
+use mathlib.Core.Path.{_≡_, ap, _∙_}
 use mathlib.Core.List.{List, _++_}
 use native.Mathlib.Omega.{arith}
 use lib.ListN.{length, getD}
 use lib.Seq.{getD-append-add}
-use Rattle.lists.specs.Tabulate.{tabulate}
-use Rattle.lists.proofs.Tabulate.{length-tabulate, getD-tabulate}
+use Rattle.lists.proofs.Tabulate.{getD-tabulate}
 use Rattle.field.specs.Width.{modulus}
 use Rattle.field.specs.Congruence.{Cong}
 use Rattle.shares.specs.Side.{other}
-use Rattle.shares.specs.Share.{masked, opened, squareShare, productShare}
+use Rattle.shares.specs.Share.{masked}
 use Rattle.shares.proofs.Products.{opened-both, square-total, product-total}
 use Rattle.tape.specs.Layout.{section, squareCount, tripleCount}
-use Rattle.tape.specs.Letters.{squareMask, tripleLeft, tripleRight}
+use Rattle.tape.specs.Letters.{tripleLeft, tripleRight}
 use Rattle.tape.specs.Dealt.{Matched}
 use Rattle.tape.proofs.Dealing.{own-side, dealt-square, dealt-triple}
-use Rattle.protocol.specs.Products.{Party, Products, triplesOf, openLeft, openRight, openings, alternating, closed, closing}
+use Rattle.protocol.specs.Products.{Party, Products, triplesOf, openLeft, openRight, openings, alternating, closed}
 use Rattle.protocol.specs.Squares.{squareOpening, squareClosing}
 use Rattle.protocol.proofs.Openings.{alternating-even, alternating-odd}
 

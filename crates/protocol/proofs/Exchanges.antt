@@ -1,7 +1,7 @@
 -- Two whole exchanges side by side: with shares s and a dealt tape, and with s′ and the shifted tape. Every message of both boxes is the
 -- same, and so is the other box's answer share, whatever work held at first in either.
 use Prim.Native.Nat.{ℕ, zero, suc, _+_, _-_, _*_, _%_, _<_, _≤_}
-use mathlib.Core.Path.{_≡_, refl, sym, ap, _∙_}
+use mathlib.Core.Path.{_≡_}
 use mathlib.Core.Bool.{true}
 use mathlib.Core.List.{List}
 use native.Mathlib.Omega.{arith}
@@ -14,8 +14,8 @@ use Rattle.tape.specs.Dealt.{Matched}
 use Rattle.tape.proofs.Dealing.{own-readable}
 use Rattle.protocol.specs.Work.{workLength}
 use Rattle.protocol.specs.Products.{Party, party}
-use Rattle.protocol.specs.Rounds.{lastLeft, lastRight, message, afterHearing}
-use Rattle.protocol.specs.Clear.{valueOf, half}
+use Rattle.protocol.specs.Rounds.{lastLeft, lastRight, message}
+use Rattle.protocol.specs.Clear.{valueOf}
 use Rattle.protocol.specs.Exchange.{Both, exchanged, sentOwn, sentOthers, answerOthers}
 use Rattle.protocol.proofs.Halves.{indicator-bit}
 use Rattle.protocol.proofs.Stages.{left-total, right-total}

@@ -8,7 +8,7 @@ use native.Mathlib.Omega.{arith}
 use borrow.Author.Tests.{eqb-true, ltb-true, ltb-false, leb-true, leb-false}
 use lib.Dec.{eqb, leb, ltb}
 use Rattle.field.specs.Width.{modulus, listed}
-use Rattle.field.proofs.Widths.{each-listed, bounds}
+use Rattle.field.proofs.Widths.{each-listed}
 use Rattle.encoding.specs.Matching.{indicator}
 use Rattle.protocol.specs.Clear.{half}
 

@@ -2,16 +2,40 @@
 use Prim.Native.Nat.{ℕ, zero, suc, _+_, _*_, _≤_}
 use mathlib.Core.Path.{_≡_, refl, ap, ap₂, _∙_}
 use mathlib.Core.List.{List}
+use mathlib.Core.Bool.{true}
+use native.Mathlib.Nat.{mul-le-mul-right}
 use native.Mathlib.Omega.{arith}
 use lib.ListN.{length, length-append, take}
 use lib.Seq.{sets, length-sets, take-at}
 use Rattle.lists.specs.Tabulate.{tabulate}
 use Rattle.lists.proofs.Tabulate.{length-tabulate}
 use Rattle.lists.proofs.Sets.{sets-front}
+use Rattle.field.specs.Width.{listed}
+use Rattle.field.proofs.Widths.{bounds}
+use Rattle.tape.proofs.Sizes.{small}
 use Rattle.tape.specs.Layout.{squareCount, groupCount}
 use Rattle.protocol.specs.Work.{held}
 use Rattle.protocol.specs.Products.{Party, Products, openLeft, openRight, openings, alternating}
 use Rattle.protocol.specs.Rounds.{squareWord, lowProducts, levelProducts, wrapProducts, halfProduct, lastProduct, roundWords, message, afterHearing}
+
+-- no round has more words than the first
+pub most-words : (n round : ℕ) → listed n ≡ true → roundWords n round ≤ roundWords n 1
+unfolding roundWords
+most-words n zero l = omega arith
+most-words n (suc zero) l = omega arith
+most-words n (suc (suc zero)) l = omega (arith, mul-le-mul-right n (bounds l .least))
+most-words n (suc (suc (suc zero))) l = omega (arith, mul-le-mul-right n (bounds l .least))
+most-words n (suc (suc (suc (suc zero)))) l = omega arith
+most-words n (suc (suc (suc (suc (suc zero))))) l = omega arith
+most-words n (suc (suc (suc (suc (suc (suc zero)))))) l = omega arith
+most-words n (suc (suc (suc (suc (suc (suc (suc round))))))) l = omega arith
+
+first-words : (n : ℕ) → roundWords n 1 ≡ 3 * (n * n) + 6
+unfolding roundWords
+first-words n = refl
+
+pub words-most : (n round : ℕ) → listed n ≡ true → roundWords n round ≤ 2889
+words-most n round l = omega (arith, most-words n round l, first-words n, small l)
 
 openings-length : (q : Party) (ps : Products) → length (openings q ps) ≡ ps .count * 2
 unfolding openings

@@ -1,11 +1,11 @@
 -- What a box goes on with after each round: the words of work that later rounds read. All else that work holds makes no difference.
 use Prim.Native.Nat.{ℕ, zero, suc, _+_, _*_, _/_, _%_, _<_, _≤_}
-use mathlib.Core.Path.{_≡_, refl, sym, ap, ap₂, _∙_}
+use mathlib.Core.Path.{_≡_, refl, sym, ap, _∙_}
 use mathlib.Core.Bool.{Bool, true, false, cond}
 use mathlib.Core.List.{List}
 use native.Mathlib.Omega.{arith}
 use lib.Dec.{eqb}
-use lib.ListN.{length, getD}
+use lib.ListN.{length}
 use Rattle.lists.specs.Tabulate.{tabulate}
 use Rattle.lists.proofs.Tabulate.{tabulate-same}
 use Rattle.lists.proofs.Sums.{sum-same}
@@ -13,7 +13,7 @@ use Rattle.field.specs.Width.{modulus, listed}
 use Rattle.tape.specs.Layout.{groupCount}
 use Rattle.tape.proofs.Letters.{group-index}
 use Rattle.protocol.specs.Work.{sumSlot, wrapSlot, halfSlot, bothSlot, workLength, held}
-use Rattle.protocol.specs.Products.{Party, Products, openLeft, openRight, openings, alternating, closed, closing}
+use Rattle.protocol.specs.Products.{Party, Products, openLeft, openRight, openings, alternating, closing}
 use Rattle.protocol.specs.Levels.{levelMatch, levelOpened, wrapShare}
 use Rattle.protocol.specs.Rounds.{powersOf, levelProducts, wrapProducts, halfShare, halfProduct, lastLeft, lastRight, lastProduct, answerShare, message, afterHearing}
 use Rattle.protocol.proofs.Slots.{count-1, sum-1, level-2, sum-2, wrap-3, sum-3, half-4, both-5, half-5}

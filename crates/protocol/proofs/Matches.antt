@@ -1,38 +1,32 @@
 -- Round 1 to 3: the two shares of A add up to 1 + the number of equal bits of the two codes, those of P(A) to whether the codes are
 -- equal, and those of the wrap to whether the pair wraps.
-use Prim.Native.Nat.{ℕ, zero, suc, _+_, _-_, _*_, _/_, _%_, _^_, _<_, _≤_}
+use Prim.Native.Nat.{ℕ, zero, suc, _+_, _*_, _/_, _%_, _<_, _≤_}
 use mathlib.Core.Path.{_≡_, refl, sym, ap, _∙_}
 use mathlib.Core.Bool.{true}
 use mathlib.Core.List.{List}
-use mathlib.Core.Logic.{_⊎_, inl, inr, ⊎-elim}
-use native.Mathlib.Nat.{add-comm, pow-zero, pow-suc, mul-comm}
-use native.Mathlib.Numerals.{add-one}
+use mathlib.Core.Logic.{_⊎_, inl, inr}
 use native.Mathlib.Omega.{arith}
 use lib.Arith.{digits-div, digits-mod}
-use lib.Dec.{eqb, leb}
+use lib.Dec.{eqb}
 use lib.ListN.{getD}
 use Rattle.lists.specs.Tabulate.{sum}
-use Rattle.lists.proofs.Sums.{sum-same, sum-add, sum-first}
+use Rattle.lists.proofs.Sums.{sum-add}
 use Rattle.field.specs.Width.{modulus, listed}
 use Rattle.field.specs.Congruence.{Cong}
 use Rattle.field.proofs.Widths.{bounds}
-use Rattle.field.proofs.Congruences.{cong-refl, cong-eq, cong-sym, _⊙_, cong-mod, cong-add, cong-mul, cong-pow, cong-double, cong-cancel}
+use Rattle.field.proofs.Congruences.{cong-refl, cong-eq, cong-sym, _⊙_, cong-mod, cong-add, cong-mul, cong-double, cong-cancel}
 use Rattle.field.proofs.Sums.{cong-sum}
-use Rattle.shares.specs.Side.{isSide, other}
+use Rattle.shares.specs.Side.{other}
 use Rattle.shares.specs.Share.{constantShare}
 use Rattle.shares.proofs.Sides.{constant-total}
 use Rattle.tape.specs.Layout.{section, squareCount, groupCount}
-use Rattle.tape.specs.Letters.{groupInverse, groupPower}
-use Rattle.tape.specs.Order.{Readable}
 use Rattle.tape.specs.Dealt.{Matched}
 use Rattle.tape.proofs.Letters.{square-index}
-use Rattle.tape.proofs.Dealing.{own-side, own-readable, dealt-inverse, dealt-power}
+use Rattle.tape.proofs.Dealing.{own-side, own-readable}
 use Rattle.encoding.specs.Codes.{bitOf, levelCode}
 use Rattle.encoding.specs.Matching.{indicator, sameBits}
-use Rattle.encoding.specs.Polynomial.{coefficient, polynomial}
 use Rattle.protocol.specs.Tests.{complement}
 use Rattle.protocol.specs.Squares.{codeDifference, bitDifference, squareOpening, squareClosing, matchCount}
-use Rattle.protocol.specs.Levels.{levelMatch}
 use Rattle.protocol.proofs.Totals.{masked-total}
 use Rattle.protocol.proofs.Closings.{square-closed-total}
 

@@ -1,16 +1,15 @@
 -- The same messages: the exchange with s and a tape, and the exchange with s′ and the shifted tape, whatever work held at first.
-use Prim.Native.Nat.{ℕ, zero, suc, _+_, _-_, _*_, _%_, _<_, _≤_}
+use Prim.Native.Nat.{ℕ, zero, suc, _+_, _-_, _*_, _%_, _<_}
 use mathlib.Core.Path.{_≡_, refl, sym, ap, ap₂, subst, _∙_}
 use mathlib.Core.Bool.{true}
 use mathlib.Core.List.{List, _++_}
 use native.Mathlib.Nat.{le-of-lt}
 use native.Mathlib.Omega.{arith}
-use lib.ListN.{length, getD}
-use Rattle.lists.specs.Tabulate.{tabulate}
+use lib.ListN.{getD}
 use Rattle.lists.proofs.Tabulate.{tabulate-same}
 use Rattle.field.specs.Width.{modulus, listed}
 use Rattle.field.specs.Congruence.{Cong}
-use Rattle.field.proofs.Congruences.{cong-refl, cong-eq, cong-sym, _⊙_, cong-mul, cong-add, cong-cancel, cong-unique}
+use Rattle.field.proofs.Congruences.{cong-refl, cong-eq, cong-sym, _⊙_, cong-mul, cong-cancel, cong-unique}
 use Rattle.field.proofs.Widths.{bounds}
 use Rattle.shares.specs.Side.{other}
 use Rattle.shares.specs.Share.{constantShare, masked}
@@ -19,20 +18,19 @@ use Rattle.tape.specs.Letters.{squareMask, groupInverse, tripleLeft, tripleRigh
 use Rattle.tape.specs.Dealt.{Matched}
 use Rattle.tape.proofs.Letters.{square-mask-below, group-inverse-below, triple-left-below, triple-right-below}
 use Rattle.tape.proofs.Dealing.{own-readable}
-use Rattle.protocol.specs.Work.{workLength, sumSlot, wrapSlot, halfSlot, bothSlot, held}
-use Rattle.protocol.specs.Products.{Party, Products, party, openLeft, openRight, openings}
-use Rattle.protocol.specs.Rounds.{squareWord, lowProducts, levelProducts, wrapProducts, halfProduct, lastLeft, lastRight, lastProduct, message, afterHearing}
-use Rattle.protocol.specs.Exchange.{Both, exchanged, sentOwn, sentOthers, answerOthers}
+use Rattle.protocol.specs.Work.{sumSlot, wrapSlot, halfSlot, held}
+use Rattle.protocol.specs.Products.{Party, party, openLeft, openRight}
+use Rattle.protocol.specs.Rounds.{squareWord, lowProducts, levelProducts, wrapProducts, halfProduct, lastLeft, lastRight, lastProduct, message}
 use Rattle.protocol.proofs.Reading.{held-below}
-use Rattle.protocol.proofs.Live.{Live, openings-same, message-live, after-live, answer-live}
+use Rattle.protocol.proofs.Live.{openings-same}
 use Rattle.protocol.proofs.Wraps.{inverseTotal}
 use Rattle.protocol.specs.Change.{Shares, sharesOf, squareShareOf, countOf, lowOf, sumOf, wrapsOf, halvesOf, leftValues, leftValue, rightValues, rightValue}
-use Rattle.protocol.specs.Shift.{moved, newMask, newInverse, newLeft, newRight, shifted}
-use Rattle.protocol.proofs.Moves.{moved-same, moved-own, rest-below}
+use Rattle.protocol.specs.Shift.{newMask, newInverse, newLeft, newRight, shifted}
+use Rattle.protocol.proofs.Moves.{moved-same, moved-own}
 use Rattle.protocol.proofs.Pieces.{new-mask, new-inverse, new-left, new-right}
 use Rattle.protocol.proofs.Places.{left-level, left-later, right-level, right-later}
 use Rattle.protocol.proofs.Bounds.{square-share-most, left-most, right-most}
-use Rattle.protocol.proofs.Rules.{matched-shifted, inverse-total, count-low, count-high, down}
+use Rattle.protocol.proofs.Rules.{inverse-total, count-low, count-high, down}
 use Rattle.protocol.proofs.Units.{restored}
 
 module _ {n pair number side : ℕ} {own others : List ℕ} (m : Matched n pair number side own others) (x y x′ y′ xo yo : ℕ) where

@@ -1,10 +1,10 @@
 -- The answer is right: the two answer shares of an exchange add up, modulo p, to 1 if x < y and to 0 otherwise.
-use Prim.Native.Nat.{ℕ, _+_, _-_, _*_, _%_, _<_, _≤_}
-use mathlib.Core.Path.{_≡_, refl, sym, ap, _∙_}
+use Prim.Native.Nat.{ℕ, _+_, _*_, _%_, _<_, _≤_}
+use mathlib.Core.Path.{_≡_}
 use mathlib.Core.Bool.{true}
 use mathlib.Core.List.{List}
 use native.Mathlib.Omega.{arith}
-use lib.Dec.{leb, ltb}
+use lib.Dec.{ltb}
 use lib.ListN.{length}
 use Rattle.field.specs.Width.{modulus, listed}
 use Rattle.field.specs.Congruence.{Cong}
@@ -15,9 +15,8 @@ use Rattle.tape.specs.Dealt.{Matched}
 use Rattle.tape.proofs.Dealing.{own-readable}
 use Rattle.encoding.specs.Matching.{indicator}
 use Rattle.protocol.specs.Work.{workLength, sumSlot, wrapSlot, halfSlot, bothSlot, held}
-use Rattle.protocol.specs.Tests.{doubled, lowBit}
 use Rattle.protocol.specs.Products.{Party, party}
-use Rattle.protocol.specs.Rounds.{message, afterHearing}
+use Rattle.protocol.specs.Rounds.{message}
 use Rattle.protocol.specs.Exchange.{Both, exchanged, sentOwn, sentOthers, answerOwn, answerOthers}
 use Rattle.protocol.specs.Clear.{valueOf, sharedBits, lowSumOf, wrapOf, half, halfOf}
 use Rattle.protocol.proofs.Halves.{compared, modulus-odd, indicator-bit}

@@ -1,21 +1,18 @@
 -- The shifted tape makes, with the other box's, a pair dealt by the rules again.
-use Prim.Native.Nat.{ℕ, _+_, _-_, _*_, _%_, _^_, _<_, _≤_}
-use mathlib.Core.Path.{_≡_, refl, sym, ap, ap₂, _∙_}
-use mathlib.Core.Bool.{Bool, true, false, cond}
-use mathlib.Core.List.{List, _++_}
-use mathlib.Core.Logic.{_⊎_, inl, inr}
+use Prim.Native.Nat.{ℕ, _+_, _*_, _%_, _^_, _<_, _≤_}
+use mathlib.Core.Path.{_≡_, sym, ap, _∙_}
+use mathlib.Core.Bool.{true}
+use mathlib.Core.List.{List}
 use native.Mathlib.Nat.{le-of-lt, pow-suc, pow-zero, one-mul}
 use native.Mathlib.Omega.{arith}
 use borrow.Author.Tests.{eq-eqb}
 use lib.Dec.{eqb}
-use lib.ListN.{length, getD}
 use Rattle.field.specs.Width.{modulus, listed}
 use Rattle.field.specs.Congruence.{Cong}
 use Rattle.field.specs.Inverse.{inverse}
 use Rattle.field.proofs.Widths.{bounds}
 use Rattle.field.proofs.Congruences.{cong-refl, cong-eq, cong-sym, _⊙_, cong-mul, cong-pow}
-use Rattle.shares.specs.Side.{other}
-use Rattle.tape.specs.Layout.{section, sectionLength, bodyLength, squareCount, groupCount, tripleCount}
+use Rattle.tape.specs.Layout.{section, squareCount, groupCount, tripleCount}
 use Rattle.tape.specs.Letters.{squareMask, squareValue, groupInverse, groupPower, tripleLeft, tripleRight, tripleProduct}
 use Rattle.tape.specs.Dealt.{squarePair, inversePair, powerPair, tripleGroup, Matched}
 use Rattle.tape.proofs.Orders.{in-order, order-trailer}
@@ -26,7 +23,7 @@ use Rattle.protocol.specs.Clear.{sharedBits}
 use Rattle.protocol.proofs.Wraps.{inverseTotal, maskTotal, pow-times}
 use Rattle.protocol.specs.Change.{Shares, sharesOf, countOf}
 use Rattle.protocol.specs.Shift.{newMask, newValue, newInverse, newPower, newLeft, newRight, newProduct, shifted}
-use Rattle.protocol.proofs.Moves.{moved-below, rest-below, rest-plus}
+use Rattle.protocol.proofs.Moves.{rest-plus}
 use Rattle.protocol.proofs.Pieces.{shifted-length, shifted-trailer, shifted-below, new-mask, new-value, new-inverse, new-power, new-left, new-right, new-product}
 use Rattle.protocol.proofs.Units.{unit}
 

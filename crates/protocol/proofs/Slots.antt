@@ -1,5 +1,5 @@
 -- What a box's work holds after each round was heard: the named words are new, the others as they were.
-use Prim.Native.Nat.{ℕ, _+_, _*_, _<_, _≤_}
+use Prim.Native.Nat.{ℕ, _<_, _≤_}
 use mathlib.Core.Path.{_≡_, _∙_}
 use mathlib.Core.Bool.{true}
 use mathlib.Core.List.{List}
@@ -8,7 +8,7 @@ use native.Mathlib.Omega.{arith}
 use lib.ListN.{length}
 use lib.Seq.{sets, length-sets}
 use Rattle.lists.specs.Tabulate.{tabulate}
-use Rattle.field.specs.Width.{modulus, listed}
+use Rattle.field.specs.Width.{listed}
 use Rattle.tape.specs.Layout.{groupCount}
 use Rattle.protocol.specs.Work.{sumSlot, wrapSlot, halfSlot, bothSlot, workLength, held}
 use Rattle.protocol.specs.Products.{Party, closing}

@@ -1,6 +1,6 @@
 -- What both boxes hold adds up, round after round, to what document 01 says: A and S, A · w, the wraps, the half tests, M.
 -- Here v1 and v2 are the two boxes' work before a round, and each hears what the other sends.
-use Prim.Native.Nat.{ℕ, _+_, _-_, _*_, _/_, _%_, _<_, _≤_}
+use Prim.Native.Nat.{ℕ, _+_, _-_, _*_, _%_, _<_, _≤_}
 use mathlib.Core.Path.{_≡_, refl, sym, ap, _∙_}
 use mathlib.Core.Bool.{true}
 use mathlib.Core.List.{List}
@@ -9,13 +9,12 @@ use native.Mathlib.Omega.{arith}
 use lib.Arith.{digits-div, digits-mod}
 use lib.Dec.{eqb, leb}
 use lib.ListN.{length, getD, List·getD-append}
-use Rattle.lists.specs.Tabulate.{tabulate, sum}
+use Rattle.lists.specs.Tabulate.{tabulate}
 use Rattle.lists.proofs.Tabulate.{length-tabulate, getD-tabulate}
-use Rattle.lists.proofs.Sums.{sum-add, sum-same}
+use Rattle.lists.proofs.Sums.{sum-add}
 use Rattle.field.specs.Width.{modulus, listed}
 use Rattle.field.specs.Congruence.{Cong}
-use Rattle.field.proofs.Widths.{bounds}
-use Rattle.field.proofs.Congruences.{cong-refl, cong-eq, cong-sym, _⊙_, cong-mod, cong-add, cong-mul}
+use Rattle.field.proofs.Congruences.{cong-refl, cong-eq, _⊙_, cong-mod, cong-add, cong-mul}
 use Rattle.field.proofs.Sums.{cong-sum}
 use Rattle.shares.specs.Side.{other}
 use Rattle.shares.specs.Share.{constantShare, masked, opened}
@@ -25,8 +24,7 @@ use Rattle.tape.specs.Dealt.{Matched}
 use Rattle.tape.proofs.Letters.{group-index}
 use Rattle.tape.proofs.Dealing.{own-readable, own-side}
 use Rattle.encoding.specs.Codes.{levelCode}
-use Rattle.encoding.specs.Matching.{indicator, sameBits}
-use Rattle.encoding.specs.Polynomial.{polynomial}
+use Rattle.encoding.specs.Matching.{indicator}
 use Rattle.encoding.proofs.Fits.{code-fits}
 use Rattle.encoding.proofs.Values.{level-match}
 use Rattle.protocol.specs.Tests.{doubled, lowBit}
@@ -35,7 +33,7 @@ use Rattle.protocol.specs.Products.{Party, party, closing, openings}
 use Rattle.protocol.specs.Squares.{bitDifference, squareOpening}
 use Rattle.protocol.specs.Levels.{levelMatch, levelOpened, wrapShare}
 use Rattle.protocol.specs.Rounds.{doubledOf, squaresOf, squareWord, lowProducts, lowSum, levelProducts, wrapProducts, halfShare, halfProduct, lastProduct, lastLeft, lastRight, answerShare, message, afterHearing}
-use Rattle.protocol.specs.Clear.{valueOf, sharedBits, lowSumOf, wrapOf, half, halfOf}
+use Rattle.protocol.specs.Clear.{valueOf, sharedBits, lowSumOf, wrapOf, halfOf}
 use Rattle.protocol.proofs.Reading.{held-below}
 use Rattle.protocol.proofs.Totals.{masked-total, part, complement-total, exclusive-total}
 use Rattle.protocol.proofs.Closings.{Heard, openings-heard, heard-after, closed-total}

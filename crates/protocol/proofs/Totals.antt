@@ -1,13 +1,13 @@
 -- What the two boxes' shares add up to, for the steps that need no opening: 1 − v, and u + v − 2·u·v.
 use Prim.Native.Nat.{ℕ, _+_, _-_, _*_, _%_, _<_, _≤_}
-use mathlib.Core.Path.{_≡_, refl, sym, ap, _∙_}
+use mathlib.Core.Path.{_≡_, sym}
 use mathlib.Core.Bool.{true}
 use native.Mathlib.Nat.{le-of-lt, mod-lt}
 use native.Mathlib.Omega.{arith}
 use Rattle.field.specs.Width.{modulus, listed}
 use Rattle.field.specs.Congruence.{Cong}
 use Rattle.field.proofs.Widths.{bounds}
-use Rattle.field.proofs.Congruences.{cong-refl, cong-eq, cong-sym, _⊙_, cong-mod, cong-add, cong-mul, cong-cancel, cong-double}
+use Rattle.field.proofs.Congruences.{cong-refl, cong-eq, cong-sym, _⊙_, cong-mod, cong-add, cong-cancel, cong-double}
 use Rattle.shares.specs.Side.{isSide, other}
 use Rattle.shares.specs.Share.{constantShare, masked}
 use Rattle.shares.proofs.Sides.{constant-total}

@@ -1,7 +1,7 @@
 -- A round outside the listed ones.
 use Prim.Native.Nat.{ℕ, zero, suc}
 use mathlib.Core.Path.{_≡_, refl}
-use mathlib.Core.List.{List, [], _∷_}
+use mathlib.Core.List.{[], _∷_}
 use Rattle.protocol.specs.Rounds.{atRound}
 
 -- no round's number but 1 to 6 is looked up

@@ -1,19 +1,17 @@
 -- The map for (s′, s) undoes the map for (s, s′) on tapes dealt by the rules.
-use Prim.Native.Nat.{ℕ, zero, suc, _+_, _-_, _*_, _/_, _%_, _^_, _<_, _≤_}
-use mathlib.Core.Path.{_≡_, refl, sym, ap, ap₂, _∙_}
+use Prim.Native.Nat.{ℕ, zero, suc, _+_, _*_, _/_, _%_, _<_, _≤_}
+use mathlib.Core.Path.{_≡_, refl, sym, ap, _∙_}
 use mathlib.Core.Bool.{true, cond}
 use mathlib.Core.List.{List, [], _∷_, _++_}
 use native.Mathlib.Nat.{le-of-lt, zero-add, div-add-mod', div-lt-iff-lt-mul, mod-lt}
 use native.Mathlib.Omega.{arith}
 use lib.Dec.{eqb, eqb·suc-zero, lit<}
-use lib.ListN.{length, getD, take, drop, take-append-drop}
+use lib.ListN.{getD, drop, take-append-drop}
 use lib.Seq.{drop-drop}
 use Rattle.lists.specs.Tabulate.{tabulate}
-use Rattle.lists.proofs.Tabulate.{tabulated, tabulate-same}
-use Rattle.field.specs.Width.{modulus, listed}
-use Rattle.field.specs.Congruence.{Cong}
+use Rattle.lists.proofs.Tabulate.{tabulated}
+use Rattle.field.specs.Width.{listed}
 use Rattle.field.proofs.Congruences.{cong-refl, cong-eq, cong-sym, _⊙_, cong-mul, cong-pow}
-use Rattle.shares.specs.Side.{other}
 use Rattle.tape.specs.Layout.{section, sectionLength, sectionStart, bodyLength, squareCount, groupCount, tripleCount}
 use Rattle.tape.specs.Letters.{squareMask, squareValue, groupInverse, groupPower, tripleLeft, tripleRight, tripleProduct}
 use Rattle.tape.specs.Dealt.{Matched}
@@ -21,11 +19,11 @@ use Rattle.tape.proofs.Sections.{section-length, body-whole}
 use Rattle.tape.proofs.Letters.{square-mask-below, square-value-below, group-inverse-below, group-power-below, triple-left-below, triple-right-below, triple-product-below}
 use Rattle.tape.proofs.Dealing.{own-readable, others-readable, dealt-square, dealt-triple, dealt-power}
 use Rattle.protocol.proofs.Wraps.{inverseTotal, maskTotal, pow-times}
-use Rattle.protocol.specs.Change.{Shares, sharesOf, squareShareOf, leftValue, rightValue}
-use Rattle.protocol.specs.Shift.{moved, rest, newMask, newValue, newInverse, newPower, newLeft, newRight, newProduct, squareWords, powerWords, tripleWords, shifted}
+use Rattle.protocol.specs.Change.{Shares, sharesOf, squareShareOf, leftValue}
+use Rattle.protocol.specs.Shift.{moved, newMask, newValue, newInverse, newPower, newLeft, newRight, newProduct, squareWords, powerWords, tripleWords, shifted}
 use Rattle.protocol.proofs.Moves.{moved-back, rest-below, rest-unique}
 use Rattle.protocol.proofs.Pieces.{new-mask, new-inverse, new-power, new-left, new-right, shifted-tail}
-use Rattle.protocol.proofs.Rules.{down, up, units, inverse-total, power-total, matched-shifted}
+use Rattle.protocol.proofs.Rules.{down, up, units, inverse-total, power-total}
 use Rattle.protocol.proofs.Bounds.{square-share-most, left-most, right-most, right-same}
 
 -- a tape is its three sections and its trailer

@@ -7,14 +7,12 @@ use native.Mathlib.Nat.{add-comm, pow-zero, pow-suc}
 use native.Mathlib.Numerals.{add-one}
 use native.Mathlib.Omega.{arith}
 use borrow.Author.Tests.{eqb-true, eqb-false, eq-eqb, ne-eqb}
-use lib.Arith.{digits-div, digits-mod}
-use lib.Dec.{eqb, leb, ltb}
+use lib.Dec.{eqb, leb}
 use Rattle.lists.specs.Tabulate.{sum}
 use Rattle.lists.proofs.Sums.{sum-same, sum-add, sum-first}
-use Rattle.field.specs.Width.{modulus, listed}
+use Rattle.field.specs.Width.{modulus}
 use Rattle.field.specs.Congruence.{Cong}
-use Rattle.field.proofs.Widths.{bounds}
-use Rattle.field.proofs.Congruences.{cong-refl, cong-eq, cong-sym, _⊙_, cong-mod, cong-add, cong-mul, cong-pow}
+use Rattle.field.proofs.Congruences.{cong-refl, cong-eq, _⊙_, cong-mod, cong-add, cong-mul, cong-pow}
 use Rattle.field.proofs.Sums.{cong-sum}
 use Rattle.shares.specs.Side.{isSide, other}
 use Rattle.shares.specs.Share.{constantShare}
@@ -22,9 +20,9 @@ use Rattle.shares.proofs.Sides.{constant-total, each-side}
 use Rattle.tape.specs.Layout.{section, groupCount}
 use Rattle.tape.specs.Letters.{groupInverse, groupPower}
 use Rattle.tape.specs.Dealt.{Matched}
-use Rattle.tape.proofs.Dealing.{own-side, own-readable, dealt-inverse, dealt-power}
+use Rattle.tape.proofs.Dealing.{own-side, dealt-inverse, dealt-power}
 use Rattle.encoding.specs.Codes.{levelCode, rangeCode, pointCode}
-use Rattle.encoding.specs.Matching.{indicator, matchingLevels, sameBits}
+use Rattle.encoding.specs.Matching.{indicator, matchingLevels}
 use Rattle.encoding.specs.Polynomial.{coefficient, polynomial}
 use Rattle.encoding.proofs.Levels.{matching, wrap-less}
 use Rattle.protocol.specs.Levels.{levelMatch}

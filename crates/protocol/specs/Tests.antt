@@ -1,5 +1,5 @@
 -- The three half tests that run side by side: of x, of y and of x − y (document 01, "From wrap to less-than"), as one box holds them.
-use Prim.Native.Nat.{ℕ, zero, suc, _+_, _*_, _%_}
+use Prim.Native.Nat.{ℕ, zero, suc, _+_, _%_}
 use Rattle.field.specs.Width.{modulus}
 use Rattle.shares.specs.Share.{constantShare, masked}
 

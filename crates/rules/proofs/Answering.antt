@@ -1,26 +1,22 @@
 -- Demand 1 over the rules, proved. A call's result is `unless` over its ground, so most of it is said once for the five.
 use Prim.Native.Nat.{ℕ, _<_, _≤_}
 use mathlib.Core.Path.{_≡_, refl, sym, ap, _∙_}
-use mathlib.Core.Bool.{Bool, true, false, not, _||_, cond, true≢false, false≢true}
+use mathlib.Core.Bool.{Bool, true, false, not, cond, true≢false, false≢true}
 use mathlib.Core.List.{List, [], _∷_, map}
 use mathlib.Core.Logic.{_⊎_, inl, inr}
 use native.Mathlib.Omega.{arith}
 use borrow.Author.Tests.{eqb-true, eqb-false, ltb-true, not-false, eq-eqb, ne-eqb}
-use lib.Dec.{eqb, leb, ltb}
+use lib.Dec.{eqb, ltb}
 use lib.ListN.{length}
-use Rattle.field.specs.Width.{listed, modulus}
+use Rattle.field.specs.Width.{listed}
 use Rattle.shares.specs.Side.{isSide}
-use Rattle.tape.specs.Order.{inOrder}
-use Rattle.protocol.specs.Work.{workLength}
-use Rattle.protocol.specs.Rounds.{roundWords}
 use Rattle.rules.specs.Answers.{refused}
 use Rattle.rules.specs.Tally.{tallyFits, tapesOf, isFresh}
-use Rattle.rules.specs.Modes.{inRange, modeOf, isAsleep, inJob, isDue, asleepState}
-use Rattle.rules.specs.Grounds.{Ground, _when_, firstOf, wordsFit, wakeGround, startGround, speakGround, hearGround, dropGround}
+use Rattle.rules.specs.Modes.{inRange, modeOf, isAsleep, inJob, asleepState}
+use Rattle.rules.specs.Grounds.{Ground, firstOf, wakeGround, startGround, speakGround, hearGround, dropGround}
 use Rattle.rules.specs.Calls.{Result, unless, wakeRule, startRule, speakRule, hearRule, dropRule}
 use Rattle.rules.specs.Answering.{Call, wake, start, speak, hear, drop, groundOf, resultOf, bufferOf, isWake, isRefused, orderOf, groundsOf}
 use Rattle.rules.specs.Answering.{Opens, TakesJob, Answering}
-use Rattle.rules.specs.declared.state.Turn.the-variants.{Speak, Hear}
 use Rattle.rules.specs.declared.state.Phase.the-variants.{Asleep}
 use Rattle.rules.specs.declared.state.State.{State}
 use Rattle.rules.proofs.Marks.{marked-spent}

@@ -1,13 +1,16 @@
 -- The laws of the tally that the calls and the lists go by: a mark is not fresh, a cut leaves a tape fresh only by FF, and a mark or a cut at
 -- one number changes no other's.
-use Prim.Native.Nat.{ℕ, _<_}
+use Prim.Native.Nat.{ℕ, _<_, _≤_}
 use mathlib.Core.Path.{_≡_, refl, ap}
-use mathlib.Core.Bool.{false}
+use mathlib.Core.Bool.{true, false}
 use mathlib.Core.List.{List}
-use lib.Dec.{eqb}
-use lib.ListN.{length, getD, set, length-set}
+use native.Mathlib.Omega.{arith}
+use borrow.Author.Tests.{leb-true}
+use lib.Dec.{eqb, leb}
+use lib.ListN.{length, length-set}
 use lib.Seq.{getD-set-same, getD-set-other}
-use Rattle.rules.specs.Tally.{tapesOf, isFresh, marked, cutMarked}
+use Rattle.lists.proofs.Tests.{and-right}
+use Rattle.rules.specs.Tally.{longestTally, tallyFits, tapesOf, isFresh, marked, cutMarked}
 
 -- after a cut the tape is fresh just where the cut left FF
 pub cut-leaves : (tally : List ℕ) (number value : ℕ) → number < tapesOf (length tally)
@@ -35,3 +38,11 @@ marked-length tally number = length-set tally number 0
 pub cut-length : (tally : List ℕ) (number value : ℕ) → length (cutMarked tally number value) ≡ length tally
 unfolding cutMarked
 cut-length tally number value = length-set tally number value
+
+pub tally-most : (len : ℕ) → tallyFits len ≡ true → len ≤ longestTally
+unfolding tallyFits
+tally-most len e = leb-true len longestTally (and-right (leb 1 len) (leb len longestTally) e)
+
+pub tapes-most : (len : ℕ) → tapesOf len ≤ len
+unfolding tapesOf
+tapes-most len = omega arith

@@ -7,7 +7,7 @@ use lib.ListN.{length}
 use lib.Seq.{sets}
 use Rattle.protocol.specs.Products.{Party, party}
 use Rattle.protocol.specs.Rounds.{roundWords, message, afterHearing, answerShare}
-use Rattle.rules.specs.Answers.{Reply, fresh, started, spoke, heard, share, dropped, refused}
+use Rattle.rules.specs.Answers.{Reply, fresh, started, spoke, heard, share, dropped, refused, replyOf}
 use Rattle.rules.specs.Tally.{marked, freshCount}
 use Rattle.rules.specs.Grounds.{wakeGround, startGround, speakGround, hearGround, dropGround}
 use Rattle.rules.specs.declared.state.Turn.{Turn}
@@ -15,12 +15,17 @@ use Rattle.rules.specs.declared.state.Turn.the-variants.{Speak, Hear}
 use Rattle.rules.specs.declared.state.Phase.{Phase}
 use Rattle.rules.specs.declared.state.Phase.the-variants.{Asleep, Idle, Job}
 use Rattle.rules.specs.declared.state.State.{State}
+use Rattle.rules.specs.declared.state.Outcome.{Outcome}
 
 -- `buffer` is the one that the call may change: start's tally, speak's out, hear's work
 pub record Result : Type 0 where
   pub reply : Reply
   pub state : State
   pub buffer : List ℕ
+
+-- what a call gave back, with that buffer as it was left
+abbrev pub outcome : Outcome → List ℕ → Result
+outcome r buffer = record { reply = replyOf (r .answer); state = r .state; buffer = buffer }
 
 abbrev pub inPhase : State → Phase → State
 inPhase s phase = record { n = s .n; side = s .side; pair = s .pair; tally = s .tally; phase = phase }
@@ -29,14 +34,20 @@ inPhase s phase = record { n = s .n; side = s .side; pair = s .pair; tally = s .
 abbrev pub unless : ℕ → State → List ℕ → Result → Result
 unless ground s buffer result = cond (eqb ground 0) result (record { reply = refused ground; state = s; buffer = buffer })
 
--- the box of a state, as the rounds know it
-abbrev pub partyIn : ℕ → ℕ → Phase → List ℕ → Party
-partyIn n side Asleep tape = party n side 0 0 tape
-partyIn n side Idle tape = party n side 0 0 tape
-partyIn n side (Job turn number x y) tape = party n side x y tape
+-- a job's two shares
+abbrev pub xOf : Phase → ℕ
+xOf Asleep = 0
+xOf Idle = 0
+xOf (Job turn number x y) = x
 
+abbrev pub yOf : Phase → ℕ
+yOf Asleep = 0
+yOf Idle = 0
+yOf (Job turn number x y) = y
+
+-- the box of a state, as the rounds know it
 abbrev pub partyOf : State → List ℕ → Party
-partyOf s tape = partyIn (s .n) (s .side) (s .phase) tape
+partyOf s tape = party (s .n) (s .side) (xOf (s .phase)) (yOf (s .phase)) tape
 
 -- the job's turn, its number and shares as they were
 abbrev pub turned : Phase → Turn → Phase

@@ -1,7 +1,7 @@
 -- The grounds of refusal of each call, in document 01's order. The first that holds counts; 0 where none does.
-use Prim.Native.Nat.{ℕ, _+_, _*_}
-use mathlib.Core.Bool.{Bool, true, false, not, _||_, cond}
-use mathlib.Core.List.{List, [], _∷_}
+use Prim.Native.Nat.{ℕ}
+use mathlib.Core.Bool.{Bool, not, _||_, cond}
+use mathlib.Core.List.{List, [], _∷_, _++_}
 use lib.Dec.{eqb, leb, ltb}
 use lib.ListN.{length, getD}
 use Rattle.lists.specs.Every.{every}
@@ -55,24 +55,26 @@ startGrounds s number x y tape work tally =
     ∷ (12 when not (leb (workLength (s .n)) (length work)))
     ∷ []
 
-abbrev pub speakGrounds : State → ℕ → ℕ → List ℕ → List ℕ → List ℕ → List Ground
-speakGrounds s number round tape work out =
+-- what a speak and a hear have in common
+abbrev pub turnGrounds : State → ℕ → Turn → List ℕ → List Ground
+turnGrounds s number turn tape =
     (1 when isAsleep (modeOf s))
     ∷ (6 when not (inJob (modeOf s)))
-    ∷ (11 when not (isDue (modeOf s) number (Speak round)))
+    ∷ (11 when not (isDue (modeOf s) number turn))
     ∷ (10 when not (inOrder (s .n) (s .pair) (s .side) number tape))
-    ∷ (12 when not (leb (workLength (s .n)) (length work)) || not (leb (roundWords (s .n) round) (length out)))
     ∷ []
+
+abbrev pub speakGrounds : State → ℕ → ℕ → List ℕ → List ℕ → List ℕ → List Ground
+speakGrounds s number round tape work out =
+    turnGrounds s number (Speak round) tape
+    ++ ((12 when not (leb (workLength (s .n)) (length work)) || not (leb (roundWords (s .n) round) (length out))) ∷ [])
 
 abbrev pub hearGrounds : State → ℕ → ℕ → List ℕ → List ℕ → List ℕ → List Ground
 hearGrounds s number round tape work incoming =
-    (1 when isAsleep (modeOf s))
-    ∷ (6 when not (inJob (modeOf s)))
-    ∷ (11 when not (isDue (modeOf s) number (Hear round)))
-    ∷ (10 when not (inOrder (s .n) (s .pair) (s .side) number tape))
-    ∷ (12 when not (leb (workLength (s .n)) (length work)) || not (eqb (length incoming) (roundWords (s .n) round)))
+    turnGrounds s number (Hear round) tape
+    ++ ((12 when not (leb (workLength (s .n)) (length work)) || not (eqb (length incoming) (roundWords (s .n) round)))
     ∷ (13 when not (wordsFit (s .n) incoming))
-    ∷ []
+    ∷ [])
 
 abbrev pub dropGrounds : State → List Ground
 dropGrounds s = (1 when isAsleep (modeOf s)) ∷ (6 when not (inJob (modeOf s))) ∷ []

@@ -8,8 +8,9 @@ use Rattle.protocol.specs.Work.{workLength}
 use Rattle.protocol.specs.Products.{Party, party}
 use Rattle.protocol.specs.Exchange.{Both, exchanged}
 use Rattle.protocol.specs.Rounds.{roundWords}
+use Rattle.protocol.proofs.Lengths.{most-words}
 use Rattle.exchange.specs.Boxes.{works, after}
-use Rattle.exchange.proofs.Exchanges.{most-words, more-own, more-others, last-own, last-others}
+use Rattle.exchange.proofs.Exchanges.{more-own, more-others, last-own, last-others}
 use Rattle.exchange.proofs.answers.Statement.{statement}
 use Rattle.exchange.proofs.answers.Tie as tie
 

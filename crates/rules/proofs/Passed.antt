@@ -2,43 +2,40 @@
 use Prim.Native.Nat.{ℕ, _<_, _≤_}
 use mathlib.Core.Path.{_≡_, refl, sym, subst}
 use mathlib.Core.Bool.{Bool, true, false, not, _&&_, _||_, cond, true≢false, false≢true}
-use mathlib.Core.List.{List, [], _∷_}
+use mathlib.Core.List.{List, [], _∷_, _++_}
 use native.Mathlib.Omega.{arith}
 use lib.Dec.{eqb, leb, ltb}
-use lib.ListN.{length, take}
-use lib.Seq.{sets}
-use borrow.Author.Tests.{ltb-true, lt-ltb, leb-true, eqb-true, not-false}
-use Rattle.lists.proofs.Every.{every-intro}
+use lib.ListN.{length, getD, List·getD-eq-default}
+use borrow.Author.Tests.{ltb-true, ltb-false, leb-true, eqb-true, not-false}
+use Rattle.lists.proofs.Every.{every-at}
 use Rattle.lists.proofs.Tests.{and-left, and-right}
 use Rattle.field.specs.Width.{listed, modulus}
+use Rattle.field.proofs.Widths.{bounds}
 use Rattle.shares.specs.Side.{isSide}
 use Rattle.tape.specs.Order.{inOrder}
-use Rattle.protocol.specs.Work.{workLength}
-use Rattle.protocol.specs.Rounds.{roundWords, message}
-use Rattle.protocol.specs.Products.{Party}
 use Rattle.protocol.specs.Words.{Below}
-use Rattle.protocol.proofs.Lengths.{message-front}
-use Rattle.protocol.proofs.Ranges.{message-below}
+use Rattle.protocol.specs.Work.{workLength}
+use Rattle.protocol.specs.Rounds.{roundWords}
 use Rattle.rules.specs.Tally.{tallyFits, tapesOf, isFresh}
-use Rattle.rules.specs.Modes.{phaseFits, inRange, modeOf, isAsleep, inJob, isDue, sameTurn}
-use Rattle.rules.specs.Grounds.{Ground, firstOf, wordsFit, startGrounds, speakGrounds, hearGrounds, startGround, speakGround, hearGround}
-use Rattle.rules.specs.Answers.{Reply, refused}
-use Rattle.rules.specs.Calls.{Result, unless, partyIn, partyOf}
+use Rattle.rules.specs.Modes.{roundOf, roundFits, phaseFits, inRange, modeOf, isAsleep, inJob, isDue, sameTurn}
+use Rattle.rules.specs.Grounds.{Ground, firstOf, wordsFit, wakeGrounds, startGrounds, speakGrounds, hearGrounds, wakeGround, startGround, speakGround, hearGround}
+use Rattle.rules.specs.Answers.{refused}
+use Rattle.rules.specs.Calls.{Result, unless, xOf, yOf, turned}
 use Rattle.rules.specs.declared.state.Turn.{Turn}
 use Rattle.rules.specs.declared.state.Turn.the-variants.{Speak, Hear}
 use Rattle.rules.specs.declared.state.Phase.{Phase}
 use Rattle.rules.specs.declared.state.Phase.the-variants.{Asleep, Idle, Job}
 use Rattle.rules.specs.declared.state.State.{State}
 
 -- ---- a chain of grounds
 
 -- none of them holds
-abbrev None : List Ground → Type 0
+abbrev pub None : List Ground → Type 0
 None [] = Unit {0}
 None (g ∷ gs) = (g .holds ≡ false) × None gs
 
 -- their numbers are above 0, so 0 stands for none
-abbrev Numbered : List Ground → Type 0
+abbrev pub Numbered : List Ground → Type 0
 Numbered [] = Unit {0}
 Numbered (g ∷ gs) = (0 < g .number) × Numbered gs
 
@@ -49,11 +46,28 @@ first-not false k rest positive e = (refl, e)
 pub pass : (g : Ground) (gs : List Ground) → 0 < g .number → firstOf (g ∷ gs) ≡ 0 → (g .holds ≡ false) × (firstOf gs ≡ 0)
 pass g gs positive e = first-not (g .holds) (g .number) (firstOf gs) positive e
 
-none : (gs : List Ground) → Numbered gs → firstOf gs ≡ 0 → None gs
+pub none : (gs : List Ground) → Numbered gs → firstOf gs ≡ 0 → None gs
 none [] positive e = tt
 none (g ∷ gs) positive e =
     let p = pass g gs (positive .0) e in
     (p .0, none gs (positive .1) (p .1))
+
+-- ---- grounds one after another
+
+pub first-some : (gs hs : List Ground) (k : ℕ) → firstOf gs ≡ k → 0 < k → firstOf (gs ++ hs) ≡ k
+first-some [] hs k e positive = absurd (omega (arith, e))
+first-some (g ∷ gs) hs k e positive = go (g .holds) e (λ h. first-some gs hs k h positive)
+  where
+    go : (t : Bool) → cond t (g .number) (firstOf gs) ≡ k → (firstOf gs ≡ k → firstOf (gs ++ hs) ≡ k)
+        → cond t (g .number) (firstOf (gs ++ hs)) ≡ k
+    go true h later = h
+    go false h later = later h
+
+pub first-none : (gs hs : List Ground) → Numbered gs → firstOf gs ≡ 0 → firstOf (gs ++ hs) ≡ firstOf hs
+first-none [] hs positive e = refl
+first-none (g ∷ gs) hs positive e =
+    let p = pass g gs (positive .0) e in
+    rw (p .0) (first-none gs hs (positive .1) (p .1))
 
 both-true : (a b : Bool) → not a || not b ≡ false → (a ≡ true) × (b ≡ true)
 both-true true true e = (refl, refl)
@@ -68,6 +82,13 @@ decide P k s buffer ok passed failed = go (eqb k 0) refl
     go : (t : Bool) → eqb k 0 ≡ t → P (cond t ok (record { reply = refused k; state = s; buffer = buffer }))
     go true e = passed (eqb-true k 0 e)
     go false e = failed
+
+-- ---- wake
+
+pub wake-tally : (s : State) (n side : ℕ) (tally : List ℕ) → wakeGround s n side tally ≡ 0 → tallyFits (length tally) ≡ true
+unfolding wakeGround
+wake-tally s n side tally e =
+    not-false (tallyFits (length tally)) (none (wakeGrounds s n side tally) (omega arith) e .1 .1 .1 .0)
 
 -- ---- start
 
@@ -152,6 +173,16 @@ hear-passed s number round tape work incoming e =
       words = not-false (wordsFit (s .n) incoming) (c .1 .1 .1 .1 .1 .0);
     }
 
+-- a word past the end reads as 0
+pub words-below : (n : ℕ) (words : List ℕ) → listed n ≡ true → wordsFit n words ≡ true → Below (modulus n) words
+words-below n words l e = record { at = λ i. go i (ltb i (length words)) refl }
+  where
+    go : (i : ℕ) (t : Bool) → ltb i (length words) ≡ t → getD words i 0 < modulus n
+    go i true less =
+        ltb-true (getD words i 0) (modulus n)
+        (every-at (length words) (λ k. ltb (getD words k 0) (modulus n)) e i (ltb-true i (length words) less))
+    go i false past = rw (List·getD-eq-default words 0 (ltb-false i (length words) past)) (omega (arith, bounds l))
+
 -- ---- a state that is not asleep is in range, and counts as what it is
 
 pub awake-range : (s : State) → isAsleep (modeOf s) ≡ false → inRange s ≡ true
@@ -218,27 +249,33 @@ due-job s number turn awake e = go (s .phase) refl (rw (awake-mode s awake) at e
         let same-turn = turn-same turn due (and-right (eqb number own) (sameTurn turn due) h) in
         record { x = x; y = y; job = rw (same-number, same-turn) q }
 
--- ---- a message at the front of out
+-- a job in range: its turn is of one of the six rounds, its shares are below p
+pub record JobRange (s : State) (turn : Turn) (x y : ℕ) : Type 0 where
+  pub last : roundOf turn ≤ 6
+  pub x-fits : x < modulus (s .n)
+  pub y-fits : y < modulus (s .n)
 
-party-width : (s : State) (tape : List ℕ) → partyOf s tape .n ≡ s .n
-party-width s tape = go (s .phase)
-  where
-    go : (p : Phase) → partyIn (s .n) (s .side) p tape .n ≡ s .n
-    go Asleep = refl
-    go Idle = refl
-    go (Job turn number x y) = refl
+pub job-range : (s : State) (x y : ℕ) {turn : Turn} {number : ℕ} → isAsleep (modeOf s) ≡ false → s .phase ≡ Job turn number x y → JobRange s turn x y
+job-range s x y {turn} {number} awake job =
+    let fits = subst (λ (p : Phase). phaseFits (s .n) (s .tally) p ≡ true) job (ranged s (awake-range s awake) .phased) in
+    let two = ltb number (tapesOf (s .tally)) && roundFits (roundOf turn) in
+    let three = two && ltb x (modulus (s .n)) in
+    let threes = and-left three (ltb y (modulus (s .n))) fits in
+    let twos = and-left two (ltb x (modulus (s .n))) threes in
+    record {
+      last =
+          leb-true (roundOf turn) 6
+          (and-right (leb 1 (roundOf turn)) (leb (roundOf turn) 6) (and-right (ltb number (tapesOf (s .tally))) (roundFits (roundOf turn)) twos));
+      x-fits = ltb-true x (modulus (s .n)) (and-right two (ltb x (modulus (s .n))) threes);
+      y-fits = ltb-true y (modulus (s .n)) (and-right three (ltb y (modulus (s .n))) fits);
+    }
 
-pub spoken-front : (s : State) (tape work out : List ℕ) (round : ℕ) → roundWords (s .n) round ≤ length out
-    → take (roundWords (s .n) round) (sets out 0 (message (partyOf s tape) work round)) ≡ message (partyOf s tape) work round
-spoken-front s tape work out round room =
-    let width = party-width s tape in
-    subst (λ (n : ℕ). take (roundWords n round) (sets out 0 (message (partyOf s tape) work round)) ≡ message (partyOf s tape) work round) width
-    (message-front (partyOf s tape) work out round (subst (λ (n : ℕ). roundWords n round ≤ length out) (sym width) room))
+pub due-range : (s : State) (number : ℕ) (turn : Turn) → isAsleep (modeOf s) ≡ false → Due s number turn
+    → JobRange s turn (xOf (s .phase)) (yOf (s .phase))
+due-range s number turn awake d =
+    subst (λ (p : Phase). JobRange s turn (xOf p) (yOf p)) (sym (d .job)) (job-range s (d .x) (d .y) awake (d .job))
 
--- its words are below p
-pub message-fits : (s : State) (tape work : List ℕ) (round : ℕ) → listed (s .n) ≡ true → wordsFit (s .n) (message (partyOf s tape) work round) ≡ true
-message-fits s tape work round l =
-    let width = party-width s tape in
-    subst (λ (n : ℕ). wordsFit n (message (partyOf s tape) work round) ≡ true) width
-    (every-intro (length (message (partyOf s tape) work round)) _
-    (λ i less. lt-ltb _ _ (message-below (partyOf s tape) (subst (λ (n : ℕ). listed n ≡ true) (sym width) l) work round .at i)))
+-- the job with another turn
+pub due-turned : (s : State) (number : ℕ) (turn next : Turn) → Due s number turn
+    → turned (s .phase) next ≡ Job next number (xOf (s .phase)) (yOf (s .phase))
+due-turned s number turn next d = rw (d .job) refl
