@@ -1,0 +1,9 @@
+pub mod Places
+pub mod Values
+pub mod Numbers
+pub mod Parts
+pub mod Turns
+pub mod Runs
+pub mod Decimals
+pub mod Gathered
+pub mod Examples
