@@ -1,0 +1,84 @@
+-- What a check's answer says of the grounds, and a call's outcome where it is refused and where it goes on.
+use Prim.Native.Nat.{ℕ, _+_, _<_}
+use mathlib.Core.Path.{_≡_, refl, sym, ap, _∙_}
+use mathlib.Core.List.{List, _++_}
+use native.Mathlib.Omega.{arith}
+use borrow.Author.Tests.{eq-eqb, ne-eqb}
+use Rattle.field.specs.Width.{listed}
+use Rattle.protocol.specs.Rounds.{afterHearing, answerShare, replyTo}
+use Rattle.rules.specs.Answers.{numberOf}
+use Rattle.rules.specs.Grounds.{Ground, firstOf, turnGrounds, hearGround}
+use Rattle.rules.specs.Calls.{Result, outcome, unless, inPhase, partyOf, turned, hearRule}
+use Rattle.rules.proofs.Passed.{none, first-some, awake-listed}
+use Rattle.rules.specs.declared.state.Turn.{Turn}
+use Rattle.rules.specs.declared.state.Turn.the-variants.{Speak}
+use Rattle.rules.specs.declared.state.Phase.the-variants.{Idle}
+use Rattle.rules.specs.declared.state.State.{State}
+use Rattle.rules.specs.declared.state.Outcome.{Outcome}
+use Rattle.rules.specs.declared.state.Answer.the-variants.{Heard, Share as ShareOf, Refused as RefusedWith}
+use Rattle.rules.specs.declared.state.Refusal.{Refusal}
+use Rattle.rules.specs.declared.state.Refusal.the-variants.{Asleep, Width, Side, Tally, Busy, NoJob, Number, Spent, Share, Tape, Turn as TurnOut, Room, Word}
+use Rattle.limit_box.specs.Checks.{groundOf}
+use Rattle.limit_box.specs.declared.checks.Check.{Check}
+use Rattle.limit_box.specs.declared.checks.Check.the-variants.{Passed, Refused}
+use mathlib.Core.Bool.{true}
+
+-- a refusal's number is not 0
+numbered : (r : Refusal) → 0 < numberOf r
+numbered Asleep = omega arith
+numbered Width = omega arith
+numbered Side = omega arith
+numbered Tally = omega arith
+numbered Busy = omega arith
+numbered NoJob = omega arith
+numbered Number = omega arith
+numbered Spent = omega arith
+numbered Share = omega arith
+numbered Tape = omega arith
+numbered TurnOut = omega arith
+numbered Room = omega arith
+numbered Word = omega arith
+
+-- ---- the first grounds are checked, others stand behind them
+
+pub refused-first : (check : Check) (refusal : Refusal) (gs hs : List Ground) → check ≡ Refused refusal → groundOf check ≡ firstOf gs
+    → numberOf refusal ≡ firstOf (gs ++ hs)
+refused-first check refusal gs hs e told = sym (first-some gs hs (numberOf refusal) (sym told ∙ ap groundOf e) (numbered refusal))
+
+pub passed-ground : (check : Check) (ground : ℕ) → check ≡ Passed → groundOf check ≡ ground → ground ≡ 0
+passed-ground check ground e told = sym told ∙ ap groundOf e
+
+-- where a turn's grounds don't hold, the width is listed
+pub turn-listed : (s : State) (number : ℕ) (turn : Turn) (tape : List ℕ) → firstOf (turnGrounds s number turn tape) ≡ 0 → listed (s .n) ≡ true
+turn-listed s number turn tape e = awake-listed s (none (turnGrounds s number turn tape) (omega arith) e .0)
+
+-- ---- the outcome
+
+pub refused-outcome : (check : Check) (refusal : Refusal) (ground : ℕ) (s : State) (buffer : List ℕ) (goes : Result) (r : Outcome)
+    → check ≡ Refused refusal → groundOf check ≡ ground → r .answer ≡ RefusedWith refusal → r .state ≡ s
+    → outcome r buffer ≡ unless ground s buffer goes
+refused-outcome check refusal ground s buffer goes r e told answer same =
+    let number : ground ≡ numberOf refusal = sym told ∙ ap groundOf e in
+    rw (number, ne-eqb (numberOf refusal) 0 (λ zero. omega (arith, zero, numbered refusal)), answer, same) refl
+
+pub passed-outcome : (check : Check) (ground : ℕ) (s : State) (buffer : List ℕ) (goes : Result) → check ≡ Passed → groundOf check ≡ ground
+    → unless ground s buffer goes ≡ goes
+passed-outcome check ground s buffer goes e told =
+    rw (passed-ground check ground e told) refl
+
+-- ---- the outcome of a hear that goes on: after the last round, and before
+
+module _ (s : State) (number round : ℕ) (tape work incoming : List ℕ) (goes : hearGround s number round tape work incoming ≡ 0) where
+  pub last-outcome : (v : ℕ) (next : State) (after : List ℕ) → round ≡ 6 → v ≡ replyTo (partyOf s tape) work round incoming
+      → next ≡ inPhase s Idle → after ≡ afterHearing (partyOf s tape) work round incoming
+      → outcome (record { answer = ShareOf v; state = next }) after ≡ hearRule s number round tape work incoming
+  unfolding hearRule replyTo
+  last-outcome v next after six reply closed heard =
+      let share : v ≡ answerShare (partyOf s tape) work incoming = rw six at reply in
+      rw (goes, eq-eqb round 6 six, share, closed, heard) refl
+
+  pub more-outcome : (next : State) (after : List ℕ) → (round ≡ 6 → ⊥) → next ≡ inPhase s (turned (s .phase) (Speak (round + 1)))
+      → after ≡ afterHearing (partyOf s tape) work round incoming
+      → outcome (record { answer = Heard; state = next }) after ≡ hearRule s number round tape work incoming
+  unfolding hearRule
+  more-outcome next after other due heard = rw (goes, ne-eqb round 6 other, due, heard) refl

@@ -1,0 +1,120 @@
+-- `limit_box::speak` meets its contract: refused by its check, or the round's words are at the front of out.
+use mathlib.Core.Path.{sym}
+use native.Mathlib.Omega.{arith}
+use Rattle.tape.proofs.Orders.{readable}
+use Rattle.protocol.proofs.Lengths.{words-most}
+use Rattle.rules.specs.Calls.{xOf, yOf, speakRule}
+use Rattle.rules.proofs.Passed.{SpeakPassed, speak-passed, Due, due-job, JobRange, due-range, due-turned, Ranged, ranged, awake-range}
+use Rattle.rules.specs.declared.state.Turn.the-variants.{Speak, Hear}
+use Rattle.limit_box.proofs.Outcomes.{refused-outcome, passed-outcome, passed-ground}
+use borrow.Author.Needs.{needs}
+use Rattle.limit_box.proofs.speak.Statement.{statement}
+use Rattle.limit_box.proofs.speak.Tie as tie
+
+abbrev start : tie.After-enum-told → tie.Start
+start c = c .before .before .before .before .before .before .before
+
+-- a speak that is not refused
+passed : (c : tie.After-enum-told)
+    → let a = start c .args in
+    SpeakPassed (a .state) (a .number) (a .round) (a .tape .now) (a .work .now) (a .out .now)
+passed c =
+    let a = start c .args in
+    speak-passed (a .state) (a .number) (a .round) (a .tape .now) (a .work .now) (a .out .now)
+    (passed-ground _ _ (c .enum-told .given .1) (c .before .before .speak-check .ensures))
+
+due : (c : tie.After-enum-told) → let a = start c .args in Due (a .state) (a .number) (Speak (a .round))
+due c =
+    let a = start c .args in
+    due-job (a .state) (a .number) (Speak (a .round)) (passed c .awake) (passed c .due)
+
+range : (c : tie.After-enum-told)
+    → let a = start c .args in
+    JobRange (a .state) (Speak (a .round)) (xOf (a .state .phase)) (yOf (a .state .phase))
+range c = let a = start c .args in due-range (a .state) (a .number) (Speak (a .round)) (passed c .awake) (due c)
+
+sound : (c : tie.After-enum-told) → Ranged (start c .args .state)
+sound c = let s = start c .args .state in ranged s (awake-range s (passed c .awake))
+
+speak-check-requires : tie.Need-speak-check-requires
+speak-check-requires c κs = search needs
+
+enum-known-check : tie.Need-enum-known-check
+enum-known-check c = search needs
+
+refused-requires : tie.Need-refused-requires
+refused-requires c κs = search needs
+
+enum-told : tie.Need-enum-told
+enum-told c = search needs
+
+shares-in-requires : tie.Need-shares-in-requires
+shares-in-requires c κs = search needs
+
+speak-requires : tie.Need-speak-requires
+speak-requires c κs =
+    let told = c .before .before in
+    let a = start told .args in
+    let go = passed told in
+    let own = c .before .shares-in .ensures in (
+      (
+        sound told .sided,
+        rw (own .0) (range told .x-fits),
+        rw (own .1) (range told .y-fits),
+        readable (a .state .n) (a .state .pair) (a .state .side) (a .number) (a .tape .now) (go .ordered),
+      ),
+      (go .room, go .out-room),
+    )
+
+words-of-requires : tie.Need-words-of-requires
+words-of-requires c κs = sound (c .before .before .before .before .before) .width
+
+cast-t20 : tie.Need-cast-t20
+cast-t20 c =
+    let told = c .before .before .before .before .before .before in
+    let a = start told .args in
+    omega (arith, c .words-of .ensures, words-most (a .state .n) (a .round) (sound told .width))
+
+in-phase-requires : tie.Need-in-phase-requires
+in-phase-requires c κs = search needs
+
+same-length : tie.Need-same-length
+same-length c = search needs
+
+returns : tie.Need-returns
+unfolding speakRule
+returns c =
+    let call = c .before .before .before .before in
+    refused-outcome _ _ _ _ _ _ _ (c .before .before .check .given .1) (call .speak-check .ensures) (c .refused .ensures .0) (c .refused .ensures .1)
+
+same-length-2 : tie.Need-same-length-2
+same-length-2 c = search needs
+
+returns-2 : tie.Need-returns-2
+unfolding speakRule
+returns-2 c =
+    let spoken = c .before .before .before .before in
+    let own = spoken .before .before .shares-in .ensures in
+    let told = spoken .before .before .before in
+    let a = start told .args in
+    let next = due-turned (a .state) (a .number) (Speak (a .round)) (Hear (a .round)) (due told) in
+    rw (c .before .words-of .ensures, c .in-phase .ensures, spoken .speak .ensures, own .0, own .1, ← next)
+    (sym (passed-outcome _ _ _ _ _ (told .enum-told .given .1) (told .before .before .speak-check .ensures)))
+
+pub speak-spec : {M : Type 1} → statement M
+speak-spec =
+    tie.close
+    (tie.spec
+    speak-check-requires
+    enum-known-check
+    refused-requires
+    enum-told
+    shares-in-requires
+    speak-requires
+    words-of-requires
+    cast-t20
+    in-phase-requires
+    same-length
+    returns
+    same-length-2
+    returns-2)
