@@ -13,6 +13,7 @@ ghost use Rattle.rules.specs.declared.state.Answer.the-variants.{Refused};
 
 mod checks;
 mod modes;
+pub mod numbers;
 mod tally;
 
 // Counts the fresh tapes, and keeps the width, the side, the pair and the tally's length.
@@ -123,9 +124,10 @@ pub fn hear(
                 incoming,
             );
             if round == compare::words::LAST_ROUND {
+                let closed = Phase::Idle;
                 return Outcome {
                     answer: Answer::Share(share),
-                    state: in_phase(state, Phase::Idle),
+                    state: in_phase(state, closed),
                 };
             }
             let turn = Turn::Speak(round + 1);
@@ -158,12 +160,12 @@ pub fn drop(state: State) -> Outcome
 }
 
 // A refusal leaves the state as it was.
-fn refused(state: State, refusal: Refusal) -> Outcome
-    ensures { λ r. ⌜ (r .answer ≡ Refused refusal) × (r .state ≡ state) ⌝ }
+fn refused(same: State, refusal: Refusal) -> Outcome
+    ensures { λ r. ⌜ (r .answer ≡ Refused refusal) × (r .state ≡ same) ⌝ }
 {
     Outcome {
         answer: Answer::Refused(refusal),
-        state,
+        state: same,
     }
 }
 

@@ -4,7 +4,7 @@ ghost use mathlib.Core.Bool.{true};
 ghost use Prim.Native.Nat.{_<_};
 ghost use lib.ListN.{length};
 ghost use Rattle.field.specs.Width.{listed};
-ghost use Rattle.tape.specs.Layout.{sectionLength, sectionStart, section, tapeLength};
+ghost use Rattle.tape.specs.Layout.{sectionLength, sectionStart, section, tapeLength, trailer};
 ghost use Rattle.tape.specs.Order.{inOrder, trailerFits, bodyInRange, Readable};
 
 pub const SQUARES: usize = 0;
@@ -37,12 +37,12 @@ pub fn tape_words(n: u32) -> usize
     9 * (m * m) + 12 * m + 31
 }
 
-// Whether the last seven words are the trailer.
-fn trailer_fits(tape: &[u32], n: u32, pair: u32, side: u32, number: u32) -> bool
-    requires { ⌜ (listed n ≡ true) × (length (now tape) ≡ tapeLength n) ⌝ }
-    ensures { λ r. ⌜ r ≡ trailerFits n pair side number (now (tape .entry)) ⌝ }
+// The seven words after the body: the distances back to the sections, then whose tape it is.
+pub fn trailer_of(n: u32, pair: u32, side: u32, number: u32) -> [u32; 7]
+    requires { ⌜ listed n ≡ true ⌝ }
+    ensures { λ r. ⌜ r ≡ trailer n pair side number ⌝ }
 {
-    let trailer = [
+    [
         9 * (n * n) + 12 * n + 24,
         3 * (n * n) + 12 * n + 24,
         9 * n + 24,
@@ -50,7 +50,15 @@ fn trailer_fits(tape: &[u32], n: u32, pair: u32, side: u32, number: u32) -> bool
         side,
         number,
         n,
-    ];
+    ]
+}
+
+// Whether the last seven words are the trailer.
+fn trailer_fits(tape: &[u32], n: u32, pair: u32, side: u32, number: u32) -> bool
+    requires { ⌜ (listed n ≡ true) × (length (now tape) ≡ tapeLength n) ⌝ }
+    ensures { λ r. ⌜ r ≡ trailerFits n pair side number (now (tape .entry)) ⌝ }
+{
+    let trailer = trailer_of(n, pair, side, number);
     let body = tape.len() - TRAILER;
     let mut k = 0;
     while k < TRAILER {

@@ -1,6 +1,6 @@
 -- `tape::trailer_fits` meets its contract. The loop's invariant: the words passed are the trailer's.
 use Prim.Native.Nat.{ℕ, _+_, _-_, _<_, _≤_}
-use mathlib.Core.Path.{_≡_, sym}
+use mathlib.Core.Path.{_≡_, sym, ap, _∙_}
 use mathlib.Core.Bool.{Bool}
 use mathlib.Core.List.{List}
 use native.Mathlib.Omega.{arith}
@@ -20,61 +20,31 @@ abbrev agrees : ℕ → ℕ → ℕ → ℕ → List ℕ → ℕ → Bool
 agrees n pair side number tape k = eqb (getD tape (bodyLength n + k) 0) (getD (trailer n pair side number) k 0)
 
 abbrev Inv-loop : tie.InvT-loop
-Inv-loop tape n pair side number trailer body k₀ k = (k ≤ 7) × ((j : ℕ) → j < k → getD tape (bodyLength n + j) 0 ≡ getD trailer j 0)
+Inv-loop tape n pair side number words body k₀ k = (k ≤ 7) × ((j : ℕ) → j < k → getD tape (bodyLength n + j) 0 ≡ getD words j 0)
 
 abbrev μ-loop : tie.MeasureT-loop
-μ-loop tape n pair side number trailer body k₀ k = 7 - k
+μ-loop tape n pair side number words body k₀ k = 7 - k
 
-mul-t9 : tie.Need-mul-t9 Inv-loop μ-loop
-mul-t9 c = omega (arith, small (c .pre .0))
+abbrev start : tie.After-trailer-of Inv-loop μ-loop → tie.Start Inv-loop μ-loop
+start c = c .before .before
 
-mul-t10 : tie.Need-mul-t10 Inv-loop μ-loop
-mul-t10 c = omega (arith, small (c .pre .0))
-
-mul-t11 : tie.Need-mul-t11 Inv-loop μ-loop
-mul-t11 c = omega (arith, small (c .pre .0))
-
-add-t12 : tie.Need-add-t12 Inv-loop μ-loop
-add-t12 c = omega (arith, small (c .pre .0))
-
-add-t13 : tie.Need-add-t13 Inv-loop μ-loop
-add-t13 c = omega (arith, small (c .pre .0))
-
-mul-t14 : tie.Need-mul-t14 Inv-loop μ-loop
-mul-t14 c = omega (arith, small (c .pre .0))
-
-mul-t15 : tie.Need-mul-t15 Inv-loop μ-loop
-mul-t15 c = omega (arith, small (c .pre .0))
-
-mul-t16 : tie.Need-mul-t16 Inv-loop μ-loop
-mul-t16 c = omega (arith, small (c .pre .0))
-
-add-t17 : tie.Need-add-t17 Inv-loop μ-loop
-add-t17 c = omega (arith, small (c .pre .0))
-
-add-t18 : tie.Need-add-t18 Inv-loop μ-loop
-add-t18 c = omega (arith, small (c .pre .0))
-
-mul-t19 : tie.Need-mul-t19 Inv-loop μ-loop
-mul-t19 c = omega (arith, small (c .pre .0))
-
-add-t20 : tie.Need-add-t20 Inv-loop μ-loop
-add-t20 c = omega (arith, small (c .pre .0))
+trailer-of-requires : tie.Need-trailer-of-requires Inv-loop μ-loop
+trailer-of-requires c κs = c .before .pre .0
 
 sub-body : tie.Need-sub-body Inv-loop μ-loop
-sub-body c = omega (arith, small (c .pre .0))
+sub-body c = omega (arith, small (start c .pre .0))
 
 loop-holds : tie.Need-loop-holds Inv-loop μ-loop
 loop-holds c = (omega arith, below-none _)
 
 add-if1 : tie.Need-add-if1 Inv-loop μ-loop
-add-if1 c = omega (arith, small (c .before .before .pre .0))
+add-if1 c = omega (arith, small (start (c .before .before) .pre .0))
 
 mul-if1 : tie.Need-mul-if1 Inv-loop μ-loop
-mul-if1 c = omega (arith, small (c .before .before .pre .0))
+mul-if1 c = omega (arith, small (start (c .before .before) .pre .0))
 
 shared-slice-read-if1 : tie.Need-shared-slice-read-if1 Inv-loop μ-loop
-shared-slice-read-if1 c = omega (arith, c .before .before .before .pre .1)
+shared-slice-read-if1 c = omega (arith, start (c .before .before .before) .pre .1)
 
 mul-if1-2 : tie.Need-mul-if1-2 Inv-loop μ-loop
 mul-if1-2 c = omega arith
@@ -85,12 +55,13 @@ array-read-if1 c = omega arith
 returns : tie.Need-returns Inv-loop μ-loop
 unfolding trailerFits
 returns c =
-    let s = c .before .before .before .before in
+    let call = c .before .before .before .before in
+    let s = start call in
     let a = s .args in
     let other = rw (body-end (a .n) (length (a .tape .now)) (s .pre .1)) at (c .if1 .taken) in
     sym
     (every-fails trailerLength (agrees (a .n) (a .pair) (a .side) (a .number) (a .tape .now)) (c .before .before .before .loop .k) (omega arith)
-    (ne-eqb _ _ other))
+    (ne-eqb _ _ (λ e. other (e ∙ sym (ap (λ (words : List ℕ). getD words (c .before .before .before .loop .k) 0) (call .trailer-of .ensures))))))
 
 add-k : tie.Need-add-k Inv-loop μ-loop
 add-k c = omega arith
@@ -100,17 +71,18 @@ loop-less c = omega arith
 
 loop-again : tie.Need-loop-again Inv-loop μ-loop
 loop-again c =
-    let s = c .before .before .before .before in
+    let s = start (c .before .before .before .before) in
     let same = rw (body-end (s .args .n) (length (s .args .tape .now)) (s .pre .1)) at (c .if1 .left) in
     (omega arith, below-more _ _ (c .before .before .before .loop .inv .1) same)
 
 returns-2 : tie.Need-returns-2 Inv-loop μ-loop
 unfolding trailerFits
 returns-2 c =
-    let a = c .before .before .args in
+    let call = c .before .before in
+    let a = start call .args in
     sym
     (every-intro trailerLength (agrees (a .n) (a .pair) (a .side) (a .number) (a .tape .now))
-    (λ k l. eq-eqb _ _ (c .before .loop .inv .1 k (omega arith))))
+    (λ k l. eq-eqb _ _ (c .before .loop .inv .1 k (omega arith) ∙ ap (λ (words : List ℕ). getD words k 0) (call .trailer-of .ensures))))
 
 pub trailer-fits-spec : {M : Type 1} → statement M
 trailer-fits-spec =
@@ -118,18 +90,7 @@ trailer-fits-spec =
     (tie.spec
     Inv-loop
     μ-loop
-    mul-t9
-    mul-t10
-    mul-t11
-    add-t12
-    add-t13
-    mul-t14
-    mul-t15
-    mul-t16
-    add-t17
-    add-t18
-    mul-t19
-    add-t20
+    trailer-of-requires
     sub-body
     loop-holds
     add-if1
