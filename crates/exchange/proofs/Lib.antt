@@ -1,2 +1,7 @@
-pub mod Messages
-pub mod Exchanges
+mod Turned
+pub mod Ready
+mod Told
+mod Course
+mod Exchanges
+pub mod Begun
+pub mod Right

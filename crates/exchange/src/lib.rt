@@ -1,17 +1,22 @@
-// Both boxes of a job side by side: one round, the whole exchange, and the answer that it opens.
+// Both boxes of a job in one memory, through the five calls: the opening, one round, the whole exchange, and the answer that it opens.
+use rules::state::Answer;
+use rules::state::Outcome;
+use rules::state::Phase;
+use rules::state::State;
 ghost use mathlib.Core.Path.{_≡_};
 ghost use Prim.Native.Nat.{ℕ, _+_, _%_, _<_, _≤_};
 ghost use lib.Dec.{ltb};
 ghost use lib.ListN.{length};
 ghost use lib.Seq.{sets};
 ghost use Rattle.field.specs.Width.{modulus};
-ghost use Rattle.tape.specs.Order.{Readable};
 ghost use Rattle.tape.specs.Dealt.{Dealt};
 ghost use Rattle.encoding.specs.Matching.{indicator};
-ghost use Rattle.protocol.specs.Work.{workLength};
-ghost use Rattle.protocol.specs.Products.{party};
-ghost use Rattle.protocol.specs.Rounds.{roundWords, message, afterHearing, replyTo};
-ghost use Rattle.exchange.specs.Boxes.{answerOne, answerTwo};
+ghost use Rattle.protocol.specs.Rounds.{roundWords, message};
+ghost use Rattle.rules.specs.Answers.{share, replyOf};
+ghost use Rattle.rules.specs.Calls.{outcome, partyOf};
+ghost use Rattle.rules.specs.declared.state.Turn.the-variants.{Speak};
+ghost use Rattle.exchange.specs.Opening.{firstState, refusalOf, shareOf, begun, openingRefusal};
+ghost use Rattle.exchange.specs.Boxes.{Ready, heardAfter, answerOne, answerTwo};
 
 // A box's shares of x and y.
 pub struct Shares {
@@ -19,78 +24,144 @@ pub struct Shares {
     pub y: u32,
 }
 
-// What hearing a round gives each box: its answer share after the last, 0 before.
-pub struct Replies {
-    pub one: u32,
-    pub two: u32,
+// Both boxes' states.
+pub struct Boxes {
+    pub one: State,
+    pub two: State,
+}
+
+// What the two hears of a round gave.
+pub struct Heard {
+    pub one: Outcome,
+    pub two: Outcome,
+}
+
+// A box at first.
+fn first_state() -> State
+    ensures { λ r. ⌜ r ≡ firstState ⌝ }
+{
+    State {
+        n: 0,
+        side: 0,
+        pair: 0,
+        tally: 0,
+        phase: Phase::Asleep,
+    }
+}
+
+// The number of a refusal, and 0 for any other answer.
+pub fn refusal_of(answer: Answer) -> u32
+    ensures { λ r. ⌜ r ≡ refusalOf (replyOf answer) ⌝ }
+{
+    match answer {
+        Answer::Fresh(_) => 0,
+        Answer::Started => 0,
+        Answer::Spoke(_) => 0,
+        Answer::Heard => 0,
+        Answer::Share(_) => 0,
+        Answer::Dropped => 0,
+        Answer::Refused(refusal) => limit_box::numbers::number_of(refusal),
+    }
+}
+
+// The answer share, and 0 for any other answer.
+pub fn share_of(answer: Answer) -> u32
+    ensures { λ r. ⌜ r ≡ shareOf (replyOf answer) ⌝ }
+{
+    match answer {
+        Answer::Fresh(_) => 0,
+        Answer::Started => 0,
+        Answer::Spoke(_) => 0,
+        Answer::Heard => 0,
+        Answer::Share(share) => share,
+        Answer::Dropped => 0,
+        Answer::Refused(_) => 0,
+    }
+}
+
+// A box wakes and starts its job: the start's outcome, or the wake's where that is refused.
+pub fn begin(
+    n: u32,
+    side: u32,
+    pair: u32,
+    number: u32,
+    own: Shares,
+    tape: &[u32],
+    work: &[u32],
+    tally: &mut [u8],
+) -> Outcome
+    ensures { λ r. ⌜ outcome r (now (tally .exit))
+        ≡ begun n side pair number (own .x) (own .y) (now (tape .entry)) (now (work .entry)) (now (tally .entry)) ⌝ }
+{
+    let woken = limit_box::wake(first_state(), n, side, pair, &*tally);
+    let answer = woken.answer;
+    if refusal_of(answer) != 0 {
+        return woken;
+    }
+    let state = woken.state;
+    limit_box::start(state, number, own.x, own.y, tape, work, tally)
 }
 
 // One round: both boxes speak, then both hear the other's words. The words of each stand at the front of its out.
 pub fn round(
-    n: u32,
+    number: u32,
     round: u32,
-    one: Shares,
-    two: Shares,
+    boxes: Boxes,
     t1: &[u32],
     t2: &[u32],
     w1: &mut [u32],
     w2: &mut [u32],
     o1: &mut [u32],
     o2: &mut [u32],
-) -> Replies
-    requires { ⌜ (one .x < modulus n) × (one .y < modulus n) × Readable n (now t1) × (workLength n ≤ length (now w1)) × (roundWords n round ≤ length (now o1)) ⌝ }
-    requires { ⌜ (two .x < modulus n) × (two .y < modulus n) × Readable n (now t2) × (workLength n ≤ length (now w2)) × (roundWords n round ≤ length (now o2)) ⌝ }
-    ensures first { λ r. ⌜ (now (o1 .exit) ≡ sets (now (o1 .entry)) 0 (message (party n 1 (one .x) (one .y) (now (t1 .entry))) (now (w1 .entry)) round))
-        × (now (w1 .exit)
-        ≡ afterHearing (party n 1 (one .x) (one .y) (now (t1 .entry))) (now (w1 .entry)) round
-        (message (party n 2 (two .x) (two .y) (now (t2 .entry))) (now (w2 .entry)) round))
-        × (r .one
-        ≡ replyTo (party n 1 (one .x) (one .y) (now (t1 .entry))) (now (w1 .entry)) round
-        (message (party n 2 (two .x) (two .y) (now (t2 .entry))) (now (w2 .entry)) round)) ⌝ }
-    ensures second { λ r. ⌜ (now (o2 .exit) ≡ sets (now (o2 .entry)) 0 (message (party n 2 (two .x) (two .y) (now (t2 .entry))) (now (w2 .entry)) round))
-        × (now (w2 .exit)
-        ≡ afterHearing (party n 2 (two .x) (two .y) (now (t2 .entry))) (now (w2 .entry)) round
-        (message (party n 1 (one .x) (one .y) (now (t1 .entry))) (now (w1 .entry)) round))
-        × (r .two
-        ≡ replyTo (party n 2 (two .x) (two .y) (now (t2 .entry))) (now (w2 .entry)) round
-        (message (party n 1 (one .x) (one .y) (now (t1 .entry))) (now (w1 .entry)) round)) ⌝ }
-    ensures below { λ r. ⌜ (r .one < modulus n) × (r .two < modulus n) ⌝ }
+) -> Heard
+    requires { ⌜ Ready (boxes .one) number (Speak round) (now t1) (now w1) × (roundWords (boxes .one .n) round ≤ length (now o1)) ⌝ }
+    requires { ⌜ Ready (boxes .two) number (Speak round) (now t2) (now w2) × (roundWords (boxes .two .n) round ≤ length (now o2)) ⌝ }
+    requires { ⌜ boxes .one .n ≡ boxes .two .n ⌝ }
+    ensures first { λ r. ⌜ (now (o1 .exit) ≡ sets (now (o1 .entry)) 0 (message (partyOf (boxes .one) (now (t1 .entry))) (now (w1 .entry)) round))
+        × (outcome (r .one) (now (w1 .exit))
+        ≡ heardAfter (boxes .one) (now (t1 .entry)) (now (w1 .entry)) round (message (partyOf (boxes .two) (now (t2 .entry))) (now (w2 .entry)) round)) ⌝ }
+    ensures second { λ r. ⌜ (now (o2 .exit) ≡ sets (now (o2 .entry)) 0 (message (partyOf (boxes .two) (now (t2 .entry))) (now (w2 .entry)) round))
+        × (outcome (r .two) (now (w2 .exit))
+        ≡ heardAfter (boxes .two) (now (t2 .entry)) (now (w2 .entry)) round (message (partyOf (boxes .one) (now (t1 .entry))) (now (w1 .entry)) round)) ⌝ }
 {
-    let words = compare::words::words_of(n, round);
-    compare::speaking::speak(n, 1, round, one.x, one.y, t1, &*w1, &mut *o1);
-    compare::speaking::speak(n, 2, round, two.x, two.y, t2, &*w2, &mut *o2);
-    let a = compare::hearing::hear(n, 1, round, one.x, one.y, t1, w1, &o2[..words]);
-    let b = compare::hearing::hear(n, 2, round, two.x, two.y, t2, w2, &o1[..words]);
-    Replies { one: a, two: b }
+    let s1 = boxes.one;
+    let s2 = boxes.two;
+    let words = compare::words::words_of(s1.n, round);
+    let a = limit_box::speak(s1, number, round, t1, &*w1, &mut *o1);
+    let b = limit_box::speak(s2, number, round, t2, &*w2, &mut *o2);
+    let s3 = a.state;
+    let s4 = b.state;
+    let one = limit_box::hear(s3, number, round, t1, w1, &o2[..words]);
+    let two = limit_box::hear(s4, number, round, t2, w2, &o1[..words]);
+    Heard { one, two }
 }
 
-// All six rounds, from whatever work holds.
+// All six rounds, from whatever work holds: what the last two hears gave.
 pub fn answers(
-    n: u32,
-    one: Shares,
-    two: Shares,
+    number: u32,
+    boxes: Boxes,
     t1: &[u32],
     t2: &[u32],
     w1: &mut [u32],
     w2: &mut [u32],
     o1: &mut [u32],
     o2: &mut [u32],
-) -> Replies
-    requires { ⌜ (one .x < modulus n) × (one .y < modulus n) × Readable n (now t1) × (workLength n ≤ length (now w1)) × (roundWords n 1 ≤ length (now o1)) ⌝ }
-    requires { ⌜ (two .x < modulus n) × (two .y < modulus n) × Readable n (now t2) × (workLength n ≤ length (now w2)) × (roundWords n 1 ≤ length (now o2)) ⌝ }
-    ensures first { λ r. ⌜ r .one
-        ≡ answerOne n (one .x) (one .y) (two .x) (two .y) (now (t1 .entry)) (now (t2 .entry)) (now (w1 .entry)) (now (w2 .entry)) ⌝ }
-    ensures second { λ r. ⌜ r .two
-        ≡ answerTwo n (one .x) (one .y) (two .x) (two .y) (now (t1 .entry)) (now (t2 .entry)) (now (w1 .entry)) (now (w2 .entry)) ⌝ }
-    ensures below { λ r. ⌜ (r .one < modulus n) × (r .two < modulus n) ⌝ }
+) -> Heard
+    requires { ⌜ Ready (boxes .one) number (Speak 1) (now t1) (now w1) × (roundWords (boxes .one .n) 1 ≤ length (now o1)) ⌝ }
+    requires { ⌜ Ready (boxes .two) number (Speak 1) (now t2) (now w2) × (roundWords (boxes .two .n) 1 ≤ length (now o2)) ⌝ }
+    requires { ⌜ boxes .one .n ≡ boxes .two .n ⌝ }
+    ensures first { λ r. ⌜ replyOf (r .one .answer)
+        ≡ share (answerOne (boxes .one) (boxes .two) (now (t1 .entry)) (now (t2 .entry)) (now (w1 .entry)) (now (w2 .entry))) ⌝ }
+    ensures second { λ r. ⌜ replyOf (r .two .answer)
+        ≡ share (answerTwo (boxes .one) (boxes .two) (now (t1 .entry)) (now (t2 .entry)) (now (w1 .entry)) (now (w2 .entry))) ⌝ }
 {
+    let mut due = boxes;
     let mut heard: u32 = 0;
     while heard < 5 {
-        round(
-            n,
+        let r = round(
+            number,
             heard + 1,
-            one,
-            two,
+            due,
             t1,
             t2,
             &mut *w1,
@@ -98,16 +169,74 @@ pub fn answers(
             &mut *o1,
             &mut *o2,
         );
+        let a = r.one;
+        let b = r.two;
+        let one = a.state;
+        let two = b.state;
+        due = Boxes { one, two };
         heard += 1;
     }
-    round(n, 6, one, two, t1, t2, w1, w2, o1, o2)
+    round(number, 6, due, t1, t2, w1, w2, o1, o2)
 }
 
-// The opened answer. On a pair of tapes dealt by the rules it is 1 if x < y, and 0 otherwise.
+// The number of the first refusal, or 0 and the opened answer.
+pub struct Verdict {
+    pub refusal: u32,
+    pub less: u32,
+}
+
+// A whole job. On a pair of tapes dealt by the rules the answer is 1 if x < y, and 0 otherwise.
 pub fn less(
     n: u32,
+    pair: u32,
+    number: u32,
     one: Shares,
     two: Shares,
+    t1: &[u32],
+    t2: &[u32],
+    w1: &mut [u32],
+    w2: &mut [u32],
+    k1: &mut [u8],
+    k2: &mut [u8],
+    o1: &mut [u32],
+    o2: &mut [u32],
+) -> Verdict
+    requires { ⌜ (roundWords n 1 ≤ length (now o1)) × (roundWords n 1 ≤ length (now o2)) ⌝ }
+    ensures refused { λ r. ⌜ r .refusal
+        ≡ openingRefusal n pair number (one .x) (one .y) (two .x) (two .y) (now (t1 .entry)) (now (t2 .entry))
+        (now (w1 .entry)) (now (w2 .entry)) (now (k1 .entry)) (now (k2 .entry)) ⌝ }
+    ensures right { λ r. ⌜ (r .refusal ≡ 0 → Dealt n pair number (now (t1 .entry)) (now (t2 .entry))
+        → r .less ≡ indicator (ltb ((one .x + two .x) % modulus n) ((one .y + two .y) % modulus n))) ⌝ }
+{
+    let a = begin(n, 1, pair, number, one, t1, &*w1, k1);
+    let first = a.answer;
+    let refused = refusal_of(first);
+    if refused != 0 {
+        return Verdict {
+            refusal: refused,
+            less: 0,
+        };
+    }
+    let b = begin(n, 2, pair, number, two, t2, &*w2, k2);
+    let second = b.answer;
+    let refusal = refusal_of(second);
+    if refusal != 0 {
+        return Verdict { refusal, less: 0 };
+    }
+    let s1 = a.state;
+    let s2 = b.state;
+    let boxes = Boxes { one: s1, two: s2 };
+    Verdict {
+        refusal: 0,
+        less: opened(n, number, boxes, t1, t2, w1, w2, o1, o2),
+    }
+}
+
+// The sum of the two answer shares.
+fn opened(
+    n: u32,
+    number: u32,
+    boxes: Boxes,
     t1: &[u32],
     t2: &[u32],
     w1: &mut [u32],
@@ -115,15 +244,18 @@ pub fn less(
     o1: &mut [u32],
     o2: &mut [u32],
 ) -> u32
-    requires { ⌜ (one .x < modulus n) × (one .y < modulus n) × Readable n (now t1) × (workLength n ≤ length (now w1)) × (roundWords n 1 ≤ length (now o1)) ⌝ }
-    requires { ⌜ (two .x < modulus n) × (two .y < modulus n) × Readable n (now t2) × (workLength n ≤ length (now w2)) × (roundWords n 1 ≤ length (now o2)) ⌝ }
-    ensures sum { λ r. ⌜ r
-        ≡ (answerOne n (one .x) (one .y) (two .x) (two .y) (now (t1 .entry)) (now (t2 .entry)) (now (w1 .entry)) (now (w2 .entry))
-        + answerTwo n (one .x) (one .y) (two .x) (two .y) (now (t1 .entry)) (now (t2 .entry)) (now (w1 .entry)) (now (w2 .entry)))
+    requires { ⌜ Ready (boxes .one) number (Speak 1) (now t1) (now w1) × (roundWords (boxes .one .n) 1 ≤ length (now o1)) ⌝ }
+    requires { ⌜ Ready (boxes .two) number (Speak 1) (now t2) (now w2) × (roundWords (boxes .two .n) 1 ≤ length (now o2)) ⌝ }
+    requires { ⌜ (boxes .one .n ≡ n) × (boxes .two .n ≡ n) ⌝ }
+    ensures { λ r. ⌜ r
+        ≡ (answerOne (boxes .one) (boxes .two) (now (t1 .entry)) (now (t2 .entry)) (now (w1 .entry)) (now (w2 .entry))
+        + answerTwo (boxes .one) (boxes .two) (now (t1 .entry)) (now (t2 .entry)) (now (w1 .entry)) (now (w2 .entry)))
         % modulus n ⌝ }
-    ensures right { λ r. ⌜ ((pair number : ℕ) → Dealt n pair number (now (t1 .entry)) (now (t2 .entry))
-        → r ≡ indicator (ltb ((one .x + two .x) % modulus n) ((one .y + two .y) % modulus n))) ⌝ }
 {
-    let shares = answers(n, one, two, t1, t2, w1, w2, o1, o2);
-    field::add(n, shares.one, shares.two)
+    let last = answers(number, boxes, t1, t2, w1, w2, o1, o2);
+    let a = last.one;
+    let b = last.two;
+    let first = a.answer;
+    let second = b.answer;
+    field::add(n, share_of(first), share_of(second))
 }

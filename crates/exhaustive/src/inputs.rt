@@ -1,12 +1,14 @@
 // The inputs x1, x2, y1, y2 of a width, each from 0 to p - 1.
+use crate::random::NUMBER;
+use crate::random::PAIR;
 use exchange::Shares;
+use exchange::Verdict;
 ghost use mathlib.Core.Path.{_≡_};
 ghost use mathlib.Core.Bool.{true};
 ghost use Prim.Native.Nat.{_*_, _<_, _≤_};
 ghost use lib.ListN.{length};
 ghost use Rattle.field.specs.Width.{listed, modulus};
 ghost use Rattle.tape.specs.Layout.{tapeLength};
-ghost use Rattle.tape.specs.Order.{Readable};
 
 // How many answers were right, and the generator's next state.
 struct Turn {
@@ -23,9 +25,9 @@ fn expected(p: u32, one: Shares, two: Shares) -> u32
     if x < y { 1 } else { 0 }
 }
 
-// All y1 and y2, with one pair of tapes.
+// All y1 and y2, with one pair of tapes: how many jobs are taken and answered right.
 fn right_of(n: u32, x1: u32, x2: u32, t1: &[u32], t2: &[u32]) -> u64
-    requires { ⌜ (n ≤ 5) × (x1 < modulus n) × (x2 < modulus n) × Readable n (now t1) × Readable n (now t2) ⌝ }
+    requires { ⌜ (listed n ≡ true) × (n ≤ 5) × (x1 < modulus n) × (x2 < modulus n) ⌝ }
     ensures { λ r. ⌜ r ≤ modulus n * modulus n ⌝ }
 {
     let p = field::modulus_of(n);
@@ -38,8 +40,24 @@ fn right_of(n: u32, x1: u32, x2: u32, t1: &[u32], t2: &[u32]) -> u64
     while i < p * p {
         let one = Shares { x: x1, y: i / p };
         let two = Shares { x: x2, y: i % p };
-        let r = exchange::less(n, one, two, t1, t2, &mut w1, &mut w2, &mut o1, &mut o2);
-        if r == expected(p, one, two) {
+        let mut k1 = [255u8; 1];
+        let mut k2 = [255u8; 1];
+        let r = exchange::less(
+            n,
+            PAIR,
+            NUMBER,
+            one,
+            two,
+            t1,
+            t2,
+            &mut w1,
+            &mut w2,
+            &mut k1,
+            &mut k2,
+            &mut o1,
+            &mut o2,
+        );
+        if agrees(r, expected(p, one, two)) {
             right += 1;
         }
         i += 1;
@@ -47,18 +65,9 @@ fn right_of(n: u32, x1: u32, x2: u32, t1: &[u32], t2: &[u32]) -> u64
     right
 }
 
-// The same on tapes that may be out of order: then none is right.
-fn right_on(n: u32, x1: u32, x2: u32, t1: &[u32], t2: &[u32]) -> u64
-    requires { ⌜ (listed n ≡ true) × (n ≤ 5) × (x1 < modulus n) × (x2 < modulus n) ⌝ }
-    ensures { λ r. ⌜ r ≤ modulus n * modulus n ⌝ }
-{
-    if !tape::in_order(t1, n, crate::dealer::PAIR, 1, crate::dealer::NUMBER) {
-        return 0;
-    }
-    if !tape::in_order(t2, n, crate::dealer::PAIR, 2, crate::dealer::NUMBER) {
-        return 0;
-    }
-    right_of(n, x1, x2, t1, t2)
+// Whether the job was taken, and its answer is that.
+fn agrees(verdict: Verdict, less: u32) -> bool {
+    verdict.refusal == 0 && verdict.less == less
 }
 
 // A fresh pair of random tapes for one x1 and x2.
@@ -67,8 +76,8 @@ fn dealt_turn(n: u32, seed: u32, x1: u32, x2: u32, t1: &mut [u32], t2: &mut [u32
     requires { ⌜ (tapeLength n ≤ length (now t1)) × (tapeLength n ≤ length (now t2)) ⌝ }
     ensures { λ r. ⌜ r .right ≤ modulus n * modulus n ⌝ }
 {
-    let next = crate::dealer::deal(n, seed, &mut *t1, &mut *t2);
-    let right = right_on(n, x1, x2, &*t1, &*t2);
+    let next = crate::random::deal(n, seed, &mut *t1, &mut *t2);
+    let right = right_of(n, x1, x2, &*t1, &*t2);
     Turn { right, seed: next }
 }
 
@@ -92,15 +101,16 @@ pub fn right_dealt(n: u32, t1: &mut [u32], t2: &mut [u32]) -> u64
 
 // All inputs of a width, on the plain tapes.
 pub fn right_plain(n: u32, t1: &mut [u32], t2: &mut [u32]) -> u64
-    requires { ⌜ (listed n ≡ true) × (n ≤ 5) × (tapeLength n ≤ length (now t1)) × (tapeLength n ≤ length (now t2)) ⌝ }
+    requires { ⌜ (listed n ≡ true) × (n ≤ 5) × (length (now t1) ≡ tapeLength n) × (length (now t2) ≡ tapeLength n) ⌝ }
     ensures { λ r. ⌜ r ≤ modulus n * modulus n * (modulus n * modulus n) ⌝ }
 {
-    crate::dealer::plain(n, &mut *t1, &mut *t2);
+    dealer::plain(n, PAIR, 1, NUMBER, &mut *t1);
+    dealer::plain(n, PAIR, 2, NUMBER, &mut *t2);
     let p = field::modulus_of(n);
     let mut right: u64 = 0;
     let mut i = 0;
     while i < p * p {
-        right += right_on(n, i / p, i % p, &*t1, &*t2);
+        right += right_of(n, i / p, i % p, &*t1, &*t2);
         i += 1;
     }
     right

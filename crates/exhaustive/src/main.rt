@@ -1,6 +1,6 @@
 // Runs every input of widths 3 and 5 as a whole exchange of both boxes, and counts the answers that an ordinary comparison gives too.
-mod dealer;
 mod inputs;
+mod random;
 
 fn print_line(name: &[u8], right: u64, all: u64) {
     io::write_all(1, name);

@@ -1,5 +1,6 @@
 // Jobs of both boxes against the words of their files.
 use crate::numbers::Cursor;
+use exchange::Boxes;
 use exchange::Shares;
 ghost use mathlib.Core.Path.{_≡_};
 ghost use mathlib.Core.Bool.{true};
@@ -79,62 +80,29 @@ fn on_tapes(
     let len = tape::tape_words(n);
     let mut t1 = blank();
     let mut t2 = blank();
-    read_tapes(
+    let c = crate::numbers::fill(text, from, &mut t1[..len]);
+    if !c.ok {
+        return false;
+    }
+    let d = crate::numbers::fill(text, c.at, &mut t2[..len]);
+    if !d.ok {
+        return false;
+    }
+    opened(
         text,
-        from,
+        d.at,
         n,
         pair,
         number,
         one,
         two,
-        &mut t1[..len],
-        &mut t2[..len],
+        &t1[..len],
+        &t2[..len],
     )
 }
 
-fn read_tapes(
-    text: &[u8],
-    from: usize,
-    n: u32,
-    pair: u32,
-    number: u32,
-    one: Shares,
-    two: Shares,
-    t1: &mut [u32],
-    t2: &mut [u32],
-) -> bool
-    requires { ⌜ listed n ≡ true ⌝ }
-{
-    let c = crate::numbers::fill(text, from, &mut *t1);
-    if !c.ok {
-        return false;
-    }
-    let d = crate::numbers::fill(text, c.at, &mut *t2);
-    if !d.ok {
-        return false;
-    }
-    check_lent(text, d.at, n, pair, number, one, two, &*t1, &*t2)
-}
-
-// Whether all four shares are below p.
-fn in_range(n: u32, one: Shares, two: Shares) -> bool
-    requires { ⌜ listed n ≡ true ⌝ }
-    ensures { λ r. ⌜ (r ≡ true → (one .x < modulus n) × (one .y < modulus n) × (two .x < modulus n) × (two .y < modulus n)) ⌝ }
-{
-    if !field::in_range(n, one.x) {
-        return false;
-    }
-    if !field::in_range(n, one.y) {
-        return false;
-    }
-    if !field::in_range(n, two.x) {
-        return false;
-    }
-    field::in_range(n, two.y)
-}
-
-// A job whose shares and tapes may be out of range or out of order: then it doesn't agree.
-fn check_lent(
+// Both boxes come to the job. One that is refused doesn't agree.
+fn opened(
     text: &[u8],
     from: usize,
     n: u32,
@@ -147,49 +115,62 @@ fn check_lent(
 ) -> bool
     requires { ⌜ listed n ≡ true ⌝ }
 {
-    if !in_range(n, one, two) {
+    let mut w1 = [0u32; 436];
+    let mut w2 = [0u32; 436];
+    let mut k1 = [255u8; 65536];
+    let mut k2 = [255u8; 65536];
+    let a = exchange::begin(n, 1, pair, number, one, t1, &w1, &mut k1);
+    let first = a.answer;
+    if exchange::refusal_of(first) != 0 {
         return false;
     }
-    if !tape::in_order(t1, n, pair, 1, number) {
+    let b = exchange::begin(n, 2, pair, number, two, t2, &w2, &mut k2);
+    let second = b.answer;
+    if exchange::refusal_of(second) != 0 {
         return false;
     }
-    if !tape::in_order(t2, n, pair, 2, number) {
-        return false;
-    }
-    exchanged(text, from, n, one, two, t1, t2)
+    let s1 = a.state;
+    let s2 = b.state;
+    exchanged(
+        text,
+        from,
+        number,
+        Boxes { one: s1, two: s2 },
+        t1,
+        t2,
+        &mut w1,
+        &mut w2,
+    )
 }
 
 // All six rounds, each message against the text, then the answer shares.
 fn exchanged(
     text: &[u8],
     from: usize,
-    n: u32,
-    one: Shares,
-    two: Shares,
+    number: u32,
+    boxes: Boxes,
     t1: &[u32],
     t2: &[u32],
-) -> bool
-    requires { ⌜ (one .x < modulus n) × (one .y < modulus n) × (two .x < modulus n) × (two .y < modulus n) ⌝ }
-    requires { ⌜ Readable n (now t1) × Readable n (now t2) ⌝ }
-{
-    let mut w1 = [0u32; 436];
-    let mut w2 = [0u32; 436];
+    w1: &mut [u32],
+    w2: &mut [u32],
+) -> bool {
     let mut o1 = [0u32; 2889];
     let mut o2 = [0u32; 2889];
+    let mut due = boxes;
     let mut answers = [0u32; 2];
     let mut at = from;
     let mut round: u32 = 1;
     while round <= compare::words::LAST_ROUND {
-        let words = compare::words::words_of(n, round);
+        let s = due.one;
+        let words = compare::words::words_of(s.n, round);
         let r = exchange::round(
-            n,
+            number,
             round,
-            one,
-            two,
+            due,
             t1,
             t2,
-            &mut w1,
-            &mut w2,
+            &mut *w1,
+            &mut *w2,
             &mut o1,
             &mut o2,
         );
@@ -198,8 +179,15 @@ fn exchanged(
             return false;
         }
         at = c.at;
-        answers[0] = r.one;
-        answers[1] = r.two;
+        let a = r.one;
+        let b = r.two;
+        let first = a.answer;
+        let second = b.answer;
+        answers[0] = exchange::share_of(first);
+        answers[1] = exchange::share_of(second);
+        let one = a.state;
+        let two = b.state;
+        due = Boxes { one, two };
         round += 1;
     }
     let c = crate::numbers::same(text, at, &answers);

@@ -1,67 +1,98 @@
--- `exchange::answers` meets its contract. The loop's invariant: both works are those of the exchange after the rounds heard.
+-- `exchange::answers` meets its contract. The loop's invariant: both boxes are on their course, after the rounds heard.
 use Prim.Native.Nat.{ℕ, _+_, _-_, _≤_}
-use mathlib.Core.Path.{_≡_, refl, ap, _∙_}
+use mathlib.Core.Path.{_≡_, refl, sym, ap, subst, _∙_}
 use native.Mathlib.Omega.{arith}
 use borrow.Author.Needs.{needs}
 use lib.ListN.{length}
-use Rattle.protocol.specs.Work.{workLength}
-use Rattle.protocol.specs.Products.{Party, party}
+use Rattle.protocol.specs.Products.{Party}
 use Rattle.protocol.specs.Exchange.{Both, exchanged}
 use Rattle.protocol.specs.Rounds.{roundWords}
-use Rattle.protocol.proofs.Lengths.{most-words}
+use Rattle.rules.specs.Answers.{share}
+use Rattle.rules.specs.Calls.{partyOf}
 use Rattle.exchange.specs.Boxes.{works, after}
 use Rattle.exchange.proofs.Exchanges.{more-own, more-others, last-own, last-others}
+use Rattle.exchange.proofs.Course.{Course, course-first, course-width, course-room, course-sends, course-next, course-last}
 use Rattle.exchange.proofs.answers.Statement.{statement}
 use Rattle.exchange.proofs.answers.Tie as tie
 
 abbrev Inv-loop : tie.InvT-loop
-Inv-loop n one two t1 t2 w1₀ w2₀ o1₀ o2₀ heard₀ w1 w2 o1 o2 heard =
+Inv-loop number t1 t2 w1₀ w2₀ o1₀ o2₀ due₀ heard₀ w1 w2 o1 o2 due heard =
     (heard ≤ 5)
-    × (w1 ≡ after n (one .x) (one .y) (two .x) (two .y) t1 t2 w1₀ w2₀ heard .own)
-    × (w2 ≡ after n (one .x) (one .y) (two .x) (two .y) t1 t2 w1₀ w2₀ heard .others)
+    × Course (due₀ .one) number t1 heard (after (due₀ .one) (due₀ .two) t1 t2 w1₀ w2₀ heard .own) (due .one) w1
+    × Course (due₀ .two) number t2 heard (after (due₀ .one) (due₀ .two) t1 t2 w1₀ w2₀ heard .others) (due .two) w2
     × (length w1 ≡ length w1₀)
     × (length w2 ≡ length w2₀)
     × (length o1 ≡ length o1₀)
     × (length o2 ≡ length o2₀)
 
 abbrev μ-loop : tie.MeasureT-loop
-μ-loop n one two t1 t2 w1₀ w2₀ o1₀ o2₀ heard₀ w1 w2 o1 o2 heard = 5 - heard
+μ-loop number t1 t2 w1₀ w2₀ o1₀ o2₀ due₀ heard₀ w1 w2 o1 o2 due heard = 5 - heard
 
 abbrev start : tie.At-loop Inv-loop μ-loop → tie.Start Inv-loop μ-loop
 start l = l .before .before .before .before .before .before .before
 
 -- the two boxes, and what they held first
 abbrev one : tie.Start Inv-loop μ-loop → Party
-one s = party (s .args .n) 1 (s .args .one .x) (s .args .one .y) (s .args .t1 .now)
+one s = partyOf (s .args .boxes .one) (s .args .t1 .now)
 
 abbrev two : tie.Start Inv-loop μ-loop → Party
-two s = party (s .args .n) 2 (s .args .two .x) (s .args .two .y) (s .args .t2 .now)
+two s = partyOf (s .args .boxes .two) (s .args .t2 .now)
 
-abbrev held : tie.Start Inv-loop μ-loop → Both
-held s = works (s .args .w1 .now) (s .args .w2 .now)
+abbrev first : tie.Start Inv-loop μ-loop → Both
+first s = works (s .args .w1 .now) (s .args .w2 .now)
 
--- room for any round
-record Room (l : tie.At-loop Inv-loop μ-loop) (round : ℕ) : Type 0 where
-  work1 : workLength (start l .args .n) ≤ length (l .loop .w1)
-  work2 : workLength (start l .args .n) ≤ length (l .loop .w2)
-  out1 : roundWords (start l .args .n) round ≤ length (l .loop .o1)
-  out2 : roundWords (start l .args .n) round ≤ length (l .loop .o2)
+-- room for any round, and one width
+record Fits (l : tie.At-loop Inv-loop μ-loop) (round : ℕ) : Type 0 where
+  out1 : roundWords (l .loop .due .one .n) round ≤ length (l .loop .o1)
+  out2 : roundWords (l .loop .due .two .n) round ≤ length (l .loop .o2)
+  width : l .loop .due .one .n ≡ l .loop .due .two .n
 
-room : (l : tie.At-loop Inv-loop μ-loop) (round : ℕ) → Room l round
-room l round =
+fits : (l : tie.At-loop Inv-loop μ-loop) (round : ℕ) → Fits l round
+fits l round =
     let s = start l in
     let inv = l .loop .inv in
-    let most = most-words (s .args .n) round (s .pre .0 .2 .width) in
     record {
-      work1 = omega (arith, s .pre .0 .3, inv .3);
-      work2 = omega (arith, s .pre .1 .3, inv .4);
-      out1 = omega (arith, s .pre .0 .4, inv .5, most);
-      out2 = omega (arith, s .pre .1 .4, inv .6, most);
+      out1 = course-room (inv .1) round (l .loop .o1) (omega (arith, s .pre .0 .1, inv .5));
+      out2 = course-room (inv .2) round (l .loop .o2) (omega (arith, s .pre .1 .0 .1, inv .6));
+      width = course-width (inv .1) ∙ s .pre .1 .1 ∙ sym (course-width (inv .2));
     }
+
+-- each box on its course, after so many rounds
+abbrev Course1 : tie.At-loop Inv-loop μ-loop → ℕ → Type 0
+Course1 l k =
+    let s = start l in
+    let v = s .args in
+    Course (v .boxes .one) (v .number) (v .t1 .now) k (exchanged (one s) (two s) (first s) k .own) (l .loop .due .one) (l .loop .w1)
+
+abbrev Course2 : tie.At-loop Inv-loop μ-loop → ℕ → Type 0
+Course2 l k =
+    let s = start l in
+    let v = s .args in
+    Course (v .boxes .two) (v .number) (v .t2 .now) k (exchanged (one s) (two s) (first s) k .others) (l .loop .due .two) (l .loop .w2)
+
+-- where the loop ends, all rounds but the last are heard
+five : (a : tie.After-loop Inv-loop μ-loop) → a .before .loop .heard ≡ 5
+five a = omega (arith, a .loop-test .left, a .before .loop .inv .0)
+
+ended1 : (a : tie.After-loop Inv-loop μ-loop) → Course1 (a .before) 5
+ended1 a = subst (λ (k : ℕ). Course1 (a .before) k) (five a) (a .before .loop .inv .1)
+
+ended2 : (a : tie.After-loop Inv-loop μ-loop) → Course2 (a .before) 5
+ended2 a = subst (λ (k : ℕ). Course2 (a .before) k) (five a) (a .before .loop .inv .2)
 
 loop-holds : tie.Need-loop-holds Inv-loop μ-loop
 unfolding exchanged
-loop-holds c = (omega arith, refl, refl, refl, refl, refl, refl)
+loop-holds c =
+    let s = c .before .before .before .before .before .before in
+    let v = s .args in (
+      omega arith,
+      course-first (v .boxes .one) (v .number) (v .t1 .now) (v .w1 .now) (s .pre .0 .0),
+      course-first (v .boxes .two) (v .number) (v .t2 .now) (v .w2 .now) (s .pre .1 .0 .0),
+      refl,
+      refl,
+      refl,
+      refl,
+    )
 
 add-round : tie.Need-add-round Inv-loop μ-loop
 add-round c = search needs
@@ -69,10 +100,8 @@ add-round c = search needs
 round-requires : tie.Need-round-requires Inv-loop μ-loop
 round-requires c κs =
     let l = c .before .before .before .before .before in
-    let p = start l .pre .0 in
-    let q = start l .pre .1 in
-    let h = room l (l .loop .heard + 1) in
-    ((p .0, p .1, p .2, h .work1, h .out1), (q .0, q .1, q .2, h .work2, h .out2))
+    let f = fits l (l .loop .heard + 1) in
+    ((l .loop .inv .1 .due, f .out1), ((l .loop .inv .2 .due, f .out2), f .width))
 
 add-heard : tie.Need-add-heard Inv-loop μ-loop
 add-heard c = search needs
@@ -82,16 +111,16 @@ loop-less c = search needs
 
 loop-again : tie.Need-loop-again Inv-loop μ-loop
 loop-again c =
-    let r = c .before .before .before .before .before .before .before .before in
+    let r = c .before .before .before .before .before .before .before .before .before .before .before .before in
     let l = r .before .before .before .before .before .before in
+    let less = r .before .before .before .before .before .loop-test .taken in
     let s = start l in
     let inv = l .loop .inv in
-    let after1 = r .round .ensures .0 .1 in
-    let after2 = r .round .ensures .1 .0 .1 in
-    let kept = r .round .kept .1 .1 .1 .1 .1 .1 in (
-      omega arith,
-      more-own (one s) (two s) (held s) (l .loop .heard) (l .loop .w1) (l .loop .w2) _ (inv .1) (inv .2) after1,
-      more-others (one s) (two s) (held s) (l .loop .heard) (l .loop .w1) (l .loop .w2) _ (inv .1) (inv .2) after2,
+    let k = l .loop .heard in
+    let kept = r .round .kept .1 .1 .1 .1 .1 in (
+      omega (arith, less),
+      course-next (inv .1) _ _ (course-sends (inv .2) (k + 1)) (r .round .result .one) _ less (r .round .ensures .0 .1) _ (more-own (one s) (two s) (first s) k),
+      course-next (inv .2) _ _ (course-sends (inv .1) (k + 1)) (r .round .result .two) _ less (r .round .ensures .1 .1) _ (more-others (one s) (two s) (first s) k),
       omega (arith, kept .0, inv .3),
       omega (arith, kept .1 .0, inv .4),
       omega (arith, kept .1 .1 .0, inv .5),
@@ -100,11 +129,9 @@ loop-again c =
 
 round-requires-2 : tie.Need-round-requires-2 Inv-loop μ-loop
 round-requires-2 c κs =
-    let l = c .before .before .before .before .before in
-    let p = start l .pre .0 in
-    let q = start l .pre .1 in
-    let h = room l 6 in
-    ((p .0, p .1, p .2, h .work1, h .out1), (q .0, q .1, q .2, h .work2, h .out2))
+    let a = c .before .before .before .before in
+    let f = fits (a .before) 6 in
+    ((ended1 a .due, f .out1), ((ended2 a .due, f .out2), f .width))
 
 same-length : tie.Need-same-length Inv-loop μ-loop
 same-length c = search needs
@@ -121,17 +148,10 @@ same-length-4 c = search needs
 returns : tie.Need-returns Inv-loop μ-loop
 returns c =
     let r = c .before .before .before .before .before .before .before .before in
-    let l = r .before .before .before .before .before .before in
-    let s = start l in
-    let inv = l .loop .inv in
-    let five : l .loop .heard ≡ 5 = omega (arith, r .before .before .before .before .before, inv .0) in
-    let own : l .loop .w1 ≡ exchanged (one s) (two s) (held s) 5 .own = inv .1 ∙ ap (λ (k : ℕ). exchanged (one s) (two s) (held s) k .own) five in
-    let others : l .loop .w2 ≡ exchanged (one s) (two s) (held s) 5 .others = inv .2 ∙ ap (λ (k : ℕ). exchanged (one s) (two s) (held s) k .others) five in (
-      last-own (one s) (two s) (held s) (l .loop .w1) (l .loop .w2) _ own others (r .round2 .ensures .0 .2),
-      (
-        last-others (one s) (two s) (held s) (l .loop .w1) (l .loop .w2) _ own others (r .round2 .ensures .1 .0 .2),
-        r .round2 .ensures .1 .1,
-      ),
+    let a = r .before .before .before .before .before in
+    let s = start (a .before) in (
+      course-last (ended1 a) _ _ (course-sends (ended2 a) 6) (r .round2 .result .one) _ refl (r .round2 .ensures .0 .1) ∙ ap share (sym (last-own (one s) (two s) (first s))),
+      course-last (ended2 a) _ _ (course-sends (ended1 a) 6) (r .round2 .result .two) _ refl (r .round2 .ensures .1 .1) ∙ ap share (sym (last-others (one s) (two s) (first s))),
     )
 
 pub answers-spec : {M : Type 1} → statement M

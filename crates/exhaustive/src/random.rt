@@ -1,12 +1,10 @@
 // A small dealing unit: pairs of tapes by the rules of document 01, from a 32-bit xorshift generator.
 ghost use mathlib.Core.Path.{_≡_};
 ghost use mathlib.Core.Bool.{true};
-ghost use Prim.Native.Nat.{ℕ, _+_, _-_, _<_, _≤_};
+ghost use Prim.Native.Nat.{ℕ, _+_, _<_, _≤_};
 ghost use lib.ListN.{length, getD};
-ghost use lib.Seq.{sets};
 ghost use Rattle.field.specs.Width.{listed, modulus};
-ghost use Rattle.tape.specs.Layout.{tapeLength, bodyLength, sectionStart, sectionLength, trailer as tailOf};
-ghost use Rattle.lists.specs.Tabulate.{tabulate};
+ghost use Rattle.tape.specs.Layout.{tapeLength, bodyLength, trailer as tailOf};
 
 pub const PAIR: u32 = 7;
 
@@ -122,28 +120,6 @@ fn powers(n: u32, seed: u32, start: usize, end: usize, t1: &[u32], t2: &mut [u32
     v
 }
 
-// The seven words after the body.
-fn trailer(n: u32, side: u32, tape: &mut [u32])
-    requires { ⌜ (listed n ≡ true) × (tapeLength n ≤ length (now tape)) ⌝ }
-    ensures { λ _. ⌜ now (tape .exit) ≡ sets (now (tape .entry)) (bodyLength n) (tailOf n 7 side 0) ⌝ }
-{
-    let words = [
-        9 * (n * n) + 12 * n + 24,
-        3 * (n * n) + 12 * n + 24,
-        9 * n + 24,
-        PAIR,
-        side,
-        NUMBER,
-        n,
-    ];
-    let body = tape::tape_words(n) - 7;
-    let mut k = 0;
-    while k < 7 {
-        tape[body + k] = words[k];
-        k += 1;
-    }
-}
-
 // A tape of random words, and its trailer.
 fn random_tape(n: u32, side: u32, seed: u32, tape: &mut [u32]) -> u32
     requires { ⌜ (listed n ≡ true) × (tapeLength n ≤ length (now tape)) ⌝ }
@@ -151,7 +127,7 @@ fn random_tape(n: u32, side: u32, seed: u32, tape: &mut [u32]) -> u32
         × ((k : ℕ) → k < 7 → getD (now (tape .exit)) (bodyLength n + k) 0 ≡ getD (tailOf n 7 side 0) k 0) ⌝ }
 {
     let v = scatter(n, seed, &mut *tape);
-    trailer(n, side, tape);
+    dealer::trailer(n, PAIR, side, NUMBER, tape);
     v
 }
 
@@ -170,39 +146,4 @@ pub fn deal(n: u32, seed: u32, t1: &mut [u32], t2: &mut [u32]) -> u32
     squares(n, 0, a, &*t1, &mut *t2);
     triples(n, b, c, &*t1, &mut *t2);
     powers(n, v2, a, b, &*t1, t2)
-}
-
-// One word in every place from one to another.
-fn put(start: usize, end: usize, word: u32, tape: &mut [u32])
-    requires { ⌜ (start ≤ end) × (end ≤ length (now tape)) ⌝ }
-    ensures { λ _. ⌜ now (tape .exit) ≡ sets (now (tape .entry)) start (tabulate (end - start) (λ k. word)) ⌝ }
-{
-    let mut at = start;
-    while at < end {
-        tape[at] = word;
-        at += 1;
-    }
-}
-
-// A tape of zeros, and its trailer.
-fn zero_tape(n: u32, side: u32, tape: &mut [u32])
-    requires { ⌜ (listed n ≡ true) × (tapeLength n ≤ length (now tape)) ⌝ }
-    ensures { λ _. ⌜ now (tape .exit) ≡ sets (sets (now (tape .entry)) 0 (tabulate (tapeLength n) (λ k. 0))) (bodyLength n) (tailOf n 7 side 0) ⌝ }
-{
-    put(0, tape::tape_words(n), 0, &mut *tape);
-    trailer(n, side, tape);
-}
-
-// The plain tapes: box 1's power words are 1, all other body words 0.
-pub fn plain(n: u32, t1: &mut [u32], t2: &mut [u32])
-    requires { ⌜ (listed n ≡ true) × (tapeLength n ≤ length (now t1)) × (tapeLength n ≤ length (now t2)) ⌝ }
-    ensures { λ _. ⌜ (now (t1 .exit) ≡ sets (sets (sets (now (t1 .entry)) 0 (tabulate (tapeLength n) (λ k. 0))) (bodyLength n) (tailOf n 7 1 0))
-        (sectionStart n 1) (tabulate (sectionLength n 1) (λ k. 1)))
-        × (now (t2 .exit) ≡ sets (sets (now (t2 .entry)) 0 (tabulate (tapeLength n) (λ k. 0))) (bodyLength n) (tailOf n 7 2 0)) ⌝ }
-{
-    let a = tape::section_words(n, tape::SQUARES);
-    let b = a + tape::section_words(n, tape::POWERS);
-    zero_tape(n, 2, t2);
-    zero_tape(n, 1, &mut *t1);
-    put(a, b, 1, t1);
 }

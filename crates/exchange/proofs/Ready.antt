@@ -1,0 +1,126 @@
+-- A box that is ready for a round: neither its speak nor its hear is refused, and after them it is ready for the next.
+use Prim.Native.Nat.{ℕ, _+_, _<_, _≤_}
+use mathlib.Core.Path.{_≡_, refl, ap, subst, _∙_}
+use mathlib.Core.Bool.{Bool, true, _&&_}
+use mathlib.Core.List.{List}
+use native.Mathlib.Omega.{arith}
+use borrow.Author.Tests.{eq-eqb, ne-eqb, le-leb}
+use lib.Dec.{ltb}
+use lib.ListN.{length}
+use lib.Seq.{sets}
+use Rattle.lists.proofs.Tests.{and-left, and-right}
+use Rattle.field.specs.Width.{modulus}
+use Rattle.protocol.specs.Work.{workLength}
+use Rattle.protocol.specs.Rounds.{roundWords, message, afterHearing, answerShare}
+use Rattle.protocol.proofs.Lengths.{after-length}
+use Rattle.rules.specs.Answers.{spoke, share, replyOf}
+use Rattle.rules.specs.Tally.{tapesOf}
+use Rattle.rules.specs.Modes.{roundOf, roundFits, phaseFits, sameTurn}
+use Rattle.rules.specs.Grounds.{firstOf, wordsFit, turnGrounds, speakGround, hearGround}
+use Rattle.rules.specs.Calls.{Result, outcome, inPhase, xOf, yOf, partyOf, turned, speakRule, hearRule}
+use Rattle.rules.proofs.Passed.{ranged, range-mode}
+use Rattle.rules.specs.declared.state.Turn.{Turn}
+use Rattle.rules.specs.declared.state.Turn.the-variants.{Speak, Hear}
+use Rattle.rules.specs.declared.state.Phase.{Phase}
+use Rattle.rules.specs.declared.state.State.{State}
+use Rattle.rules.specs.declared.state.Outcome.{Outcome}
+use Rattle.exchange.specs.Boxes.{Ready, heardAfter}
+use Rattle.exchange.proofs.Turned.{turned-x, turned-y, turned-twice, same-party, turned-ranged}
+
+-- ---- a box with a turn due
+
+second-test : (a b c d : Bool) → a && b && c && d ≡ true → b ≡ true
+second-test a b c d e = and-right a b (and-left (a && b) c (and-left (a && b && c) d e))
+
+module _ {s : State} {number : ℕ} {turn : Turn} {tape work : List ℕ} (r : Ready s number turn tape work) where
+  -- its turn is of one of the six rounds
+  ready-round : roundFits (roundOf turn) ≡ true
+  ready-round =
+      let x-fits = ltb (xOf (s .phase)) (modulus (s .n)) in
+      let y-fits = ltb (yOf (s .phase)) (modulus (s .n)) in
+      let all = subst (λ (p : Phase). phaseFits (s .n) (s .tally) p ≡ true) (r .job) (ranged s (r .ranged) .phased) in
+      second-test (ltb number (tapesOf (s .tally))) (roundFits (roundOf turn)) x-fits y-fits all
+
+  -- with another turn it is ready for that one
+  ready-turned : (next : Turn) (work′ : List ℕ) → roundFits (roundOf next) ≡ true → workLength (s .n) ≤ length work′
+      → Ready (inPhase s (turned (s .phase) next)) number next tape work′
+  ready-turned next work′ fits room =
+      record {
+        ranged = turned-ranged s next fits (r .ranged);
+        job = rw (r .job) refl;
+        ordered = r .ordered;
+        room = room;
+      }
+
+-- ---- the call of that turn is not refused
+
+same-turn : (turn : Turn) → sameTurn turn turn ≡ true
+same-turn (Speak round) = eq-eqb round round refl
+same-turn (Hear round) = eq-eqb round round refl
+
+module _ (s : State) (number : ℕ) (tape work : List ℕ) where
+  -- none of the grounds that a speak and a hear have in common holds
+  turn-goes : (turn : Turn) → Ready s number turn tape work → firstOf (turnGrounds s number turn tape) ≡ 0
+  turn-goes turn r = rw (range-mode s (r .ranged), r .job, eq-eqb number number refl, same-turn turn, r .ordered)
+
+  speak-goes : (round : ℕ) (out : List ℕ) → Ready s number (Speak round) tape work → roundWords (s .n) round ≤ length out
+      → speakGround s number round tape work out ≡ 0
+  unfolding speakGround
+  speak-goes round out r room =
+      rw (le-leb (workLength (s .n)) (length work) (r .room), le-leb (roundWords (s .n) round) (length out) room) (turn-goes (Speak round) r)
+
+  hear-goes : (round : ℕ) (words : List ℕ) → Ready s number (Hear round) tape work → length words ≡ roundWords (s .n) round
+      → wordsFit (s .n) words ≡ true → hearGround s number round tape work words ≡ 0
+  unfolding hearGround
+  hear-goes round words r long fits =
+      rw (le-leb (workLength (s .n)) (length work) (r .room), eq-eqb (length words) (roundWords (s .n) round) long, fits) (turn-goes (Hear round) r)
+
+-- ---- a round of a box that is ready for it
+
+-- the box after it: ready for the next round, the same party, its work as the protocol has it
+pub record Next (s : State) (number round : ℕ) (tape work words : List ℕ) (s′ : State) (work′ : List ℕ) : Type 0 where
+  pub ready : Ready s′ number (Speak (round + 1)) tape work′
+  pub same : partyOf s′ tape ≡ partyOf s tape
+  pub after : work′ ≡ afterHearing (partyOf s tape) work round words
+
+next-fits : (k : ℕ) → k < 6 → roundFits (k + 1) ≡ true
+next-fits k less = rw (le-leb 1 (k + 1) (omega arith), le-leb (k + 1) 6 (omega arith))
+
+module _ (s : State) (number round : ℕ) (tape work : List ℕ) (r : Ready s number (Speak round) tape work) where
+  pub speak-ready : (out : List ℕ) → roundWords (s .n) round ≤ length out
+      → speakRule s number round tape work out
+      ≡ record {
+        reply = spoke (roundWords (s .n) round);
+        state = inPhase s (turned (s .phase) (Hear round));
+        buffer = sets out 0 (message (partyOf s tape) work round);
+      }
+  unfolding speakRule
+  speak-ready out room = rw (speak-goes s number tape work round out r room)
+
+  pub hear-ready : (words : List ℕ) → length words ≡ roundWords (s .n) round → wordsFit (s .n) words ≡ true
+      → hearRule (inPhase s (turned (s .phase) (Hear round))) number round tape work words ≡ heardAfter s tape work round words
+  unfolding hearRule heardAfter
+  hear-ready words long fits =
+      let due = inPhase s (turned (s .phase) (Hear round)) in
+      let goes = hear-goes due number tape work round words (ready-turned r (Hear round) work (ready-round r) (r .room)) long fits in
+      rw (goes, turned-twice (s .phase) (Hear round) (Speak (round + 1)), turned-x (s .phase) (Hear round), turned-y (s .phase) (Hear round))
+
+  module _ (words : List ℕ) (a : Outcome) (work′ : List ℕ) where
+    -- such a hear gave the answer share, if the round was the last
+    pub heard-last : round ≡ 6 → outcome a work′ ≡ heardAfter s tape work round words → replyOf (a .answer) ≡ share (answerShare (partyOf s tape) work words)
+    unfolding heardAfter
+    heard-last six e = ap (λ (q : Result). q .reply) e ∙ rw six
+
+    -- and before the last the box is ready for the next
+    pub heard-next : round < 6 → outcome a work′ ≡ heardAfter s tape work round words → Next s number round tape work words (a .state) work′
+    unfolding heardAfter
+    heard-next more e =
+        let other = ne-eqb round 6 (λ six. omega (arith, six, more)) in
+        let state : a .state ≡ inPhase s (turned (s .phase) (Speak (round + 1))) = ap (λ (q : Result). q .state) e ∙ rw other in
+        let after : work′ ≡ afterHearing (partyOf s tape) work round words = ap (λ (q : Result). q .buffer) e ∙ rw other in
+        let room : workLength (s .n) ≤ length work′ = omega (arith, ap length after, after-length (partyOf s tape) work words round, r .room) in
+        record {
+          ready = rw state (ready-turned r (Speak (round + 1)) work′ (next-fits round more) room);
+          same = rw state (same-party s (Speak (round + 1)) tape);
+          after = after;
+        }

@@ -1,0 +1,46 @@
+-- On a pair of tapes dealt by the rules the opened answer is right.
+use Prim.Native.Nat.{ℕ, _+_, _%_, _<_, _≤_}
+use mathlib.Core.List.{List}
+use mathlib.Core.Path.{_≡_, ap, _∙_}
+use native.Mathlib.Nat.{mod-eq-of-lt}
+use native.Mathlib.Omega.{arith}
+use lib.Dec.{ltb}
+use lib.ListN.{length}
+use Rattle.field.specs.Width.{modulus}
+use Rattle.field.proofs.Widths.{bounds}
+use Rattle.shares.specs.Side.{other}
+use Rattle.tape.specs.Dealt.{Dealt}
+use Rattle.tape.proofs.Dealing.{own-readable}
+use Rattle.encoding.specs.Matching.{indicator}
+use Rattle.protocol.specs.Work.{workLength}
+use Rattle.protocol.specs.Products.{party}
+use Rattle.protocol.specs.Exchange.{answerOwn, answerOthers}
+use Rattle.protocol.proofs.Halves.{indicator-bit}
+use Rattle.protocol.proofs.Right.{right}
+use Rattle.rules.specs.Calls.{partyOf}
+use Rattle.rules.specs.declared.state.State.{State}
+use Rattle.exchange.specs.Boxes.{works, answerOne, answerTwo}
+use Rattle.exchange.proofs.Begun.{Begun}
+
+pub dealt-right : (n pair number x1 y1 x2 y2 : ℕ) (t1 t2 w1 w2 : List ℕ) → Dealt n pair number t1 t2
+    → y1 < modulus n → y2 < modulus n → workLength n ≤ length w1 → workLength n ≤ length w2
+    → let b = party n 1 x1 y1 t1 in
+    let c = party n 2 x2 y2 t2 in
+    (answerOwn b c (works w1 w2) + answerOthers b c (works w1 w2)) % modulus n
+    ≡ indicator (ltb ((x1 + x2) % modulus n) ((y1 + y2) % modulus n))
+unfolding other
+dealt-right n pair number x1 y1 x2 y2 t1 t2 w1 w2 m ly1 ly2 room1 room2 =
+    let t = ltb ((x1 + x2) % modulus n) ((y1 + y2) % modulus n) in
+    right m x1 y1 x2 y2 ly1 ly2 (works w1 w2) room1 room2 .same
+    ∙ mod-eq-of-lt (omega (arith, indicator-bit t, bounds (own-readable m .width)))
+
+-- of two boxes that came to the job
+pub begun-right : {n pair number x1 y1 x2 y2 : ℕ} {t1 t2 w1 w2 k1 k2 : List ℕ} {s1 s2 : State}
+    → Begun n 1 pair number x1 y1 t1 w1 k1 s1 → Begun n 2 pair number x2 y2 t2 w2 k2 s2 → Dealt n pair number t1 t2
+    → (answerOne s1 s2 t1 t2 w1 w2 + answerTwo s1 s2 t1 t2 w1 w2) % modulus n ≡ indicator (ltb ((x1 + x2) % modulus n) ((y1 + y2) % modulus n))
+begun-right {n} {pair} {number} {x1} {y1} {x2} {y2} {t1} {t2} {w1} {w2} {k1} {k2} {s1} {s2} b1 b2 m =
+    let room1 = rw (b1 .state) at (b1 .ready .room) in
+    let room2 = rw (b2 .state) at (b2 .ready .room) in
+    let party1 : partyOf s1 t1 ≡ party n 1 x1 y1 t1 = ap (λ (s : State). partyOf s t1) (b1 .state) in
+    let party2 : partyOf s2 t2 ≡ party n 2 x2 y2 t2 = ap (λ (s : State). partyOf s t2) (b2 .state) in
+    rw (party1, party2) (dealt-right n pair number x1 y1 x2 y2 t1 t2 w1 w2 m (b1 .y-fits) (b2 .y-fits) room1 room2)

@@ -1,0 +1,2 @@
+mod Joins
+mod Openings

@@ -1,0 +1,39 @@
+// Document 01's plainrun, from a text to what it prints.
+use exchange::Shares;
+ghost use mathlib.Core.Path.{_≡_};
+ghost use Prim.Native.Nat.{_≤_};
+ghost use lib.ListN.{length, take};
+ghost use Rattle.plain.specs.Printed.{printed};
+
+mod job;
+mod text;
+
+// The text's first line is n x1 x2 y1 y2. Its answer stands at the front of out.
+pub fn answer(text: &[u8], out: &mut [u8]) -> usize
+    requires { ⌜ 89 ≤ length (now out) ⌝ }
+    ensures { λ r. ⌜ take r (now (out .exit)) ≡ printed (now (text .entry)) ⌝ }
+    ensures most { λ r. ⌜ r ≤ 89 ⌝ }
+{
+    let five = lines::reading::five_of(text);
+    if !five.ok {
+        return text::put_refused(0, out);
+    }
+    let numbers = five.numbers;
+    let n = numbers[0];
+    if 13 < n {
+        return text::put_refused(2, out);
+    }
+    let one = Shares {
+        x: numbers[1],
+        y: numbers[3],
+    };
+    let two = Shares {
+        x: numbers[2],
+        y: numbers[4],
+    };
+    let verdict = job::verdict(n, one, two);
+    if verdict.refusal != 0 {
+        return text::put_refused(verdict.refusal, out);
+    }
+    text::put_answer(n, verdict.less, out)
+}

@@ -1,0 +1,47 @@
+// The lines that plainrun prints, put at the front of a lent slice. Each function answers how long its text is.
+ghost use mathlib.Core.Path.{_≡_};
+ghost use mathlib.Core.Bool.{true};
+ghost use Prim.Native.Nat.{_+_, _*_, _≤_};
+ghost use lib.ListN.{length};
+ghost use lib.Seq.{sets};
+ghost use Rattle.field.specs.Width.{listed};
+ghost use Rattle.plain.specs.Printed.{refusedText, counts, answerText};
+
+pub fn put_refused(number: u32, out: &mut [u8]) -> usize
+    requires { ⌜ 19 ≤ length (now out) ⌝ }
+    ensures { λ r. ⌜ (now (out .exit) ≡ sets (now (out .entry)) 0 (refusedText number)) × (r ≡ length (refusedText number)) ⌝ }
+    ensures most { λ r. ⌜ r ≤ 19 ⌝ }
+{
+    let name = lines::writing::put_bytes(&mut *out, 0, b"refused ");
+    let at = lines::writing::put_decimal(&mut *out, name, number);
+    lines::writing::put_bytes(out, at, b"\n")
+}
+
+// A space and the words of a round, for each of the six.
+fn put_counts(n: u32, out: &mut [u8], from: usize) -> usize
+    requires { ⌜ (listed n ≡ true) × (from + 66 ≤ length (now out)) ⌝ }
+    ensures { λ r. ⌜ (now (out .exit) ≡ sets (now (out .entry)) from (counts n 6)) × (r ≡ from + length (counts n 6)) ⌝ }
+    ensures most { λ r. ⌜ r ≤ from + 66 ⌝ }
+{
+    let mut at = from;
+    let mut round: u32 = 0;
+    while round < 6 {
+        let space = lines::writing::put_bytes(&mut *out, at, b" ");
+        let words = compare::words::words_of(n, round + 1) as u32;
+        at = lines::writing::put_decimal(&mut *out, space, words);
+        round += 1;
+    }
+    at
+}
+
+pub fn put_answer(n: u32, less: u32, out: &mut [u8]) -> usize
+    requires { ⌜ (listed n ≡ true) × (89 ≤ length (now out)) ⌝ }
+    ensures { λ r. ⌜ (now (out .exit) ≡ sets (now (out .entry)) 0 (answerText n less)) × (r ≡ length (answerText n less)) ⌝ }
+    ensures most { λ r. ⌜ r ≤ 89 ⌝ }
+{
+    let name = lines::writing::put_bytes(&mut *out, 0, b"rounds");
+    let counts = put_counts(n, &mut *out, name);
+    let less_name = lines::writing::put_bytes(&mut *out, counts, b"\nless ");
+    let at = lines::writing::put_decimal(&mut *out, less_name, less);
+    lines::writing::put_bytes(out, at, b"\n")
+}
