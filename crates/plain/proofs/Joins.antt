@@ -1,5 +1,5 @@
 -- Text put after text: the runs and the places.
-use Prim.Native.Nat.{ℕ, suc, _+_}
+use Prim.Native.Nat.{ℕ, _+_}
 use mathlib.Core.Path.{_≡_, sym, ap, ap₂, _∙_}
 use mathlib.Core.List.{List, _∷_, [], _++_}
 use native.Mathlib.Numerals.{add-one}

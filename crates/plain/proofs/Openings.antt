@@ -7,11 +7,11 @@ use native.Mathlib.Omega.{arith}
 use borrow.Author.Tests.{le-leb}
 use lib.Dec.{eqb, leb, ltb}
 use lib.ListN.{length, replicate}
+use Rattle.lists.proofs.Tests.{and-right}
 use Rattle.field.specs.Width.{listed, modulus}
 use Rattle.shares.specs.Side.{isSide}
 use Rattle.tape.specs.Order.{inOrder}
 use Rattle.tape.specs.Plain.{plainTape}
-use Rattle.tape.specs.Dealt.{Dealt}
 use Rattle.tape.proofs.Plains.{plain-dealt}
 use Rattle.shares.specs.Side.{other}
 use Rattle.protocol.specs.Work.{workLength}
@@ -79,27 +79,41 @@ joined true true c = refl
 joined true false c = refl
 joined false b c = refl
 
-module _ (n x1 y1 x2 y2 : ℕ) (most : n ≤ 13) where
-  abbrev room : List ℕ
-  room = replicate 220 0
-
-  enough-room : workLength n ≤ length room
-  enough-room = omega arith
-
+module _ (n x1 y1 x2 y2 : ℕ) (most : n ≤ 13) (w1 w2 : List ℕ) where
   pub width-refused : (t1 t2 : List ℕ) → listed n ≡ false
-      → openingRefusal n 1 0 x1 y1 x2 y2 t1 t2 room room oneFresh oneFresh ≡ plainRefusal n x1 x2 y1 y2
+      → openingRefusal n 1 0 x1 y1 x2 y2 t1 t2 w1 w2 oneFresh oneFresh ≡ plainRefusal n x1 x2 y1 y2
   unfolding openingRefusal plainRefusal
-  width-refused t1 t2 e = rw (unlisted n 1 x1 y1 t1 room e, e, le-leb n 13 most) refl
+  width-refused t1 t2 e = rw (unlisted n 1 x1 y1 t1 w1 e, e, le-leb n 13 most) refl
 
-  pub shares-refused : listed n ≡ true
-      → openingRefusal n 1 0 x1 y1 x2 y2 (plainTape n 1 1 0) (plainTape n 1 2 0) room room oneFresh oneFresh ≡ plainRefusal n x1 x2 y1 y2
+  pub shares-refused : listed n ≡ true → workLength n ≤ length w1 → workLength n ≤ length w2
+      → openingRefusal n 1 0 x1 y1 x2 y2 (plainTape n 1 1 0) (plainTape n 1 2 0) w1 w2 oneFresh oneFresh ≡ plainRefusal n x1 x2 y1 y2
   unfolding openingRefusal plainRefusal isSide other
-  shares-refused e =
+  shares-refused e room1 room2 =
       let dealt = plain-dealt n 1 0 e in
       rw (
-        shares-decide n 1 x1 y1 (plainTape n 1 1 0) room e refl (dealt .own-order) enough-room,
-        shares-decide n 2 x2 y2 (plainTape n 1 2 0) room e refl (dealt .others-order) enough-room,
+        shares-decide n 1 x1 y1 (plainTape n 1 1 0) w1 e refl (dealt .own-order) room1,
+        shares-decide n 2 x2 y2 (plainTape n 1 2 0) w2 e refl (dealt .others-order) room2,
         e,
         le-leb n 13 most,
       )
       (joined (ltb x1 (modulus n) && ltb y1 (modulus n)) (ltb x2 (modulus n)) (ltb y2 (modulus n)))
+
+  -- whatever the width
+  pub first-refusal : (t1 t2 : List ℕ) → (listed n ≡ true → (t1 ≡ plainTape n 1 1 0) × (t2 ≡ plainTape n 1 2 0))
+      → workLength n ≤ length w1 → workLength n ≤ length w2
+      → openingRefusal n 1 0 x1 y1 x2 y2 t1 t2 w1 w2 oneFresh oneFresh ≡ plainRefusal n x1 x2 y1 y2
+  first-refusal t1 t2 plain room1 room2 = go (listed n) refl
+    where
+      go : (t : Bool) → listed n ≡ t → openingRefusal n 1 0 x1 y1 x2 y2 t1 t2 w1 w2 oneFresh oneFresh ≡ plainRefusal n x1 x2 y1 y2
+      go true e =
+          ap₂ (λ (a b : List ℕ). openingRefusal n 1 0 x1 y1 x2 y2 a b w1 w2 oneFresh oneFresh) (plain e .0) (plain e .1) ∙ shares-refused e room1 room2
+      go false e = width-refused t1 t2 e
+
+-- a job that was not refused has a listed width
+pub taken-width : (n x1 x2 y1 y2 : ℕ) → plainRefusal n x1 x2 y1 y2 ≡ 0 → listed n ≡ true
+unfolding plainRefusal
+taken-width n x1 x2 y1 y2 e = and-right (leb n 13) (listed n) (go (leb n 13 && listed n) _ e)
+  where
+    go : (t : Bool) (k : ℕ) → cond t k 2 ≡ 0 → t ≡ true
+    go true k h = refl
+    go false k h = absurd (omega (arith, h))

@@ -3,9 +3,11 @@ use exchange::Shares;
 use exchange::Verdict;
 ghost use mathlib.Core.Path.{_≡_};
 ghost use Prim.Native.Nat.{_≤_};
-ghost use lib.ListN.{replicate};
-ghost use Rattle.tape.specs.Dealt.{Dealt};
-ghost use Rattle.exchange.specs.Opening.{openingRefusal};
+ghost use mathlib.Core.Bool.{true};
+ghost use lib.ListN.{length};
+ghost use Rattle.field.specs.Width.{listed};
+ghost use Rattle.tape.specs.Layout.{tapeLength};
+ghost use Rattle.tape.specs.Plain.{plainTape};
 ghost use Rattle.plain.specs.Printed.{plainRefusal, plainLess};
 
 const PAIR: u32 = 1;
@@ -14,12 +16,9 @@ const NUMBER: u32 = 0;
 
 // Each box has one fresh tape, and room for any width to 13.
 fn on_tapes(n: u32, one: Shares, two: Shares, t1: &[u32], t2: &[u32]) -> Verdict
-    requires { ⌜ n ≤ 13 ⌝ }
-    ensures refused { λ r. ⌜ r .refusal
-        ≡ openingRefusal n 1 0 (one .x) (one .y) (two .x) (two .y) (now (t1 .entry)) (now (t2 .entry))
-        (replicate 220 0) (replicate 220 0) (replicate 1 255) (replicate 1 255) ⌝ }
-    ensures right { λ r. ⌜ (r .refusal ≡ 0 → Dealt n 1 0 (now (t1 .entry)) (now (t2 .entry))
-        → r .less ≡ plainLess n (one .x) (two .x) (one .y) (two .y)) ⌝ }
+    requires { ⌜ (n ≤ 13) × (listed n ≡ true → (now t1 ≡ plainTape n 1 1 0) × (now t2 ≡ plainTape n 1 2 0)) ⌝ }
+    ensures refused { λ r. ⌜ r .refusal ≡ plainRefusal n (one .x) (two .x) (one .y) (two .y) ⌝ }
+    ensures right { λ r. ⌜ (r .refusal ≡ 0 → r .less ≡ plainLess n (one .x) (two .x) (one .y) (two .y)) ⌝ }
 {
     let mut w1 = [0u32; 220];
     let mut w2 = [0u32; 220];
@@ -44,19 +43,35 @@ fn on_tapes(n: u32, one: Shares, two: Shares, t1: &[u32], t2: &[u32]) -> Verdict
     )
 }
 
+// Zeros for the longest tape.
+fn blank() -> [u32; 1708]
+    ensures { λ r. ⌜ length r ≡ 1708 ⌝ }
+{
+    [0; 1708]
+}
+
+// On plain tapes of a listed width.
+fn dealt(n: u32, one: Shares, two: Shares, t1: &mut [u32], t2: &mut [u32]) -> Verdict
+    requires { ⌜ (n ≤ 13) × (listed n ≡ true) × (length (now t1) ≡ tapeLength n) × (length (now t2) ≡ tapeLength n) ⌝ }
+    ensures refused { λ r. ⌜ r .refusal ≡ plainRefusal n (one .x) (two .x) (one .y) (two .y) ⌝ }
+    ensures right { λ r. ⌜ (r .refusal ≡ 0 → r .less ≡ plainLess n (one .x) (two .x) (one .y) (two .y)) ⌝ }
+{
+    dealer::plain(n, PAIR, 1, NUMBER, &mut *t1);
+    dealer::plain(n, PAIR, 2, NUMBER, &mut *t2);
+    on_tapes(n, one, two, &*t1, &*t2)
+}
+
 // No tape is dealt for a width that is not listed: the boxes refuse it when they wake.
 pub fn verdict(n: u32, one: Shares, two: Shares) -> Verdict
     requires { ⌜ n ≤ 13 ⌝ }
     ensures refused { λ r. ⌜ r .refusal ≡ plainRefusal n (one .x) (two .x) (one .y) (two .y) ⌝ }
     ensures right { λ r. ⌜ (r .refusal ≡ 0 → r .less ≡ plainLess n (one .x) (two .x) (one .y) (two .y)) ⌝ }
 {
-    let mut t1 = [0u32; 1708];
-    let mut t2 = [0u32; 1708];
+    let mut t1 = blank();
+    let mut t2 = blank();
     if !field::is_listed(n) {
         return on_tapes(n, one, two, &t1, &t2);
     }
     let len = tape::tape_words(n);
-    dealer::plain(n, PAIR, 1, NUMBER, &mut t1[..len]);
-    dealer::plain(n, PAIR, 2, NUMBER, &mut t2[..len]);
-    on_tapes(n, one, two, &t1[..len], &t2[..len])
+    dealt(n, one, two, &mut t1[..len], &mut t2[..len])
 }

@@ -1,89 +1,87 @@
+-- `plain::job::verdict` meets its contract: a tape of a width to 13 has room.
+use Prim.Native.Nat.{_≤_}
+use mathlib.Core.Path.{_≡_, sym, _∙_}
+use mathlib.Core.Bool.{true, true≢false}
+use native.Mathlib.Nat.{mul-le-mul}
+use native.Mathlib.Omega.{arith}
+use borrow.Author.Tests.{not-true, not-false}
+use lib.ListN.{length, take}
+use lib.Seq.{length-take-le}
+use Rattle.field.specs.Width.{listed}
 use borrow.Author.Needs.{needs}
 use Rattle.plain.proofs.job.verdict.Statement.{statement}
 use Rattle.plain.proofs.job.verdict.Tie as tie
-use Rattle.plain.proofs.job.verdict.Reads as reads
-use Rattle.plain.proofs.job.verdict.Lts as lts
-use Rattle.dealer.proofs.plain.Reads as plain-reads
-use Rattle.field.proofs.is_listed.Reads as is-listed-reads
-use Rattle.plain.proofs.job.on_tapes.Reads as on-tapes-reads
-use Rattle.tape.proofs.tape_words.Reads as tape-words-reads
 
--- src/job.rt:55:9
+abbrev start : tie.After-is-listed → tie.Start
+start c = c .before .before .before
+
+width : (c : tie.Else1) → listed (start (c .before) .args .n) ≡ true
+width c = sym (c .before .is-listed .ensures) ∙ not-false _ (c .if1 .left)
+
+fits : (c : tie.After-tape-words) → c .tape-words .result ≤ 1708
+fits c =
+    let n = start (c .before .before) .pre in
+    omega (arith, c .tape-words .ensures, n, mul-le-mul n n)
+
+first : (c : tie.After-tape-words) → let t = c .before .before .before .before .blank .result in length (take (c .tape-words .result) t) ≡ c .tape-words .result
+first c = length-take-le _ _ (omega (arith, fits c, c .before .before .before .before .blank .ensures))
+
+second : (c : tie.After-tape-words) → let t = c .before .before .before .blank2 .result in length (take (c .tape-words .result) t) ≡ c .tape-words .result
+second c = length-take-le _ _ (omega (arith, fits c, c .before .before .before .blank2 .ensures))
+
+blank-requires : tie.Need-blank-requires
+blank-requires c κs = search needs
+
+blank-requires-2 : tie.Need-blank-requires-2
+blank-requires-2 c κs = search needs
+
 is-listed-requires : tie.Need-is-listed-requires
 is-listed-requires c κs = search needs
 
--- src/job.rt:56:38
 slice-aggregate-on-tapes : tie.Need-slice-aggregate-on-tapes
 slice-aggregate-on-tapes c = search needs
 
--- src/job.rt:56:43
 slice-aggregate-on-tapes-2 : tie.Need-slice-aggregate-on-tapes-2
 slice-aggregate-on-tapes-2 c = search needs
 
--- src/job.rt:56:9
 on-tapes-requires : tie.Need-on-tapes-requires
-on-tapes-requires c κs = search needs
+on-tapes-requires c κs =
+    let other = c .before .before in
+    let unlisted = sym (other .before .is-listed .ensures) ∙ not-true _ (other .if1 .taken) in
+    (start (c .before .before .before) .pre, λ e. absurd (true≢false (sym e ∙ unlisted)))
 
--- src/job.rt:56:9
 returns : tie.Need-returns
-returns c = ?
+returns c = search needs
 
--- src/job.rt:58:9
 tape-words-requires : tie.Need-tape-words-requires
-tape-words-requires c κs = ?
+tape-words-requires c κs = width c
 
--- src/job.rt:59:39
 array-borrow-prefix-t1 : tie.Need-array-borrow-prefix-t1
-array-borrow-prefix-t1 c = ?
+array-borrow-prefix-t1 c = omega (arith, fits c, c .before .before .before .before .blank .ensures)
 
--- src/job.rt:59:39
-slice-aggregate-plain : tie.Need-slice-aggregate-plain
-slice-aggregate-plain c = ?
+slice-aggregate-dealt : tie.Need-slice-aggregate-dealt
+slice-aggregate-dealt c = sym (first (c .before))
 
--- src/job.rt:59:5
-plain-requires : tie.Need-plain-requires
-plain-requires c κs = ?
-
--- src/job.rt:60:39
 array-borrow-prefix-t2 : tie.Need-array-borrow-prefix-t2
-array-borrow-prefix-t2 c = ?
+array-borrow-prefix-t2 c = let w = c .before in omega (arith, fits w, w .before .before .before .blank2 .ensures)
 
--- src/job.rt:60:39
-slice-aggregate-plain-2 : tie.Need-slice-aggregate-plain-2
-slice-aggregate-plain-2 c = ?
+slice-aggregate-dealt-2 : tie.Need-slice-aggregate-dealt-2
+slice-aggregate-dealt-2 c = sym (second (c .before .before))
 
--- src/job.rt:60:5
-plain-requires-2 : tie.Need-plain-requires-2
-plain-requires-2 c κs = ?
+dealt-requires : tie.Need-dealt-requires
+dealt-requires c κs =
+    let w = c .before .before in
+    (start (w .before .before) .pre, width (w .before), first w ∙ w .tape-words .ensures, second w ∙ w .tape-words .ensures)
 
--- src/job.rt:61:27
-array-share-prefix-t1 : tie.Need-array-share-prefix-t1
-array-share-prefix-t1 c = ?
-
--- src/job.rt:61:27
-slice-aggregate-on-tapes-3 : tie.Need-slice-aggregate-on-tapes-3
-slice-aggregate-on-tapes-3 c = ?
-
--- src/job.rt:61:39
-array-share-prefix-t2 : tie.Need-array-share-prefix-t2
-array-share-prefix-t2 c = ?
-
--- src/job.rt:61:39
-slice-aggregate-on-tapes-4 : tie.Need-slice-aggregate-on-tapes-4
-slice-aggregate-on-tapes-4 c = ?
-
--- src/job.rt:61:5
-on-tapes-requires-2 : tie.Need-on-tapes-requires-2
-on-tapes-requires-2 c κs = search needs
-
--- src/job.rt:48:1
 returns-2 : tie.Need-returns-2
-returns-2 c = ?
+returns-2 c = search needs
 
 pub verdict-spec : {M : Type 1} → statement M
 verdict-spec =
     tie.close
     (tie.spec
+    blank-requires
+    blank-requires-2
     is-listed-requires
     slice-aggregate-on-tapes
     slice-aggregate-on-tapes-2
@@ -91,14 +89,8 @@ verdict-spec =
     returns
     tape-words-requires
     array-borrow-prefix-t1
-    slice-aggregate-plain
-    plain-requires
+    slice-aggregate-dealt
     array-borrow-prefix-t2
-    slice-aggregate-plain-2
-    plain-requires-2
-    array-share-prefix-t1
-    slice-aggregate-on-tapes-3
-    array-share-prefix-t2
-    slice-aggregate-on-tapes-4
-    on-tapes-requires-2
+    slice-aggregate-dealt-2
+    dealt-requires
     returns-2)

@@ -1,17 +1,14 @@
 -- `plain::text::put_answer` meets its contract: five texts one after another.
-use Prim.Native.Nat.{ℕ, _+_, _-_, _*_, _≤_}
-use mathlib.Core.Path.{_≡_, refl, sym, ap, _∙_}
+use Prim.Native.Nat.{ℕ}
+use mathlib.Core.Path.{_∙_}
 use mathlib.Core.List.{List, [], _∷_, _++_}
 use native.Mathlib.Nat.{zero-add}
 use native.Mathlib.Omega.{arith}
 use borrow.Author.Needs.{needs}
 use lib.ListN.{length}
-use lib.Seq.{sets}
-use Rattle.protocol.specs.Rounds.{roundWords}
-use Rattle.protocol.proofs.Lengths.{words-most}
 use Rattle.lines.specs.Writing.{decimal}
-use Rattle.plain.specs.Printed.{counts, refusedText, answerText}
-use Rattle.plain.proofs.Joins.{Put, more, more-counts}
+use Rattle.plain.specs.Printed.{counts, answerText}
+use Rattle.plain.proofs.Joins.{Put, more}
 use Rattle.plain.proofs.text.put_answer.Statement.{statement}
 use Rattle.plain.proofs.text.put_answer.Tie as tie
 

@@ -1,6 +1,6 @@
 -- `plain::text::put_counts` meets its contract: each turn puts a space and a round's count.
 use Prim.Native.Nat.{ℕ, _+_, _-_, _*_, _≤_}
-use mathlib.Core.Path.{_≡_, refl, sym, ap, _∙_}
+use mathlib.Core.Path.{_≡_, refl, ap, _∙_}
 use mathlib.Core.List.{List, [], _∷_, _++_}
 use native.Mathlib.Omega.{arith}
 use borrow.Author.Needs.{needs}
@@ -9,7 +9,7 @@ use lib.Seq.{sets}
 use Rattle.protocol.specs.Rounds.{roundWords}
 use Rattle.protocol.proofs.Lengths.{words-most}
 use Rattle.lines.specs.Writing.{decimal}
-use Rattle.plain.specs.Printed.{counts, refusedText, answerText}
+use Rattle.plain.specs.Printed.{counts}
 use Rattle.plain.proofs.Joins.{Put, more, more-counts}
 use Rattle.plain.proofs.text.put_counts.Statement.{statement}
 use Rattle.plain.proofs.text.put_counts.Tie as tie
