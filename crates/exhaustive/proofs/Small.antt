@@ -8,7 +8,6 @@ use lib.Pow.{pow-mono}
 use Rattle.field.specs.Width.{listed, modulus}
 use Rattle.field.proofs.Widths.{bounds}
 use Rattle.tape.specs.Layout.{tapeLength}
-use Rattle.protocol.specs.Work.{workLength}
 use Rattle.protocol.specs.Rounds.{roundWords}
 
 pub record Small (n p : ℕ) : Type 0 where
@@ -16,7 +15,6 @@ pub record Small (n p : ℕ) : Type 0 where
   pub few : p ≤ 31
   pub pairs : p * p ≤ 961
   pub tape : tapeLength n ≤ 316
-  pub work : workLength n ≤ 124
   pub words : roundWords n 1 ≤ 81
 
 pub small : {n p : ℕ} → listed n ≡ true → n ≤ 5 → p ≡ modulus n → Small n p
@@ -31,7 +29,6 @@ small {n} {p} l most e =
       few = few;
       pairs = mul-le-mul few few;
       tape = omega arith;
-      work = omega arith;
       words = omega arith;
     }
 

@@ -1,8 +1,27 @@
-// Runs every input of widths 3 and 5 as a whole exchange of both boxes, and counts the answers that an ordinary comparison gives too.
+// Runs every input of widths 3 and 5 as a whole job of both boxes, and counts the answers that an ordinary comparison gives too.
+ghost use mathlib.Core.Path.{_≡_};
+ghost use mathlib.Core.Bool.{true};
+ghost use Prim.Native.Nat.{_≤_};
+ghost use lib.ListN.{length};
+ghost use Rattle.field.specs.Width.{listed};
+
 mod inputs;
 mod random;
 
-fn print_line(name: &[u8], right: u64, all: u64) {
+// Zeros for the tape of width 5.
+fn blank() -> [u32; 316]
+    ensures { λ r. ⌜ length r ≡ 316 ⌝ }
+{
+    [0; 316]
+}
+
+fn run(name: &[u8], n: u32, plain: bool, all: u64)
+    requires { ⌜ (listed n ≡ true) × (n ≤ 5) ⌝ }
+{
+    let mut t1 = blank();
+    let mut t2 = blank();
+    let len = tape::tape_words(n);
+    let right = inputs::right(n, plain, &mut t1[..len], &mut t2[..len]);
     io::write_all(1, name);
     io::print_decimal(1, right);
     io::write_all(1, b" of ");
@@ -10,29 +29,8 @@ fn print_line(name: &[u8], right: u64, all: u64) {
     io::write_all(1, b" right\n");
 }
 
-fn run_plain_three() {
-    let mut t1 = [0u32; 148];
-    let mut t2 = [0u32; 148];
-    let right = inputs::right_plain(3, &mut t1, &mut t2);
-    print_line(b"width 3, plain tapes: ", right, 2401);
-}
-
-fn run_three() {
-    let mut t1 = [0u32; 148];
-    let mut t2 = [0u32; 148];
-    let right = inputs::right_dealt(3, &mut t1, &mut t2);
-    print_line(b"width 3: ", right, 2401);
-}
-
-fn run_five() {
-    let mut t1 = [0u32; 316];
-    let mut t2 = [0u32; 316];
-    let right = inputs::right_dealt(5, &mut t1, &mut t2);
-    print_line(b"width 5: ", right, 923521);
-}
-
 fn main() {
-    run_plain_three();
-    run_three();
-    run_five();
+    run(b"width 3, plain tapes: ", 3, true, 2401);
+    run(b"width 3: ", 3, false, 2401);
+    run(b"width 5: ", 5, false, 923521);
 }

@@ -4,6 +4,7 @@ ghost use mathlib.Core.Bool.{true};
 ghost use Prim.Native.Nat.{ℕ, _+_, _<_, _≤_};
 ghost use lib.ListN.{length, getD};
 ghost use Rattle.field.specs.Width.{listed, modulus};
+ghost use Rattle.tape.specs.Plain.{plainTape};
 ghost use Rattle.tape.specs.Layout.{tapeLength, bodyLength, trailer as tailOf};
 
 pub const PAIR: u32 = 7;
@@ -133,7 +134,7 @@ fn random_tape(n: u32, side: u32, seed: u32, tape: &mut [u32]) -> u32
 
 // A pair of tapes: box 1's words random, box 2's a and b too, and box 2's other words as the equations ask.
 // Answers the generator's state. Box 1's words are below p, and its trailer stands.
-pub fn deal(n: u32, seed: u32, t1: &mut [u32], t2: &mut [u32]) -> u32
+fn deal(n: u32, seed: u32, t1: &mut [u32], t2: &mut [u32]) -> u32
     requires { ⌜ (listed n ≡ true) × (tapeLength n ≤ length (now t1)) × (tapeLength n ≤ length (now t2)) ⌝ }
     ensures { λ _. ⌜ ((j : ℕ) → j < bodyLength n → getD (now (t1 .exit)) j 0 < modulus n)
         × ((k : ℕ) → k < 7 → getD (now (t1 .exit)) (bodyLength n + k) 0 ≡ getD (tailOf n 7 1 0) k 0) ⌝ }
@@ -146,4 +147,17 @@ pub fn deal(n: u32, seed: u32, t1: &mut [u32], t2: &mut [u32]) -> u32
     squares(n, 0, a, &*t1, &mut *t2);
     triples(n, b, c, &*t1, &mut *t2);
     powers(n, v2, a, b, &*t1, t2)
+}
+
+// Both boxes' tapes: the plain ones, or random ones. Answers the generator's state.
+pub fn pair(n: u32, plain: bool, seed: u32, t1: &mut [u32], t2: &mut [u32]) -> u32
+    requires { ⌜ (listed n ≡ true) × (length (now t1) ≡ tapeLength n) × (length (now t2) ≡ tapeLength n) ⌝ }
+    ensures { λ r. ⌜ (plain ≡ true → (r ≡ seed) × (now (t1 .exit) ≡ plainTape n 7 1 0) × (now (t2 .exit) ≡ plainTape n 7 2 0)) ⌝ }
+{
+    if !plain {
+        return deal(n, seed, t1, t2);
+    }
+    dealer::plain(n, PAIR, 1, NUMBER, t1);
+    dealer::plain(n, PAIR, 2, NUMBER, t2);
+    seed
 }

@@ -1,4 +1,4 @@
--- `exhaustive::dealer::random_tape` meets its contract: words below p, then the trailer over them.
+-- `exhaustive::random::random_tape` meets its contract: words below p, then the trailer over them.
 use Prim.Native.Nat.{ℕ, _+_, _<_, _≤_}
 use mathlib.Core.Path.{_≡_, sym, subst, ap, _∙_}
 use mathlib.Core.List.{List}
@@ -10,8 +10,8 @@ use Rattle.lists.proofs.Sets.{getD-sets-in, getD-sets-out}
 use Rattle.field.specs.Width.{modulus}
 use Rattle.tape.specs.Layout.{tapeLength, bodyLength, trailer}
 use borrow.Author.Needs.{needs}
-use Rattle.exhaustive.proofs.dealer.random_tape.Statement.{statement}
-use Rattle.exhaustive.proofs.dealer.random_tape.Tie as tie
+use Rattle.exhaustive.proofs.random.random_tape.Statement.{statement}
+use Rattle.exhaustive.proofs.random.random_tape.Tie as tie
 
 scatter-requires : tie.Need-scatter-requires
 scatter-requires c κs = search needs
@@ -30,7 +30,7 @@ returns c =
     let n = s .args .n in
     let tail = trailer n 7 (s .args .side) 0 in
     let mid = r .scatter .last .1 .1 .0 in
-    let e : t .trailer .last .1 .1 .0 ≡ sets mid (bodyLength n) tail = t .trailer .ensures in
+    let e : t .trailer .last .1 .1 .1 .1 .0 ≡ sets mid (bodyLength n) tail = t .trailer .ensures in
     let room : tapeLength n ≤ length mid = search needs in (
       λ j h.
           subst

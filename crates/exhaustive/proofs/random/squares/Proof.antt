@@ -1,10 +1,10 @@
--- `exhaustive::dealer::squares` is safe and ends: the place stays within the section.
+-- `exhaustive::random::squares` is safe and ends: the place stays within the section.
 use Prim.Native.Nat.{_-_, _≤_}
 use mathlib.Core.Path.{_≡_}
 use borrow.Author.Needs.{needs}
 use lib.ListN.{length}
-use Rattle.exhaustive.proofs.dealer.squares.Statement.{statement}
-use Rattle.exhaustive.proofs.dealer.squares.Tie as tie
+use Rattle.exhaustive.proofs.random.squares.Statement.{statement}
+use Rattle.exhaustive.proofs.random.squares.Tie as tie
 
 abbrev Inv-loop : tie.InvT-loop
 Inv-loop n start end t1 t2₀ at₀ t2 at = (at ≤ end) × (length t2 ≡ length t2₀)

@@ -1,10 +1,10 @@
--- `exhaustive::dealer::triples` is safe and ends: the place stays within the section.
+-- `exhaustive::random::triples` is safe and ends: the place stays within the section.
 use Prim.Native.Nat.{_-_, _≤_}
 use mathlib.Core.Path.{_≡_}
 use borrow.Author.Needs.{needs}
 use lib.ListN.{length}
-use Rattle.exhaustive.proofs.dealer.triples.Statement.{statement}
-use Rattle.exhaustive.proofs.dealer.triples.Tie as tie
+use Rattle.exhaustive.proofs.random.triples.Statement.{statement}
+use Rattle.exhaustive.proofs.random.triples.Tie as tie
 
 abbrev Inv-loop : tie.InvT-loop
 Inv-loop n start end t1 t2₀ at₀ t2 at = (at ≤ end) × (length t2 ≡ length t2₀)

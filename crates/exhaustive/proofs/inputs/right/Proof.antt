@@ -1,4 +1,4 @@
--- `exhaustive::inputs::right_dealt` meets its contract: both tapes keep their lengths, and a turn counts at most p * p answers.
+-- `exhaustive::inputs::right` meets its contract: both tapes keep their lengths, and a turn counts at most p * p answers.
 use Prim.Native.Nat.{_-_, _*_, _≤_}
 use mathlib.Core.Path.{_≡_}
 use native.Mathlib.Omega.{arith}
@@ -6,14 +6,14 @@ use borrow.Author.Needs.{needs}
 use lib.ListN.{length}
 use Rattle.exhaustive.proofs.Small.{Small, small, counted, fits, first-below, second-below}
 use Rattle.field.specs.Width.{modulus}
-use Rattle.exhaustive.proofs.inputs.right_dealt.Statement.{statement}
-use Rattle.exhaustive.proofs.inputs.right_dealt.Tie as tie
+use Rattle.exhaustive.proofs.inputs.right.Statement.{statement}
+use Rattle.exhaustive.proofs.inputs.right.Tie as tie
 
 abbrev Inv-loop : tie.InvT-loop
-Inv-loop n t1₀ t2₀ p seed₀ right₀ i₀ t1 t2 seed right i = (i ≤ p * p) × (right ≤ i * (modulus n * modulus n)) × (length t1 ≡ length t1₀) × (length t2 ≡ length t2₀)
+Inv-loop n plain t1₀ t2₀ p seed₀ right₀ i₀ t1 t2 seed right i = (i ≤ p * p) × (right ≤ i * (modulus n * modulus n)) × (length t1 ≡ length t1₀) × (length t2 ≡ length t2₀)
 
 abbrev μ-loop : tie.MeasureT-loop
-μ-loop n t1₀ t2₀ p seed₀ right₀ i₀ t1 t2 seed right i = p * p - i
+μ-loop n plain t1₀ t2₀ p seed₀ right₀ i₀ t1 t2 seed right i = p * p - i
 
 -- what is known of p
 tiny : (m : tie.After-modulus-of Inv-loop μ-loop) → Small (m .before .before .before .args .n) (m .modulus-of .result)
@@ -30,14 +30,14 @@ loop-holds c = search needs
 mul-loop : tie.Need-mul-loop Inv-loop μ-loop
 mul-loop c = omega (arith, tiny (c .before) .pairs)
 
-div-dealt-turn : tie.Need-div-dealt-turn Inv-loop μ-loop
-div-dealt-turn c = tiny (c .before .before) .some
+div-with-tapes : tie.Need-div-with-tapes Inv-loop μ-loop
+div-with-tapes c = tiny (c .before .before) .some
 
-rem-dealt-turn : tie.Need-rem-dealt-turn Inv-loop μ-loop
-rem-dealt-turn c = tiny (c .before .before) .some
+rem-with-tapes : tie.Need-rem-with-tapes Inv-loop μ-loop
+rem-with-tapes c = tiny (c .before .before) .some
 
-dealt-turn-requires : tie.Need-dealt-turn-requires Inv-loop μ-loop
-dealt-turn-requires c κs =
+with-tapes-requires : tie.Need-with-tapes-requires Inv-loop μ-loop
+with-tapes-requires c κs =
     let i = c .before .before in
     let l = i .before in
     let m = l .before in
@@ -55,7 +55,7 @@ add-right c =
     let d = c .before .before .before .before .before in
     let l = d .before .before .before .before in
     let inv = l .loop .inv in
-    omega (arith, fits (l .before .modulus-of .ensures) (tiny (l .before) .pairs) (inv .1) (inv .0) (d .dealt-turn .ensures))
+    omega (arith, fits (l .before .modulus-of .ensures) (tiny (l .before) .pairs) (inv .1) (inv .0) (d .with-tapes .ensures))
 
 add-i : tie.Need-add-i Inv-loop μ-loop
 add-i c =
@@ -69,7 +69,7 @@ loop-again : tie.Need-loop-again Inv-loop μ-loop
 loop-again c =
     let d = c .before .before .before .before .before in
     let i = d .before .before .before in
-    (omega (arith, i .loop-test .taken), omega (arith, i .before .loop .inv .1, d .dealt-turn .ensures), search needs, search needs)
+    (omega (arith, i .loop-test .taken), omega (arith, i .before .loop .inv .1, d .with-tapes .ensures), search needs, search needs)
 
 same-length : tie.Need-same-length Inv-loop μ-loop
 same-length c = search needs
@@ -82,8 +82,8 @@ returns c =
     let l = c .before in
     counted (l .before .modulus-of .ensures) (l .loop .inv .1) (l .loop .inv .0)
 
-pub right-dealt-spec : {M : Type 1} → statement M
-right-dealt-spec =
+pub right-spec : {M : Type 1} → statement M
+right-spec =
     tie.close
     (tie.spec
     Inv-loop
@@ -91,9 +91,9 @@ right-dealt-spec =
     modulus-of-requires
     loop-holds
     mul-loop
-    div-dealt-turn
-    rem-dealt-turn
-    dealt-turn-requires
+    div-with-tapes
+    rem-with-tapes
+    with-tapes-requires
     add-right
     add-i
     loop-less
