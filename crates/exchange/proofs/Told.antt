@@ -6,26 +6,17 @@ use mathlib.Core.List.{List}
 use native.Mathlib.Omega.{arith}
 use lib.ListN.{length, take}
 use lib.Seq.{sets, length-sets}
-use borrow.Author.Tests.{lt-ltb}
-use Rattle.lists.proofs.Every.{every-intro}
-use Rattle.field.specs.Width.{listed}
 use Rattle.protocol.specs.Rounds.{roundWords, message}
 use Rattle.protocol.proofs.Lengths.{message-length, message-front}
-use Rattle.protocol.proofs.Ranges.{message-below}
 use Rattle.rules.specs.Grounds.{wordsFit}
 use Rattle.rules.specs.Calls.{Result, outcome, inPhase, partyOf, turned, speakRule, hearRule}
 use Rattle.rules.proofs.Passed.{ranged}
+use Rattle.rules.proofs.Spoken.{message-fits}
 use Rattle.rules.specs.declared.state.Turn.the-variants.{Speak, Hear}
 use Rattle.rules.specs.declared.state.State.{State}
 use Rattle.rules.specs.declared.state.Outcome.{Outcome}
 use Rattle.exchange.specs.Boxes.{Ready, heardAfter}
 use Rattle.exchange.proofs.Ready.{speak-ready, hear-ready}
-
--- a message's words are below p
-message-fits : (s : State) (tape work : List ℕ) (round : ℕ) → listed (s .n) ≡ true → wordsFit (s .n) (message (partyOf s tape) work round) ≡ true
-message-fits s tape work round l =
-    every-intro (length (message (partyOf s tape) work round)) _
-    (λ i less. lt-ltb _ _ (message-below (partyOf s tape) l work round .at i))
 
 -- what a speak left: the state, out, and the message as that many words at the front of out
 pub record Told (s : State) (round : ℕ) (tape work out : List ℕ) (next : State) (out′ : List ℕ) (count : ℕ) : Type 0 where

@@ -27,7 +27,7 @@ use Rattle.guarantees.specs.Entries.{Lent, dealt, Incoming, Step, wake, 
 use Rattle.guarantees.specs.Run.{Lending, Setting, Memory, Said, nothing, replied, Event, World, memoryOf, after, afterCut, eventAt, tapeWords, incomingWords, spokenWords, stepped}
 use Rattle.guarantees.specs.Premises.{True, Keeps}
 use Rattle.guarantees.proofs.Jobs.{partyAt, holding, sentBy, answerBy, sent-is, holding-next, answer-is, holding-room}
-use Rattle.guarantees.proofs.Spoken.{spoken-front}
+use Rattle.rules.proofs.Spoken.{spoken-front}
 use Rattle.rules.proofs.Passed.{decide, pass, start-passed, speak-passed, hear-passed, awake-mode, awake-listed, Due, due-job, job-range}
 
 module _ (g : Setting) (pair : ℕ) (book : Box → ℕ → ℕ → Lending) where

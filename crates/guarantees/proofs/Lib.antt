@@ -1,7 +1,6 @@
 pub mod Places
 pub mod Twins
 pub mod Jobs
-pub mod Spoken
 pub mod Follows
 pub mod Openings
 pub mod Turns

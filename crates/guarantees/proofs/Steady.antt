@@ -22,7 +22,7 @@ use Rattle.guarantees.specs.Run.{Setting, Memory, replied, Event, World,
 use Rattle.guarantees.specs.Premises.{True, Keeps, Meets, Compatible, AllCompatible}
 use Rattle.guarantees.proofs.Twins.{Twin, Skeleton}
 use Rattle.rules.proofs.Passed.{decide, speak-passed, awake-listed}
-use Rattle.guarantees.proofs.Spoken.{spoken-front, message-fits}
+use Rattle.rules.proofs.Spoken.{spoken-front, message-fits}
 use Rattle.guarantees.proofs.Turns.{asleep-same, job-same, due-same}
 use Rattle.guarantees.proofs.Refusals.{OrderAlike, speak-same, hear-same}
 use Rattle.guarantees.proofs.Skeletons.{Fit, memories, next}

@@ -1,3 +1,4 @@
 pub mod Marks
 pub mod Passed
+pub mod Spoken
 pub mod Answering
