@@ -1,0 +1,26 @@
+-- `walk::calls::hear` meets its contract: the call is its rule.
+use borrow.Author.Needs.{needs}
+use Rattle.walk.proofs.Reached.{told}
+use Rattle.walk.proofs.calls.hear.Statement.{statement}
+use Rattle.walk.proofs.calls.hear.Tie as tie
+
+hear-requires : tie.Need-hear-requires
+hear-requires c κs = search needs
+
+untouched-requires : tie.Need-untouched-requires
+untouched-requires c κs = search needs
+
+compared-requires : tie.Need-compared-requires
+compared-requires c κs = search needs
+
+same-length : tie.Need-same-length
+same-length c = search needs
+
+returns : tie.Need-returns
+returns c =
+    let called = c .before .before .before .before .before in
+    told (called .hear .ensures) (c .compared .ensures)
+
+pub hear-spec : {M : Type 1} → statement M
+hear-spec =
+    tie.close (tie.spec hear-requires untouched-requires compared-requires same-length returns)

@@ -1,0 +1,35 @@
+-- `walk::five::speak_on` meets its contract: the tape is the plain one.
+use borrow.Author.Needs.{needs}
+use Rattle.walk.proofs.five.speak_on.Statement.{statement}
+use Rattle.walk.proofs.five.speak_on.Tie as tie
+
+plain-requires : tie.Need-plain-requires
+plain-requires c κs = search needs
+
+slice-aggregate-speak : tie.Need-slice-aggregate-speak
+slice-aggregate-speak c = search needs
+
+slice-aggregate-speak-2 : tie.Need-slice-aggregate-speak-2
+slice-aggregate-speak-2 c = search needs
+
+slice-aggregate-speak-3 : tie.Need-slice-aggregate-speak-3
+slice-aggregate-speak-3 c = search needs
+
+speak-requires : tie.Need-speak-requires
+speak-requires c κs = search needs
+
+returns : tie.Need-returns
+returns c =
+    let s = c .before in
+    rw (s .before .before .before .before .plain .ensures .1) at (s .speak .ensures)
+
+pub speak-on-spec : {M : Type 1} → statement M
+speak-on-spec =
+    tie.close
+    (tie.spec
+    plain-requires
+    slice-aggregate-speak
+    slice-aggregate-speak-2
+    slice-aggregate-speak-3
+    speak-requires
+    returns)

@@ -1,0 +1,65 @@
+-- What the walk reads off an answer and a state.
+use Prim.Native.Nat.{ℕ}
+use mathlib.Core.Bool.{cond, true}
+use mathlib.Core.List.{List, [], _∷_}
+use lib.Dec.{eqb}
+use Rattle.tape.specs.Plain.{plainTape}
+use mathlib.Core.Path.{_≡_}
+use Rattle.rules.specs.Answers.{replyOf}
+use Rattle.rules.specs.Calls.{Result}
+use Rattle.rules.specs.Modes.{roundOf}
+use Rattle.rules.specs.declared.state.Turn.{Turn}
+use Rattle.rules.specs.declared.state.Turn.the-variants.{Speak, Hear}
+use Rattle.rules.specs.declared.state.Phase.{Phase}
+use Rattle.rules.specs.declared.state.Phase.the-variants.{Asleep, Idle, Job}
+use Rattle.rules.specs.declared.state.State.{State}
+use Rattle.walk.specs.declared.calls.Tried.{Tried}
+use Rattle.walk.specs.declared.bench.Bench.{Bench}
+
+-- box 1 awake, with a tally of that length
+abbrev pub idleState : ℕ → State
+idleState tally = record { n = 3; side = 1; pair = 5; tally = tally; phase = Idle }
+
+-- the same, with another length of tally
+abbrev pub withTally : State → ℕ → State
+withTally s tally = record { n = s .n; side = s .side; pair = s .pair; tally = tally; phase = s .phase }
+
+-- box 1 in a job on tape 0 with the shares 5 and 1
+abbrev pub jobState : ℕ → Turn → State
+jobState tally turn = record { n = 3; side = 1; pair = 5; tally = tally; phase = Job turn 0 5 1 }
+
+abbrev pub callOf : Turn → ℕ
+callOf (Speak round) = 0
+callOf (Hear round) = 1
+
+abbrev pub phaseWords : Phase → List ℕ
+phaseWords Asleep = 0 ∷ 0 ∷ 0 ∷ 0 ∷ 0 ∷ 0 ∷ []
+phaseWords Idle = 1 ∷ 0 ∷ 0 ∷ 0 ∷ 0 ∷ 0 ∷ []
+phaseWords (Job turn number x y) = 2 ∷ callOf turn ∷ roundOf turn ∷ number ∷ x ∷ y ∷ []
+
+-- all that a state holds
+abbrev pub wordsOf : State → List ℕ
+wordsOf s = s .n ∷ s .side ∷ s .pair ∷ s .tally ∷ phaseWords (s .phase)
+
+-- a box's plain tape of width 3 and pair 5
+abbrev pub boxTape : ℕ → ℕ → List ℕ
+boxTape side number = plainTape 3 5 side number
+
+-- what is told of a call in a state: the rule's reply, and nothing is called kept where the rule changes the state
+pub record Told (tried : Tried) (state : State) (rule : Result) : Type 0 where
+  pub reply : replyOf (tried .answer) ≡ rule .reply
+  pub same : tried .kept ≡ true → state ≡ rule .state
+
+-- a tally of four fresh tapes
+abbrev pub freshTally : List ℕ
+freshTally = 255 ∷ 255 ∷ 255 ∷ 255 ∷ []
+
+-- box 1's tally after so many steps of a job on tape 0; the start is step 1
+abbrev pub tallyAfter : ℕ → List ℕ
+tallyAfter steps = cond (eqb steps 0) freshTally (0 ∷ 255 ∷ 255 ∷ 255 ∷ [])
+
+-- a box after a call: the rule's reply, state and buffer
+pub record After (b : Bench) (buffer : List ℕ) (rule : Result) : Type 0 where
+  pub reply : replyOf (b .answer) ≡ rule .reply
+  pub state : b .state ≡ rule .state
+  pub left : buffer ≡ rule .buffer

@@ -1,0 +1,115 @@
+// One call of a box on copies of its buffers: what it answered, and whether all is as it was.
+use rules::state::Answer;
+use rules::state::Outcome;
+use rules::state::State;
+ghost use mathlib.Core.Path.{_≡_};
+ghost use mathlib.Core.Bool.{true, _&&_};
+ghost use Prim.Native.Nat.{ℕ, _<_};
+ghost use lib.Dec.{eqb};
+ghost use lib.ListN.{length, getD};
+ghost use Rattle.rules.specs.Answers.{replyOf};
+ghost use Rattle.exchange.specs.Opening.{refusalOf};
+ghost use Rattle.rules.specs.Calls.{wakeRule, startRule, speakRule, hearRule, dropRule};
+ghost use Rattle.walk.specs.Walk.{Told};
+
+// What stands in the buffers that a call is lent to write.
+pub const FILLER: u32 = 9;
+
+pub struct Tried {
+    pub answer: Answer,
+    // whether the state and the buffer that the call may change are as they were
+    pub kept: bool,
+}
+
+// Refused with that number, and nothing changed.
+pub fn is_refused(tried: Tried, number: u32) -> bool
+    ensures { λ r. ⌜ r ≡ (tried .kept && eqb (refusalOf (replyOf (tried .answer))) number) ⌝ }
+{
+    let answer = tried.answer;
+    tried.kept && exchange::refusal_of(answer) == number
+}
+
+// Whether every word is still the filler.
+fn untouched(words: &[u32]) -> bool
+    ensures { λ r. ⌜ (r ≡ true → (j : ℕ) → j < length (now (words .entry)) → getD (now (words .entry)) j 0 ≡ 9) ⌝ }
+{
+    let mut i = 0;
+    while i < words.len() {
+        if words[i] != FILLER {
+            return false;
+        }
+        i += 1;
+    }
+    true
+}
+
+fn compared(before: State, outcome: Outcome, kept: bool) -> Tried
+    ensures { λ r. ⌜ (r .answer ≡ outcome .answer) × (r .kept ≡ true → (kept ≡ true) × (before ≡ outcome .state)) ⌝ }
+{
+    let answer = outcome.answer;
+    let after = outcome.state;
+    Tried {
+        answer,
+        kept: kept && crate::states::same(before, after),
+    }
+}
+
+pub fn wake(state: State, n: u32, side: u32, tally: &[u8]) -> Tried
+    ensures { λ r. ⌜ Told r state (wakeRule state n side 5 (now (tally .entry))) ⌝ }
+{
+    let r = limit_box::wake(state, n, side, crate::tapes::PAIR, tally);
+    compared(state, r, true)
+}
+
+pub fn start(
+    state: State,
+    number: u32,
+    x: u32,
+    y: u32,
+    tape: &[u32],
+    work: &[u32],
+    tally: [u8; 4],
+) -> Tried
+    ensures { λ r. ⌜ Told r state (startRule state number x y (now (tape .entry)) (now (work .entry)) tally) ⌝ }
+{
+    let mut after = tally;
+    let r = limit_box::start(state, number, x, y, tape, work, &mut after);
+    compared(state, r, check::same(&tally, &after))
+}
+
+// `out` is lent full of filler.
+pub fn speak(
+    state: State,
+    number: u32,
+    round: u32,
+    tape: &[u32],
+    work: &[u32],
+    out: &mut [u32],
+) -> Tried
+    ensures { λ r. ⌜ Told r state (speakRule state number round (now (tape .entry)) (now (work .entry)) (now (out .entry))) ⌝ }
+{
+    let r = limit_box::speak(state, number, round, tape, work, &mut *out);
+    compared(state, r, untouched(&*out))
+}
+
+// `work` is lent full of filler.
+pub fn hear(
+    state: State,
+    number: u32,
+    round: u32,
+    tape: &[u32],
+    work: &mut [u32],
+    incoming: &[u32],
+) -> Tried
+    ensures { λ r. ⌜ Told r state (hearRule state number round (now (tape .entry)) (now (work .entry)) (now (incoming .entry))) ⌝ }
+{
+    let r = limit_box::hear(state, number, round, tape, &mut *work, incoming);
+    compared(state, r, untouched(&*work))
+}
+
+pub fn drop(state: State) -> Tried
+    ensures { λ r. ⌜ Told r state (dropRule state) ⌝ }
+{
+    let r = limit_box::drop(state);
+    compared(state, r, true)
+}

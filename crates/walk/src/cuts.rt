@@ -1,0 +1,79 @@
+// Cuts and drops of box 1 at every point of a job.
+use crate::bench;
+use crate::five;
+use crate::say::number;
+use crate::say::short;
+use crate::say::text;
+use crate::states;
+use rules::state::State;
+
+// Awake again: a start on tape 0, and one on tape 1.
+fn both_tapes(state: State, tally: [u8; 4]) {
+    text(b";");
+    short(five::start_on(state, 0, tally));
+    short(five::start_on(state, 1, tally));
+    text(b"\n");
+}
+
+// The box asleep with that tally: the five calls, then it wakes.
+fn asleep(state: State, round: u32, tally: [u8; 4]) {
+    text(b":");
+    five::all(state, round, tally);
+    let r = limit_box::wake(state, 3, 1, crate::tapes::PAIR, &tally);
+    let awake = r.state;
+    both_tapes(awake, tally);
+}
+
+fn cut(step: u32) {
+    let b = bench::first(step);
+    let before = b.state;
+    let tally = b.tally;
+    text(b"cut after ");
+    bench::name(step);
+    asleep(states::cut(before), bench::round_of(step), tally);
+}
+
+// The start's write leaves that value in its byte, and the start answers nothing.
+fn cut_in_write(value: u8) {
+    let b = bench::first(0);
+    let before = b.state;
+    let mut tally = b.tally;
+    tally[0] = value;
+    number(b"cut in the start's write, byte ", value as u32);
+    asleep(states::cut(before), 1, tally);
+}
+
+fn drop(step: u32) {
+    let b = bench::first(step);
+    let before = b.state;
+    let tally = b.tally;
+    text(b"drop after ");
+    bench::name(step);
+    text(b":");
+    short(crate::calls::drop(before));
+    text(b";");
+    let r = limit_box::drop(before);
+    let after = r.state;
+    five::all(after, bench::round_of(step), tally);
+    both_tapes(after, tally);
+}
+
+// Both at every point of a job.
+fn points() {
+    let mut step = 0;
+    while step <= bench::LAST {
+        cut(step);
+        drop(step);
+        step += 1;
+    }
+}
+
+pub fn lines() {
+    text(b"a cut: wake, start, speak, hear, drop; awake again, start on tape 0, start on tape 1\n");
+    text(b"a drop: drop; wake, start, speak, hear, drop; start on tape 0, start on tape 1\n");
+    points();
+    cut_in_write(255);
+    cut_in_write(0);
+    cut_in_write(254);
+    cut_in_write(128);
+}

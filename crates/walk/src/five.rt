@@ -1,0 +1,67 @@
+// Box 1's five calls, each lent all that it needs.
+use crate::calls;
+use crate::calls::FILLER;
+use crate::calls::Tried;
+use crate::say::short;
+use crate::tapes;
+use rules::state::State;
+ghost use mathlib.Core.Path.{_≡_};
+ghost use Prim.Native.Nat.{_≤_};
+ghost use lib.ListN.{take};
+ghost use Rattle.lists.specs.Tabulate.{tabulate};
+ghost use Rattle.protocol.specs.Rounds.{roundWords};
+ghost use Rattle.rules.specs.Calls.{startRule, speakRule, hearRule};
+ghost use Rattle.walk.specs.Walk.{boxTape, Told};
+
+// The words of a round at width 3, as the paper's table has them.
+pub fn words(round: u32) -> usize
+    ensures { λ r. ⌜ (r ≤ 33) × (r ≡ roundWords 3 round) ⌝ }
+{
+    match round {
+        1 => 33,
+        2 => 18,
+        3 => 9,
+        4 => 6,
+        5 => 2,
+        6 => 2,
+        _ => 0,
+    }
+}
+
+// A start on a tape that is lent with it.
+pub fn start_on(state: State, number: u32, tally: [u8; 4]) -> Tried
+    ensures { λ r. ⌜ Told r state (startRule state number 5 1 (boxTape 1 number) (tabulate 100 (λ k. 0)) tally) ⌝ }
+{
+    let tape = tapes::plain(1, number);
+    let work = [0u32; 100];
+    calls::start(state, number, 5, 1, &tape, &work, tally)
+}
+
+pub fn speak_on(state: State, number: u32, round: u32) -> Tried
+    ensures { λ r. ⌜ Told r state (speakRule state number round (boxTape 1 number) (tabulate 100 (λ k. 0)) (tabulate 33 (λ k. 9))) ⌝ }
+{
+    let tape = tapes::plain(1, number);
+    let work = [0u32; 100];
+    let mut out = [FILLER; 33];
+    calls::speak(state, number, round, &tape, &work, &mut out)
+}
+
+// A hear of as many words as the round has.
+pub fn hear_on(state: State, number: u32, round: u32) -> Tried
+    ensures { λ r. ⌜ Told r state (hearRule state number round (boxTape 1 number) (tabulate 100 (λ k. 9)) (take (roundWords 3 round) (tabulate 33 (λ k. 0)))) ⌝ }
+{
+    let tape = tapes::plain(1, number);
+    let mut work = [FILLER; 100];
+    let incoming = [0u32; 33];
+    let count = words(round);
+    calls::hear(state, number, round, &tape, &mut work, &incoming[..count])
+}
+
+// What each of the five answers in that state: a start on tape 1, a speak and a hear on tape 0.
+pub fn all(state: State, round: u32, tally: [u8; 4]) {
+    short(calls::wake(state, 3, 1, &tally));
+    short(start_on(state, 1, tally));
+    short(speak_on(state, 0, round));
+    short(hear_on(state, 0, round));
+    short(calls::drop(state));
+}

@@ -1,0 +1,79 @@
+// Hear's grounds: 1, 6, 11, 10, 12, 13.
+use crate::calls::FILLER;
+use crate::calls::Tried;
+use crate::calls::hear;
+use crate::five::hear_on;
+use crate::say::line;
+use crate::states;
+use crate::tapes;
+ghost use Prim.Native.Nat.{_<_};
+ghost use lib.ListN.{set};
+ghost use Rattle.lists.specs.Tabulate.{tabulate};
+ghost use Rattle.rules.specs.Calls.{hearRule};
+ghost use Rattle.rules.specs.declared.state.Turn.the-variants.{Hear};
+ghost use Rattle.walk.specs.Walk.{boxTape, jobState, Told};
+
+fn turns() {
+    line(b"hear, asleep: ", hear_on(states::asleep(), 0, 1));
+    line(b"hear, idle: ", hear_on(states::idle(), 0, 1));
+    line(b"hear, number 1: ", hear_on(states::spoken(), 1, 1));
+    line(b"hear, round 2: ", hear_on(states::spoken(), 0, 2));
+    line(b"hear, speak 1 due: ", hear_on(states::opened(), 0, 1));
+}
+
+// The hear that is due, lent this tape.
+fn on_tape(tape: &[u32]) -> Tried {
+    let mut work = [FILLER; 100];
+    let incoming = [0u32; 33];
+    hear(states::spoken(), 0, 1, tape, &mut work, &incoming)
+}
+
+fn tapes_lent() {
+    let short = tapes::short();
+    let other = tapes::plain(2, 0);
+    let high = tapes::changed(140, 7);
+    line(b"hear, tape of 147 words: ", on_tape(&short));
+    line(b"hear, the other box's tape: ", on_tape(&other));
+    line(b"hear, last body word 7: ", on_tape(&high));
+}
+
+// The hear that is due, of these words.
+pub fn of_words(incoming: &[u32]) -> Tried
+    ensures { λ r. ⌜ Told r (jobState 4 (Hear 1)) (hearRule (jobState 4 (Hear 1)) 0 1 (boxTape 1 0) (tabulate 100 (λ k. 9)) (now (incoming .entry))) ⌝ }
+{
+    let tape = tapes::plain(1, 0);
+    let mut work = [FILLER; 100];
+    hear(states::spoken(), 0, 1, &tape, &mut work, incoming)
+}
+
+fn rooms() {
+    let tape = tapes::plain(1, 0);
+    let mut work = [FILLER; 99];
+    let incoming = [0u32; 33];
+    let short = [0u32; 32];
+    let long = [0u32; 34];
+    line(
+        b"hear, work of 99 words: ",
+        hear(states::spoken(), 0, 1, &tape, &mut work, &incoming),
+    );
+    line(b"hear, 32 words: ", of_words(&short));
+    line(b"hear, 34 words: ", of_words(&long));
+}
+
+// The hear that is due, of 33 words with a 7 in that place.
+pub fn of_high(place: usize) -> Tried
+    requires { ⌜ place < 33 ⌝ }
+    ensures { λ r. ⌜ Told r (jobState 4 (Hear 1)) (hearRule (jobState 4 (Hear 1)) 0 1 (boxTape 1 0) (tabulate 100 (λ k. 9)) (set (tabulate 33 (λ k. 0)) place 7)) ⌝ }
+{
+    let mut incoming = [0u32; 33];
+    incoming[place] = 7;
+    of_words(&incoming)
+}
+
+pub fn lines() {
+    turns();
+    tapes_lent();
+    rooms();
+    line(b"hear, first word 7: ", of_high(0));
+    line(b"hear, last word 7: ", of_high(32));
+}

@@ -1,0 +1,29 @@
+// Walks one pair of boxes of width 3 through every refusal at each call that can give it, through cuts and drops at every
+// point of a job, and through a whole job, and prints what was answered.
+mod bench;
+mod calls;
+mod cuts;
+mod five;
+mod hears;
+mod job;
+mod order;
+mod outside;
+mod say;
+mod speaks;
+mod starts;
+mod states;
+mod sweeps;
+mod tapes;
+mod wakes;
+
+fn main() {
+    wakes::lines();
+    starts::lines();
+    speaks::lines();
+    hears::lines();
+    sweeps::lines();
+    order::lines();
+    outside::lines();
+    cuts::lines();
+    job::lines();
+}

@@ -1,0 +1,137 @@
+// First match counts: each call with all its grounds at once, then without the first of them, and so on until it is taken.
+use crate::calls;
+use crate::calls::FILLER;
+use crate::calls::Tried;
+use crate::say::short;
+use crate::say::text;
+use crate::states;
+use crate::tapes;
+use rules::state::State;
+
+fn wakes() {
+    let tally = [255u8; 4];
+    text(b"wake, first of several:");
+    short(calls::wake(states::idle(), 4, 3, &tally[..0]));
+    short(calls::wake(states::asleep(), 4, 3, &tally[..0]));
+    short(calls::wake(states::asleep(), 3, 3, &tally[..0]));
+    short(calls::wake(states::asleep(), 3, 1, &tally[..0]));
+    short(calls::wake(states::asleep(), 3, 1, &tally));
+    text(b"\n");
+}
+
+// A start with shares, tape and work that are refused, where byte 0 is spent.
+fn wrong_start(state: State, number: u32) -> Tried {
+    let tape = tapes::plain(2, 0);
+    let work = [0u32; 99];
+    calls::start(state, number, 7, 7, &tape, &work, [0, 255, 255, 255])
+}
+
+// The same, where byte 0 is fresh.
+fn wrong_tapes() {
+    let other = tapes::plain(2, 0);
+    let less = [0u32; 99];
+    let fresh = [255u8; 4];
+    short(calls::start(states::idle(), 0, 7, 7, &other, &less, fresh));
+    short(calls::start(states::idle(), 0, 5, 1, &other, &less, fresh));
+}
+
+// What a start asks of a tape in order.
+fn right_tapes() {
+    let tape = tapes::plain(1, 0);
+    let less = [0u32; 99];
+    let work = [0u32; 100];
+    let fresh = [255u8; 4];
+    short(calls::start(states::idle(), 0, 5, 1, &tape, &less, fresh));
+    short(calls::start(states::idle(), 0, 5, 1, &tape, &work, fresh));
+}
+
+fn starts() {
+    text(b"start, first of several:");
+    short(wrong_start(states::asleep(), 4));
+    short(wrong_start(states::longer(states::opened()), 4));
+    short(wrong_start(states::longer(states::idle()), 4));
+    short(wrong_start(states::idle(), 4));
+    short(wrong_start(states::idle(), 0));
+    wrong_tapes();
+    right_tapes();
+    text(b"\n");
+}
+
+// A speak with a tape, work and out that are refused.
+fn wrong_speak(state: State, number: u32) -> Tried {
+    let tape = tapes::plain(2, 0);
+    let work = [0u32; 99];
+    let mut out = [FILLER; 32];
+    calls::speak(state, number, 1, &tape, &work, &mut out)
+}
+
+// What a speak asks of a tape in order.
+fn due_speaks() {
+    let tape = tapes::plain(1, 0);
+    let less = [0u32; 99];
+    let work = [0u32; 100];
+    let mut out = [FILLER; 33];
+    short(calls::speak(states::opened(), 0, 1, &tape, &less, &mut out));
+    short(calls::speak(states::opened(), 0, 1, &tape, &work, &mut out));
+}
+
+fn speaks() {
+    text(b"speak, first of several:");
+    short(wrong_speak(states::asleep(), 1));
+    short(wrong_speak(states::idle(), 1));
+    short(wrong_speak(states::opened(), 1));
+    short(wrong_speak(states::opened(), 0));
+    due_speaks();
+    text(b"\n");
+}
+
+// A hear with a tape, work and words that are refused.
+fn wrong_hear(state: State, number: u32) -> Tried {
+    let tape = tapes::plain(2, 0);
+    let mut work = [FILLER; 99];
+    let incoming = [7u32; 32];
+    calls::hear(state, number, 1, &tape, &mut work, &incoming)
+}
+
+// The tape is in order; work and the words are too few.
+fn short_hears() {
+    let tape = tapes::plain(1, 0);
+    let mut less = [FILLER; 99];
+    let few = [7u32; 32];
+    short(calls::hear(states::spoken(), 0, 1, &tape, &mut less, &few));
+}
+
+// With words of p, and with words below it.
+fn whole_hears() {
+    let high = [7u32; 33];
+    let incoming = [0u32; 33];
+    short(crate::hears::of_words(&high));
+    short(crate::hears::of_words(&incoming));
+}
+
+fn hears() {
+    text(b"hear, first of several:");
+    short(wrong_hear(states::asleep(), 1));
+    short(wrong_hear(states::idle(), 1));
+    short(wrong_hear(states::spoken(), 1));
+    short(wrong_hear(states::spoken(), 0));
+    short_hears();
+    whole_hears();
+    text(b"\n");
+}
+
+fn drops() {
+    text(b"drop, first of several:");
+    short(calls::drop(states::asleep()));
+    short(calls::drop(states::idle()));
+    short(calls::drop(states::opened()));
+    text(b"\n");
+}
+
+pub fn lines() {
+    wakes();
+    starts();
+    speaks();
+    hears();
+    drops();
+}

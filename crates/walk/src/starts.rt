@@ -1,0 +1,109 @@
+// Start's grounds: 1, 5, 4, 7, 8, 9, 10, 12.
+use crate::calls::Tried;
+use crate::calls::start;
+use crate::say::line;
+use crate::states;
+use crate::tapes;
+use rules::state::State;
+ghost use mathlib.Core.List.{[], _∷_};
+ghost use Prim.Native.Nat.{_<_};
+ghost use lib.ListN.{set};
+ghost use Rattle.lists.specs.Tabulate.{tabulate};
+ghost use Rattle.rules.specs.Calls.{startRule};
+ghost use Rattle.walk.specs.Walk.{idleState, boxTape, freshTally, Told};
+
+// With a fresh tally.
+fn on_number(state: State, number: u32) -> Tried
+    ensures { λ r. ⌜ Told r state (startRule state number 5 1 (boxTape 1 number) (tabulate 100 (λ k. 0)) freshTally) ⌝ }
+{
+    crate::five::start_on(state, number, [255u8; 4])
+}
+
+fn states_and_numbers() {
+    line(b"start, asleep: ", on_number(states::asleep(), 0));
+    line(b"start, in a job: ", on_number(states::opened(), 0));
+    line(
+        b"start, tally of 5 bytes at wake, now of 4: ",
+        on_number(states::longer(states::idle()), 0),
+    );
+    line(b"start, number 4: ", on_number(states::idle(), 4));
+    line(
+        b"start, number 4294967295: ",
+        on_number(states::idle(), 4294967295),
+    );
+}
+
+// A start where that byte is tape 0's.
+pub fn on_byte(byte: u8) -> Tried
+    ensures { λ r. ⌜ Told r (idleState 4) (startRule (idleState 4) 0 5 1 (boxTape 1 0) (tabulate 100 (λ k. 0)) (byte ∷ 255 ∷ 255 ∷ 255 ∷ [])) ⌝ }
+{
+    let tape = tapes::plain(1, 0);
+    let work = [0u32; 100];
+    start(states::idle(), 0, 5, 1, &tape, &work, [byte, 255, 255, 255])
+}
+
+// Half-written bytes are spent too.
+fn spent_bytes() {
+    line(b"start, byte 00: ", on_byte(0));
+    line(b"start, byte 7F: ", on_byte(127));
+    line(b"start, byte FE: ", on_byte(254));
+}
+
+// A start with those shares, and that work.
+fn on_shares(x: u32, y: u32, work: &[u32]) -> Tried {
+    let tape = tapes::plain(1, 0);
+    start(states::idle(), 0, x, y, &tape, work, [255u8; 4])
+}
+
+fn shares_and_room() {
+    let work = [0u32; 100];
+    let short = [0u32; 99];
+    line(b"start, x 7: ", on_shares(7, 1, &work));
+    line(b"start, y 7: ", on_shares(5, 7, &work));
+    line(b"start, work of 99 words: ", on_shares(5, 1, &short));
+}
+
+// A start on number 0 that is lent this tape.
+fn on_tape(tape: &[u32]) -> Tried
+    ensures { λ r. ⌜ Told r (idleState 4) (startRule (idleState 4) 0 5 1 (now (tape .entry)) (tabulate 100 (λ k. 0)) freshTally) ⌝ }
+{
+    let work = [0u32; 100];
+    start(states::idle(), 0, 5, 1, tape, &work, [255u8; 4])
+}
+
+fn tape_lengths() {
+    let short = tapes::short();
+    let long = tapes::long();
+    line(b"start, tape of 147 words: ", on_tape(&short));
+    line(b"start, tape of 149 words: ", on_tape(&long));
+}
+
+// Another word in one place of the tape.
+pub fn on_changed(place: usize, word: u32) -> Tried
+    requires { ⌜ place < 148 ⌝ }
+    ensures { λ r. ⌜ Told r (idleState 4) (startRule (idleState 4) 0 5 1 (set (boxTape 1 0) place word) (tabulate 100 (λ k. 0)) freshTally) ⌝ }
+{
+    let tape = tapes::changed(place, word);
+    on_tape(&tape)
+}
+
+fn trailers() {
+    line(
+        b"start, distance to the squares 140: ",
+        on_changed(141, 140),
+    );
+    line(b"start, distance to the powers 88: ", on_changed(142, 88));
+    line(b"start, distance to the triples 50: ", on_changed(143, 50));
+    line(b"start, tape of pair 6: ", on_changed(144, 6));
+    line(b"start, tape of side 2: ", on_changed(145, 2));
+    line(b"start, tape of number 1: ", on_changed(146, 1));
+    line(b"start, tape of n 5: ", on_changed(147, 5));
+}
+
+pub fn lines() {
+    states_and_numbers();
+    spent_bytes();
+    shares_and_room();
+    tape_lengths();
+    trailers();
+}

@@ -1,0 +1,168 @@
+// Box 1's states on the way to its first hear, and whether two states are the same.
+use rules::state::Phase;
+use rules::state::State;
+use rules::state::Turn;
+ghost use mathlib.Core.Path.{_≡_};
+ghost use mathlib.Core.Bool.{true};
+ghost use Rattle.rules.specs.Modes.{asleepState, roundOf};
+ghost use Rattle.exchange.specs.Opening.{firstState};
+ghost use Rattle.walk.specs.Walk.{idleState, jobState, withTally, wordsOf, callOf};
+ghost use Rattle.rules.specs.declared.state.Turn.the-variants.{Speak, Hear};
+
+// A box at first.
+pub fn asleep() -> State
+    ensures { λ r. ⌜ r ≡ firstState ⌝ }
+{
+    State {
+        n: 0,
+        side: 0,
+        pair: 0,
+        tally: 0,
+        phase: Phase::Asleep,
+    }
+}
+
+// The power is cut: the box is asleep.
+pub fn cut(state: State) -> State
+    ensures { λ r. ⌜ r ≡ asleepState state ⌝ }
+{
+    State {
+        n: state.n,
+        side: state.side,
+        pair: state.pair,
+        tally: state.tally,
+        phase: Phase::Asleep,
+    }
+}
+
+// Awake, with a tally of four tapes.
+pub fn idle() -> State
+    ensures { λ r. ⌜ r ≡ idleState 4 ⌝ }
+{
+    let tally = [255u8; 4];
+    let r = limit_box::wake(asleep(), 3, 1, crate::tapes::PAIR, &tally);
+    r.state
+}
+
+// The same, but that the tally had five bytes at wake.
+pub fn longer(state: State) -> State
+    ensures { λ r. ⌜ r ≡ withTally state 5 ⌝ }
+{
+    let phase = state.phase;
+    State {
+        n: state.n,
+        side: state.side,
+        pair: state.pair,
+        tally: 5,
+        phase,
+    }
+}
+
+// In a job on tape 0: speak 1 is due.
+pub fn opened() -> State
+    ensures { λ r. ⌜ r ≡ jobState 4 (Speak 1) ⌝ }
+{
+    let tape = crate::tapes::plain(1, 0);
+    let work = [0u32; 100];
+    let mut tally = [255u8; 4];
+    let r = limit_box::start(idle(), 0, 5, 1, &tape, &work, &mut tally);
+    r.state
+}
+
+// The same job, where hear 1 is due.
+pub fn spoken() -> State
+    ensures { λ r. ⌜ r ≡ jobState 4 (Hear 1) ⌝ }
+{
+    let tape = crate::tapes::plain(1, 0);
+    let work = [0u32; 100];
+    let mut out = [0u32; 33];
+    let r = limit_box::speak(opened(), 0, 1, &tape, &work, &mut out);
+    r.state
+}
+
+// All that a state holds, as words.
+fn words(state: State) -> [u32; 10]
+    ensures { λ r. ⌜ r ≡ wordsOf state ⌝ }
+{
+    let phase = state.phase;
+    match phase {
+        Phase::Asleep => [
+            state.n,
+            state.side,
+            state.pair,
+            state.tally,
+            0,
+            0,
+            0,
+            0,
+            0,
+            0,
+        ],
+        Phase::Idle => [
+            state.n,
+            state.side,
+            state.pair,
+            state.tally,
+            1,
+            0,
+            0,
+            0,
+            0,
+            0,
+        ],
+        Phase::Job { turn, number, x, y } => [
+            state.n,
+            state.side,
+            state.pair,
+            state.tally,
+            2,
+            call_of(turn),
+            round_of(turn),
+            number,
+            x,
+            y,
+        ],
+    }
+}
+
+fn call_of(turn: Turn) -> u32
+    ensures { λ r. ⌜ r ≡ callOf turn ⌝ }
+{
+    match turn {
+        Turn::Speak(_) => 0,
+        Turn::Hear(_) => 1,
+    }
+}
+
+fn round_of(turn: Turn) -> u32
+    ensures { λ r. ⌜ r ≡ roundOf turn ⌝ }
+{
+    match turn {
+        Turn::Speak(round) => round,
+        Turn::Hear(round) => round,
+    }
+}
+
+fn same_words(a: &[u32], b: &[u32]) -> bool
+    ensures { λ r. ⌜ (r ≡ true → now (a .entry) ≡ now (b .entry)) ⌝ }
+{
+    if a.len() != b.len() {
+        return false;
+    }
+    let mut i = 0;
+    while i < a.len() {
+        if a[i] != b[i] {
+            return false;
+        }
+        i += 1;
+    }
+    true
+}
+
+pub fn same(a: State, b: State) -> bool
+    ensures { λ r. ⌜ (r ≡ true → a ≡ b) ⌝ }
+{
+    let left = words(a);
+    let right = words(b);
+    same_words(&left, &right)
+}

@@ -1,0 +1,59 @@
+// The plain tapes of width 3, and such as are no tapes.
+ghost use mathlib.Core.Path.{_≡_};
+ghost use Prim.Native.Nat.{_<_};
+ghost use lib.ListN.{length, set};
+ghost use Rattle.walk.specs.Walk.{boxTape};
+
+pub const PAIR: u32 = 5;
+
+// The body's words: 54 of squares, 36 of powers, 51 of triples. The trailer follows.
+pub const BODY: usize = 141;
+
+// A box's tape of a tape number.
+pub fn plain(side: u32, number: u32) -> [u32; 148]
+    ensures { λ r. ⌜ (length r ≡ 148) × (r ≡ boxTape side number) ⌝ }
+{
+    let mut tape = [0u32; 148];
+    dealer::plain(3, PAIR, side, number, &mut tape);
+    tape
+}
+
+// Box 1's tape 0 with another word in one place.
+pub fn changed(place: usize, word: u32) -> [u32; 148]
+    requires { ⌜ place < 148 ⌝ }
+    ensures { λ r. ⌜ (length r ≡ 148) × (r ≡ set (boxTape 1 0) place word) ⌝ }
+{
+    let mut tape = plain(1, 0);
+    tape[place] = word;
+    tape
+}
+
+// A tape with a word too few before its trailer, which is right.
+pub fn short() -> [u32; 147]
+    ensures { λ r. ⌜ length r ≡ 147 ⌝ }
+{
+    let mut tape = [0u32; 147];
+    tape[140] = 141;
+    tape[141] = 87;
+    tape[142] = 51;
+    tape[143] = PAIR;
+    tape[144] = 1;
+    tape[145] = 0;
+    tape[146] = 3;
+    tape
+}
+
+// A tape with a word too many before its trailer, which is right.
+pub fn long() -> [u32; 149]
+    ensures { λ r. ⌜ length r ≡ 149 ⌝ }
+{
+    let mut tape = [0u32; 149];
+    tape[142] = 141;
+    tape[143] = 87;
+    tape[144] = 51;
+    tape[145] = PAIR;
+    tape[146] = 1;
+    tape[147] = 0;
+    tape[148] = 3;
+    tape
+}
