@@ -4,10 +4,9 @@ use exchange::Boxes;
 use exchange::Shares;
 ghost use mathlib.Core.Path.{_≡_};
 ghost use mathlib.Core.Bool.{true};
-ghost use Prim.Native.Nat.{_<_, _≤_};
+ghost use Prim.Native.Nat.{_+_, _<_, _≤_};
 ghost use lib.ListN.{length};
-ghost use Rattle.field.specs.Width.{listed, modulus};
-ghost use Rattle.tape.specs.Order.{Readable};
+ghost use Rattle.vectors.specs.Due.{Due};
 
 // How many of a width's jobs agree. The files' names are job-WW-K.txt.
 pub fn agreed_of(w: u64, count: u8) -> u64
@@ -41,7 +40,7 @@ fn agrees(name: &[u8]) -> bool {
 }
 
 // Zeros for the longest tape.
-fn blank() -> [u32; 9052]
+fn blank_tape() -> [u32; 9052]
     ensures { λ r. ⌜ length r ≡ 9052 ⌝ }
 {
     [0; 9052]
@@ -78,8 +77,8 @@ fn on_tapes(
         return false;
     }
     let len = tape::tape_words(n);
-    let mut t1 = blank();
-    let mut t2 = blank();
+    let mut t1 = blank_tape();
+    let mut t2 = blank_tape();
     let c = crate::numbers::fill(text, from, &mut t1[..len]);
     if !c.ok {
         return false;
@@ -101,6 +100,20 @@ fn on_tapes(
     )
 }
 
+// Zeros to work in, enough for any width.
+fn blank_work() -> [u32; 436]
+    ensures { λ r. ⌜ length r ≡ 436 ⌝ }
+{
+    [0; 436]
+}
+
+// The tally of a pair of which no tape is used.
+fn unused_tally() -> [u8; 65536]
+    ensures { λ r. ⌜ length r ≡ 65536 ⌝ }
+{
+    [255; 65536]
+}
+
 // Both boxes come to the job. One that is refused doesn't agree.
 fn opened(
     text: &[u8],
@@ -112,13 +125,11 @@ fn opened(
     two: Shares,
     t1: &[u32],
     t2: &[u32],
-) -> bool
-    requires { ⌜ listed n ≡ true ⌝ }
-{
-    let mut w1 = [0u32; 436];
-    let mut w2 = [0u32; 436];
-    let mut k1 = [255u8; 65536];
-    let mut k2 = [255u8; 65536];
+) -> bool {
+    let mut w1 = blank_work();
+    let mut w2 = blank_work();
+    let mut k1 = unused_tally();
+    let mut k2 = unused_tally();
     let a = exchange::begin(n, 1, pair, number, one, t1, &w1, &mut k1);
     let first = a.answer;
     if exchange::refusal_of(first) != 0 {
@@ -131,19 +142,11 @@ fn opened(
     }
     let s1 = a.state;
     let s2 = b.state;
-    exchanged(
-        text,
-        from,
-        number,
-        Boxes { one: s1, two: s2 },
-        t1,
-        t2,
-        &mut w1,
-        &mut w2,
-    )
+    let boxes = Boxes { one: s1, two: s2 };
+    exchanged(text, from, number, boxes, t1, t2, &mut w1, &mut w2)
 }
 
-// All six rounds, each message against the text, then the answer shares.
+// All six rounds, each message against the text, then the answer shares, which only the last round gives.
 fn exchanged(
     text: &[u8],
     from: usize,
@@ -153,50 +156,88 @@ fn exchanged(
     t2: &[u32],
     w1: &mut [u32],
     w2: &mut [u32],
-) -> bool {
-    let mut o1 = [0u32; 2889];
-    let mut o2 = [0u32; 2889];
+) -> bool
+    requires { ⌜ Due number 1 (boxes .one) (boxes .two) (now t1) (now t2) (now w1) (now w2) ⌝ }
+{
     let mut due = boxes;
     let mut answers = [0u32; 2];
     let mut at = from;
     let mut round: u32 = 1;
     while round <= compare::words::LAST_ROUND {
-        let s = due.one;
-        let words = compare::words::words_of(s.n, round);
-        let r = exchange::round(
-            number,
-            round,
-            due,
-            t1,
-            t2,
-            &mut *w1,
-            &mut *w2,
-            &mut o1,
-            &mut o2,
-        );
-        let c = both_same(text, at, words, &o1, &o2);
-        if !c.ok {
+        let r = compared(text, at, number, round, due, t1, t2, &mut *w1, &mut *w2);
+        if !r.ok {
             return false;
         }
-        at = c.at;
-        let a = r.one;
-        let b = r.two;
-        let first = a.answer;
-        let second = b.answer;
-        answers[0] = exchange::share_of(first);
-        answers[1] = exchange::share_of(second);
-        let one = a.state;
-        let two = b.state;
-        due = Boxes { one, two };
+        at = r.at;
+        answers[0] = r.first;
+        answers[1] = r.second;
+        let next = r.boxes;
+        due = next;
         round += 1;
     }
     let c = crate::numbers::same(text, at, &answers);
     c.ok
 }
 
+// After a round: both boxes, the shares of what they answered, how far the text was read, and whether it had both messages.
+struct Round {
+    boxes: Boxes,
+    first: u32,
+    second: u32,
+    at: usize,
+    ok: bool,
+}
+
+// Zeros for the longest message.
+fn blank_words() -> [u32; 2889]
+    ensures { λ r. ⌜ length r ≡ 2889 ⌝ }
+{
+    [0; 2889]
+}
+
+// One round, both messages against the text. After the last no turn is due.
+fn compared(
+    text: &[u8],
+    from: usize,
+    number: u32,
+    round: u32,
+    boxes: Boxes,
+    t1: &[u32],
+    t2: &[u32],
+    w1: &mut [u32],
+    w2: &mut [u32],
+) -> Round
+    requires { ⌜ Due number round (boxes .one) (boxes .two) (now t1) (now t2) (now w1) (now w2) ⌝ }
+    ensures next { λ r. ⌜ (round < 6 → Due number (round + 1) (r .boxes .one) (r .boxes .two)
+        (now (t1 .entry)) (now (t2 .entry)) (now (w1 .exit)) (now (w2 .exit))) ⌝ }
+    ensures read { λ r. ⌜ (from ≤ r .at) × (from ≤ length (now (text .entry)) → r .at ≤ length (now (text .entry))) ⌝ }
+{
+    let mut o1 = blank_words();
+    let mut o2 = blank_words();
+    let s = boxes.one;
+    let words = compare::words::words_of(s.n, round);
+    let heard = exchange::round(number, round, boxes, t1, t2, w1, w2, &mut o1, &mut o2);
+    let c = both_same(text, from, words, &o1, &o2);
+    let a = heard.one;
+    let b = heard.two;
+    let first = a.answer;
+    let second = b.answer;
+    let one = a.state;
+    let two = b.state;
+    Round {
+        boxes: Boxes { one, two },
+        first: exchange::share_of(first),
+        second: exchange::share_of(second),
+        at: c.at,
+        ok: c.ok,
+    }
+}
+
 // Whether the next numbers are both messages.
 fn both_same(text: &[u8], from: usize, words: usize, o1: &[u32], o2: &[u32]) -> Cursor
     requires { ⌜ (words ≤ length (now o1)) × (words ≤ length (now o2)) ⌝ }
+    ensures { λ r. ⌜ (from ≤ r .at) × (from ≤ length (now (text .entry)) → r .at ≤ length (now (text .entry)))
+        × (r .ok ≡ true → from + words + words ≤ r .at) ⌝ }
 {
     let c = crate::numbers::same(text, from, &o1[..words]);
     if !c.ok {

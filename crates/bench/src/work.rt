@@ -1,41 +1,14 @@
-// Processor times of the same work done often. The work's result comes back with its time, so that none of it can be left out.
+// The same work done often. Its result comes back, so that none of it can be left out.
 use exchange::Shares;
 ghost use mathlib.Core.Path.{_≡_};
 ghost use mathlib.Core.Bool.{true};
 ghost use Prim.Native.Nat.{_≤_};
 ghost use lib.ListN.{length};
 ghost use Rattle.field.specs.Width.{listed};
-ghost use Rattle.tape.specs.Layout.{tapeLength};
 
 const PAIR: u32 = 1;
 
 const NUMBER: u32 = 0;
-
-pub struct Taken {
-    pub time: u64,
-    pub result: u32,
-}
-
-fn ticks() -> u64 {
-    let t = libc::clock();
-    if t < 0 {
-        return 0;
-    }
-    t as u64
-}
-
-fn since(from: u64, result: u32) -> Taken
-    ensures { λ r. ⌜ r .result ≡ result ⌝ }
-{
-    let to = ticks();
-    if to < from {
-        return Taken { time: 0, result };
-    }
-    Taken {
-        time: to - from,
-        result,
-    }
-}
 
 // Zeros for the longest message.
 fn message() -> [u32; 2889]
@@ -45,17 +18,16 @@ fn message() -> [u32; 2889]
 }
 
 // Whole jobs of both boxes.
-pub fn jobs(n: u32, count: u32, t1: &[u32], t2: &[u32]) -> Taken
+pub fn jobs(n: u32, count: u32, t1: &[u32], t2: &[u32]) -> u32
     requires { ⌜ listed n ≡ true ⌝ }
 {
-    let from = ticks();
     let mut result: u32 = 0;
     let mut i = 0;
     while i < count {
         result ^= job(n, i % 7, t1, t2);
         i += 1;
     }
-    since(from, result)
+    result
 }
 
 // One of them: x = 3 and y + 1 modulo 7, at width 3.
@@ -89,18 +61,21 @@ fn job(n: u32, y: u32, t1: &[u32], t2: &[u32]) -> u32
 }
 
 // Checks of both tapes.
-pub fn checks(n: u32, count: u32, t1: &[u32], t2: &[u32]) -> Taken {
-    let from = ticks();
+pub fn checks(n: u32, count: u32, t1: &[u32], t2: &[u32]) -> u32 {
     let mut result: u32 = 0;
     let mut i = 0;
     while i < count {
-        if tape::in_order(t1, n, PAIR, 1 + i % 2, NUMBER) {
-            result ^= 1;
-        }
-        if tape::in_order(t2, n, PAIR, 2 - i % 2, NUMBER) {
-            result ^= 1;
-        }
+        result ^= check(n, i % 2, t1, t2);
         i += 1;
     }
-    since(from, result)
+    result
+}
+
+// One of them. The box that is asked for changes from turn to turn, so that no turn can be taken for another.
+fn check(n: u32, turn: u32, t1: &[u32], t2: &[u32]) -> u32
+    requires { ⌜ turn ≤ 1 ⌝ }
+{
+    let one = tape::in_order(t1, n, PAIR, 1 + turn, NUMBER);
+    let two = tape::in_order(t2, n, PAIR, 2 - turn, NUMBER);
+    if one == two { 1 } else { 0 }
 }
