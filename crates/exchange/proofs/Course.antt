@@ -9,7 +9,7 @@ use Rattle.protocol.specs.Rounds.{roundWords, message, afterHearing, answerShar
 use Rattle.protocol.proofs.Lengths.{most-words}
 use Rattle.rules.specs.Answers.{share, replyOf}
 use Rattle.rules.specs.Calls.{outcome, partyOf}
-use Rattle.rules.proofs.Passed.{ranged}
+use Rattle.rules.proofs.Ranges.{ranged}
 use Rattle.rules.specs.declared.state.Turn.the-variants.{Speak}
 use Rattle.rules.specs.declared.state.State.{State}
 use Rattle.rules.specs.declared.state.Outcome.{Outcome}

@@ -18,7 +18,7 @@ use Rattle.rules.specs.Tally.{tapesOf}
 use Rattle.rules.specs.Modes.{roundOf, roundFits, phaseFits, sameTurn}
 use Rattle.rules.specs.Grounds.{firstOf, wordsFit, turnGrounds, speakGround, hearGround}
 use Rattle.rules.specs.Calls.{Result, outcome, inPhase, xOf, yOf, partyOf, turned, speakRule, hearRule}
-use Rattle.rules.proofs.Passed.{ranged, range-mode}
+use Rattle.rules.proofs.Ranges.{ranged, range-mode}
 use Rattle.rules.specs.declared.state.Turn.{Turn}
 use Rattle.rules.specs.declared.state.Turn.the-variants.{Speak, Hear}
 use Rattle.rules.specs.declared.state.Phase.{Phase}

@@ -10,7 +10,7 @@ use Rattle.protocol.specs.Rounds.{roundWords, message}
 use Rattle.protocol.proofs.Lengths.{message-length, message-front}
 use Rattle.rules.specs.Grounds.{wordsFit}
 use Rattle.rules.specs.Calls.{Result, outcome, inPhase, partyOf, turned, speakRule, hearRule}
-use Rattle.rules.proofs.Passed.{ranged}
+use Rattle.rules.proofs.Ranges.{ranged}
 use Rattle.rules.proofs.Spoken.{message-fits}
 use Rattle.rules.specs.declared.state.Turn.the-variants.{Speak, Hear}
 use Rattle.rules.specs.declared.state.State.{State}

@@ -8,7 +8,7 @@ use Rattle.field.specs.Width.{modulus}
 use Rattle.rules.specs.Tally.{tapesOf}
 use Rattle.rules.specs.Modes.{roundOf, roundFits, phaseFits, inRange}
 use Rattle.rules.specs.Calls.{inPhase, xOf, yOf, partyOf, turned}
-use Rattle.rules.proofs.Passed.{ranged}
+use Rattle.rules.proofs.Ranges.{ranged}
 use Rattle.rules.specs.declared.state.Turn.{Turn}
 use Rattle.rules.specs.declared.state.Phase.{Phase}
 use Rattle.rules.specs.declared.state.Phase.the-variants.{Asleep, Idle, Job}

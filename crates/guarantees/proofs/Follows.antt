@@ -28,7 +28,9 @@ use Rattle.guarantees.specs.Run.{Lending, Setting, Memory, Said, nothing
 use Rattle.guarantees.specs.Premises.{True, Keeps}
 use Rattle.guarantees.proofs.Jobs.{partyAt, holding, sentBy, answerBy, sent-is, holding-next, answer-is, holding-room}
 use Rattle.rules.proofs.Spoken.{spoken-front}
-use Rattle.rules.proofs.Passed.{decide, pass, start-passed, speak-passed, hear-passed, awake-mode, awake-listed, Due, due-job, job-range}
+use Rattle.rules.proofs.Chains.{decide, pass}
+use Rattle.rules.proofs.Ranges.{awake-mode, awake-listed, Due, job-range}
+use Rattle.rules.proofs.Passed.{start-passed, speak-passed, hear-passed}
 
 module _ (g : Setting) (pair : ℕ) (book : Box → ℕ → ℕ → Lending) where
   -- ---- what holds of one box
@@ -234,7 +236,7 @@ module _ (g : Setting) (pair : ℕ) (book : Box → ℕ → ℕ → Lending) whe
       decide (Spoken b m number round) (speakGround (m .state) number round (tapeWords g lent) (m .work) out) (m .state) out _
       (λ zero-ground.
       let p = speak-passed (m .state) number round (tapeWords g lent) (m .work) out zero-ground in
-      let j = going b m number round (Speak round) lent h (p .awake) (due-job (m .state) number (Speak round) (p .awake) (p .due)) (keeps zero-ground) in
+      let j = going b m number round (Speak round) lent h (p .turn .awake) (p .turn .due) (keeps zero-ground) in
       let i = j .inside in
       record {
         holds = record {
@@ -355,7 +357,7 @@ module _ (g : Setting) (pair : ℕ) (book : Box → ℕ → ℕ → Lending) whe
       let p = hear-passed (m .state) number round (tapeWords g lent) (m .work) words zero-ground in
       let k = keeps zero-ground in
       hear-goes b m number round (tapeWords g lent) words
-      (going b m number round (Hear round) lent h (p .awake) (due-job (m .state) number (Hear round) (p .awake) (p .due)) (k .0)) (k .1))
+      (going b m number round (Hear round) lent h (p .turn .awake) (p .turn .due) (k .0)) (k .1))
       (record { holds = kept b m (m .tally) h; answer = refl })
 
   -- ---- the log and the worlds

@@ -19,7 +19,8 @@ use Rattle.guarantees.specs.Boxes.{Box, first, second}
 use Rattle.guarantees.specs.Entries.{Lent, Step, wake, start, speak, hear, drop, cut, cutStart, Entry}
 use Rattle.guarantees.specs.Run.{Setting, Memory, replied, Event, World, memoryOf, after, eventAt, tapeWords, incomingWords, stepped, run}
 use Rattle.guarantees.proofs.Places.{sameBox, isStarted, opens, openedAt}
-use Rattle.rules.proofs.Passed.{decide, start-passed}
+use Rattle.rules.proofs.Chains.{decide}
+use Rattle.rules.proofs.Passed.{start-passed}
 use Rattle.guarantees.proofs.Logs.{log-length, event-before, event-end}
 
 -- no event of the log opened a job of this box under a number that is fresh

@@ -21,7 +21,8 @@ use Rattle.guarantees.specs.Entries.{Incoming, spokenAt, other, Step, wa
 use Rattle.guarantees.specs.Run.{Setting, Memory, replied, Event, World, memoryOf, after, eventAt, tapeWords, incomingWords, spokenWords, stepped, run}
 use Rattle.guarantees.specs.Premises.{True, Keeps, Meets, Compatible, AllCompatible}
 use Rattle.guarantees.proofs.Twins.{Twin, Skeleton}
-use Rattle.rules.proofs.Passed.{decide, speak-passed, awake-listed}
+use Rattle.rules.proofs.Chains.{decide}
+use Rattle.rules.proofs.Passed.{speak-passed}
 use Rattle.rules.proofs.Spoken.{spoken-front, message-fits}
 use Rattle.guarantees.proofs.Turns.{asleep-same, job-same, due-same}
 use Rattle.guarantees.proofs.Refusals.{OrderAlike, speak-same, hear-same}
@@ -117,7 +118,7 @@ speak-fits s number round tape work out =
     (λ zero-ground told.
     let p = speak-passed s number round tape work out zero-ground in
     subst (λ (l : List ℕ). wordsFit (s .n) l ≡ true) (sym (spoken-front s tape work out round (p .out-room)))
-    (message-fits s tape work round (awake-listed s (p .awake))))
+    (message-fits s tape work round (p .turn .sound .width)))
     (λ told. absurd (false≢true told))
 
 fits-none : (n : ℕ) → wordsFit n [] ≡ true

@@ -4,13 +4,11 @@ use mathlib.Core.Path.{_≡_, refl, sym, ap, _∙_}
 use mathlib.Core.List.{List, _++_}
 use native.Mathlib.Omega.{arith}
 use borrow.Author.Tests.{eq-eqb, ne-eqb}
-use Rattle.field.specs.Width.{listed}
 use Rattle.protocol.specs.Rounds.{afterHearing, answerShare, replyTo}
 use Rattle.rules.specs.Answers.{numberOf}
-use Rattle.rules.specs.Grounds.{Ground, firstOf, turnGrounds, hearGround}
+use Rattle.rules.specs.Grounds.{Ground, firstOf, hearGround}
 use Rattle.rules.specs.Calls.{Result, outcome, unless, inPhase, partyOf, turned, hearRule}
-use Rattle.rules.proofs.Passed.{none, first-some, awake-listed}
-use Rattle.rules.specs.declared.state.Turn.{Turn}
+use Rattle.rules.proofs.Chains.{first-some}
 use Rattle.rules.specs.declared.state.Turn.the-variants.{Speak}
 use Rattle.rules.specs.declared.state.Phase.the-variants.{Idle}
 use Rattle.rules.specs.declared.state.State.{State}
@@ -21,7 +19,6 @@ use Rattle.rules.specs.declared.state.Refusal.the-variants.{Asleep, Width, Side
 use Rattle.limit_box.specs.Checks.{groundOf}
 use Rattle.limit_box.specs.declared.checks.Check.{Check}
 use Rattle.limit_box.specs.declared.checks.Check.the-variants.{Passed, Refused}
-use mathlib.Core.Bool.{true}
 
 -- a refusal's number is not 0
 numbered : (r : Refusal) → 0 < numberOf r
@@ -47,10 +44,6 @@ refused-first check refusal gs hs e told = sym (first-some gs hs (numberOf refus
 
 pub passed-ground : (check : Check) (ground : ℕ) → check ≡ Passed → groundOf check ≡ ground → ground ≡ 0
 passed-ground check ground e told = sym told ∙ ap groundOf e
-
--- where a turn's grounds don't hold, the width is listed
-pub turn-listed : (s : State) (number : ℕ) (turn : Turn) (tape : List ℕ) → firstOf (turnGrounds s number turn tape) ≡ 0 → listed (s .n) ≡ true
-turn-listed s number turn tape e = awake-listed s (none (turnGrounds s number turn tape) (omega arith) e .0)
 
 -- ---- the outcome
 

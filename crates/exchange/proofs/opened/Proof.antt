@@ -6,7 +6,7 @@ use Rattle.field.specs.Width.{modulus}
 use Rattle.protocol.specs.Products.{Party}
 use Rattle.protocol.specs.Exchange.{Both, answerOwn, answerOthers}
 use Rattle.rules.specs.Calls.{partyOf}
-use Rattle.rules.proofs.Passed.{ranged}
+use Rattle.rules.proofs.Ranges.{ranged}
 use Rattle.exchange.specs.Opening.{shareOf}
 use Rattle.exchange.specs.Boxes.{works}
 use Rattle.exchange.proofs.Exchanges.{own-below, others-below}

@@ -3,7 +3,7 @@ use Prim.Native.Nat.{ℕ}
 use mathlib.Core.Path.{sym, ap, _∙_}
 use borrow.Author.Needs.{needs}
 use Rattle.protocol.specs.Rounds.{roundWords}
-use Rattle.rules.proofs.Passed.{ranged}
+use Rattle.rules.proofs.Ranges.{ranged}
 use Rattle.exchange.proofs.Told.{Told, told, hears}
 use Rattle.exchange.proofs.round.Statement.{statement}
 use Rattle.exchange.proofs.round.Tie as tie

@@ -6,8 +6,9 @@ use Rattle.tape.proofs.Orders.{readable}
 use Rattle.protocol.specs.Products.{party}
 use Rattle.protocol.specs.Rounds.{afterHearing, replyTo}
 use Rattle.rules.specs.Grounds.{hearGround}
-use Rattle.rules.specs.Calls.{xOf, yOf, partyOf, hearRule}
-use Rattle.rules.proofs.Passed.{HearPassed, hear-passed, Due, due-job, JobRange, due-range, due-turned, Ranged, ranged, awake-range, words-below}
+use Rattle.rules.specs.Calls.{partyOf, hearRule}
+use Rattle.rules.proofs.Ranges.{due-turned}
+use Rattle.rules.proofs.Passed.{HearPassed, hear-passed, words-below}
 use Rattle.rules.specs.declared.state.Turn.the-variants.{Speak, Hear}
 use Rattle.limit_box.proofs.Outcomes.{refused-outcome, passed-ground, last-outcome, more-outcome}
 use borrow.Author.Needs.{needs}
@@ -29,19 +30,6 @@ passed : (c : tie.After-enum-told)
 passed c =
     let a = start c .args in
     hear-passed (a .state) (a .number) (a .round) (a .tape .now) (a .work .now) (a .incoming .now) (goes c)
-
-sound : (c : tie.After-enum-told) → Ranged (start c .args .state)
-sound c = let s = start c .args .state in ranged s (awake-range s (passed c .awake))
-
-due : (c : tie.After-enum-told) → let a = start c .args in Due (a .state) (a .number) (Hear (a .round))
-due c =
-    let a = start c .args in
-    due-job (a .state) (a .number) (Hear (a .round)) (passed c .awake) (passed c .due)
-
-range : (c : tie.After-enum-told)
-    → let a = start c .args in
-    JobRange (a .state) (Hear (a .round)) (xOf (a .state .phase)) (yOf (a .state .phase))
-range c = let a = start c .args in due-range (a .state) (a .number) (Hear (a .round)) (passed c .awake) (due c)
 
 -- what the hearing gives, of the box that the state is
 reply : (c : tie.After-hear)
@@ -82,15 +70,16 @@ hear-requires c κs =
     let told = c .before .before in
     let a = start told .args in
     let go = passed told in
+    let turn = go .turn in
     let own = c .before .shares-in .ensures in (
       (
-        sound told .sided,
-        rw (own .0) (range told .x-fits),
-        rw (own .1) (range told .y-fits),
-        readable (a .state .n) (a .state .pair) (a .state .side) (a .number) (a .tape .now) (go .ordered),
+        turn .sound .sided,
+        rw (own .0) (turn .range .x-fits),
+        rw (own .1) (turn .range .y-fits),
+        readable (a .state .n) (a .state .pair) (a .state .side) (a .number) (a .tape .now) (turn .ordered),
         go .room,
       ),
-      (words-below (a .state .n) (a .incoming .now) (sound told .width) (go .words), omega (arith, go .long)),
+      (words-below (a .state .n) (a .incoming .now) (passed told .turn .sound .width) (go .words), omega (arith, go .long)),
     )
 
 in-phase-requires : tie.Need-in-phase-requires
@@ -111,7 +100,7 @@ returns c =
 add-t23 : tie.Need-add-t23
 add-t23 c =
     let told = c .before .before .before .before .before .before in
-    omega (arith, range told .last)
+    omega (arith, passed told .turn .range .last)
 
 in-phase-requires-2 : tie.Need-in-phase-requires-2
 in-phase-requires-2 c κs = search needs
@@ -134,7 +123,7 @@ returns-3 c =
     let told = heard .before .before .before in
     let a = start told .args in
     let own = heard .before .before .shares-in .ensures in
-    let next = due-turned (a .state) (a .number) (Hear (a .round)) (Speak (a .round + 1)) (due told) in
+    let next = due-turned (a .state) (a .number) (Hear (a .round)) (Speak (a .round + 1)) (passed told .turn .due) in
     more-outcome (a .state) (a .number) (a .round) (a .tape .now) (a .work .now) (a .incoming .now) (goes told)
     (c .in-phase2 .result) (heard .hear .last .1 .1 .1 .1 .1 .1 .0)
     (c .before .if1 .left) (c .in-phase2 .ensures ∙ rw (own .0, own .1, next) refl) (after heard)

@@ -3,8 +3,9 @@ use mathlib.Core.Path.{sym}
 use native.Mathlib.Omega.{arith}
 use Rattle.tape.proofs.Orders.{readable}
 use Rattle.protocol.proofs.Lengths.{words-most}
-use Rattle.rules.specs.Calls.{xOf, yOf, speakRule}
-use Rattle.rules.proofs.Passed.{SpeakPassed, speak-passed, Due, due-job, JobRange, due-range, due-turned, Ranged, ranged, awake-range}
+use Rattle.rules.specs.Calls.{speakRule}
+use Rattle.rules.proofs.Ranges.{due-turned}
+use Rattle.rules.proofs.Passed.{SpeakPassed, speak-passed}
 use Rattle.rules.specs.declared.state.Turn.the-variants.{Speak, Hear}
 use Rattle.limit_box.proofs.Outcomes.{refused-outcome, passed-outcome, passed-ground}
 use borrow.Author.Needs.{needs}
@@ -22,19 +23,6 @@ passed c =
     let a = start c .args in
     speak-passed (a .state) (a .number) (a .round) (a .tape .now) (a .work .now) (a .out .now)
     (passed-ground _ _ (c .enum-told .given .1) (c .before .before .speak-check .ensures))
-
-due : (c : tie.After-enum-told) → let a = start c .args in Due (a .state) (a .number) (Speak (a .round))
-due c =
-    let a = start c .args in
-    due-job (a .state) (a .number) (Speak (a .round)) (passed c .awake) (passed c .due)
-
-range : (c : tie.After-enum-told)
-    → let a = start c .args in
-    JobRange (a .state) (Speak (a .round)) (xOf (a .state .phase)) (yOf (a .state .phase))
-range c = let a = start c .args in due-range (a .state) (a .number) (Speak (a .round)) (passed c .awake) (due c)
-
-sound : (c : tie.After-enum-told) → Ranged (start c .args .state)
-sound c = let s = start c .args .state in ranged s (awake-range s (passed c .awake))
 
 speak-check-requires : tie.Need-speak-check-requires
 speak-check-requires c κs = search needs
@@ -56,24 +44,25 @@ speak-requires c κs =
     let told = c .before .before in
     let a = start told .args in
     let go = passed told in
+    let turn = go .turn in
     let own = c .before .shares-in .ensures in (
       (
-        sound told .sided,
-        rw (own .0) (range told .x-fits),
-        rw (own .1) (range told .y-fits),
-        readable (a .state .n) (a .state .pair) (a .state .side) (a .number) (a .tape .now) (go .ordered),
+        turn .sound .sided,
+        rw (own .0) (turn .range .x-fits),
+        rw (own .1) (turn .range .y-fits),
+        readable (a .state .n) (a .state .pair) (a .state .side) (a .number) (a .tape .now) (turn .ordered),
       ),
       (go .room, go .out-room),
     )
 
 words-of-requires : tie.Need-words-of-requires
-words-of-requires c κs = sound (c .before .before .before .before .before) .width
+words-of-requires c κs = passed (c .before .before .before .before .before) .turn .sound .width
 
 cast-t20 : tie.Need-cast-t20
 cast-t20 c =
     let told = c .before .before .before .before .before .before in
     let a = start told .args in
-    omega (arith, c .words-of .ensures, words-most (a .state .n) (a .round) (sound told .width))
+    omega (arith, c .words-of .ensures, words-most (a .state .n) (a .round) (passed told .turn .sound .width))
 
 in-phase-requires : tie.Need-in-phase-requires
 in-phase-requires c κs = search needs
@@ -97,7 +86,7 @@ returns-2 c =
     let own = spoken .before .before .shares-in .ensures in
     let told = spoken .before .before .before in
     let a = start told .args in
-    let next = due-turned (a .state) (a .number) (Speak (a .round)) (Hear (a .round)) (due told) in
+    let next = due-turned (a .state) (a .number) (Speak (a .round)) (Hear (a .round)) (passed told .turn .due) in
     rw (c .before .words-of .ensures, c .in-phase .ensures, spoken .speak .ensures, own .0, own .1, ← next)
     (sym (passed-outcome _ _ _ _ _ (told .enum-told .given .1) (told .before .before .speak-check .ensures)))
 

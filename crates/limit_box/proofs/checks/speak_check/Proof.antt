@@ -10,9 +10,10 @@ use Rattle.field.specs.Width.{listed}
 use Rattle.protocol.specs.Work.{workLength}
 use Rattle.protocol.specs.Rounds.{roundWords}
 use Rattle.rules.specs.Grounds.{Ground, _when_, firstOf, turnGrounds, speakGround}
-use Rattle.rules.proofs.Passed.{first-none}
+use Rattle.rules.proofs.Passed.{turn-passed}
+use Rattle.rules.proofs.Chains.{first-none}
 use Rattle.rules.specs.declared.state.Turn.the-variants.{Speak}
-use Rattle.limit_box.proofs.Outcomes.{refused-first, passed-ground, turn-listed}
+use Rattle.limit_box.proofs.Outcomes.{refused-first, passed-ground}
 use borrow.Author.Needs.{needs}
 use Rattle.limit_box.proofs.checks.speak_check.Statement.{statement}
 use Rattle.limit_box.proofs.checks.speak_check.Tie as tie
@@ -43,7 +44,7 @@ goes c =
     first-none (turnGrounds (a .state) (a .number) (Speak (a .round)) (a .tape .now)) (own (start (c .before .before))) (omega arith) (on-turn c)
 
 width : (c : tie.After-enum-told) → listed (start (c .before .before) .args .state .n) ≡ true
-width c = let a = start (c .before .before) .args in turn-listed (a .state) (a .number) (Speak (a .round)) (a .tape .now) (on-turn c)
+width c = let a = start (c .before .before) .args in turn-passed (a .state) (a .number) (Speak (a .round)) (a .tape .now) (on-turn c) .sound .width
 
 -- whether work has room
 room : (c : tie.Else1)

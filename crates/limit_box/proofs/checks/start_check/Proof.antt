@@ -11,7 +11,7 @@ use Rattle.protocol.specs.Work.{workLength}
 use Rattle.rules.specs.Tally.{tapesOf, isFresh}
 use Rattle.rules.specs.Modes.{modeOf, isAsleep, inJob}
 use Rattle.rules.specs.Grounds.{startGround}
-use Rattle.rules.proofs.Passed.{awake-listed}
+use Rattle.rules.proofs.Ranges.{awake-listed}
 use borrow.Author.Needs.{needs}
 use Rattle.limit_box.proofs.checks.start_check.Statement.{statement}
 use Rattle.limit_box.proofs.checks.start_check.Tie as tie

@@ -8,7 +8,7 @@ use Rattle.protocol.specs.Products.{Party}
 use Rattle.protocol.specs.Rounds.{message}
 use Rattle.protocol.proofs.Lengths.{words-most}
 use Rattle.rules.specs.Calls.{partyOf}
-use Rattle.rules.proofs.Passed.{ranged}
+use Rattle.rules.proofs.Ranges.{ranged}
 use Rattle.exchange.proofs.Ready.{heard-next}
 use Rattle.vectors.proofs.job.compared.Statement.{statement}
 use Rattle.vectors.proofs.job.compared.Tie as tie
