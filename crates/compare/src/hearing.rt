@@ -108,6 +108,19 @@ fn hear_levels(n: u32, side: u32, x: u32, y: u32, tape: &[u32], work: &mut [u32]
     work[3 * m + 5] = wraps[2];
 }
 
+// Round 5 is heard: the share of M.
+fn hear_halves(n: u32, side: u32, tape: &[u32], work: &mut [u32], heard: &[u32])
+    requires { ⌜ Readable n (now tape) × (workLength n ≤ length (now work)) ⌝ }
+    requires { ⌜ Below (modulus n) (now heard) × (2 ≤ length (now heard)) ⌝ }
+    ensures { λ _. ⌜ ((x y : ℕ) → now (work .exit) ≡ afterHearing (party n side x y (now (tape .entry))) (now (work .entry)) 5 (now (heard .entry))) ⌝ }
+{
+    let m = n as usize;
+    let triples = tape::section_of(tape, n, tape::TRIPLES);
+    let v = crate::factors::half(n, &*work, 0);
+    let u = crate::factors::half(n, &*work, 1);
+    work[3 * m + 9] = steps::products::close_product(n, side, v, u, triples, 3 * m + 6, heard, 0);
+}
+
 // The answer share, from round 6.
 fn answer(n: u32, side: u32, tape: &[u32], work: &[u32], heard: &[u32]) -> u32
     requires { ⌜ Readable n (now tape) × (workLength n ≤ length (now work)) ⌝ }
@@ -148,7 +161,6 @@ pub fn hear(
         × (now (work .exit) ≡ afterHearing (party n side x y (now (tape .entry))) (now (work .entry)) round (now (heard .entry))) ⌝ }
     ensures below { λ r. ⌜ r < modulus n ⌝ }
 {
-    let m = n as usize;
     match round {
         1 => {
             hear_first(n, side, x, y, tape, work, heard);
@@ -175,19 +187,7 @@ pub fn hear(
             0
         }
         5 => {
-            let triples = tape::section_of(tape, n, tape::TRIPLES);
-            let v = crate::factors::half(n, &*work, 0);
-            let u = crate::factors::half(n, &*work, 1);
-            work[3 * m + 9] = steps::products::close_product(
-                n,
-                side,
-                v,
-                u,
-                triples,
-                3 * m + 6,
-                heard,
-                0,
-            );
+            hear_halves(n, side, tape, work, heard);
             0
         }
         6 => answer(n, side, tape, &*work, heard),

@@ -1,7 +1,7 @@
 // What a box sends in each round.
 ghost use mathlib.Core.Path.{_≡_};
 ghost use mathlib.Core.Bool.{true};
-ghost use Prim.Native.Nat.{_+_, _*_, _<_, _≤_};
+ghost use Prim.Native.Nat.{ℕ, _+_, _*_, _<_, _≤_};
 ghost use lib.ListN.{length};
 ghost use lib.Seq.{sets};
 ghost use Rattle.field.specs.Width.{modulus};
@@ -28,6 +28,25 @@ fn speak_first(n: u32, side: u32, x: u32, y: u32, tape: &[u32], out: &mut [u32])
     steps::squares::open_squares(n, side, tests, squares, &mut *out);
     let triples = tape::section_of(tape, n, tape::TRIPLES);
     steps::products::open_products(n, &lefts, &rights, 1, triples, 3 * m, 3, out, 3 * (m * m));
+}
+
+// Round 6's words: the last product.
+fn speak_last(n: u32, side: u32, tape: &[u32], work: &[u32], out: &mut [u32])
+    requires { ⌜ Readable n (now tape) × (workLength n ≤ length (now work)) × (2 ≤ length (now out)) ⌝ }
+    ensures { λ _. ⌜ ((x y : ℕ) → now (out .exit)
+        ≡ sets (now (out .entry)) 0 (message (party n side x y (now (tape .entry))) (now (work .entry)) 6)) ⌝ }
+{
+    let m = n as usize;
+    let triples = tape::section_of(tape, n, tape::TRIPLES);
+    steps::products::open_product(
+        n,
+        crate::factors::last_left(n, side, work),
+        crate::factors::last_right(n, side, work),
+        triples,
+        3 * m + 7,
+        out,
+        0,
+    );
 }
 
 // Writes the round's words at the front of out.
@@ -73,18 +92,7 @@ pub fn speak(
                 0,
             );
         }
-        6 => {
-            let triples = tape::section_of(tape, n, tape::TRIPLES);
-            steps::products::open_product(
-                n,
-                crate::factors::last_left(n, side, work),
-                crate::factors::last_right(n, side, work),
-                triples,
-                3 * m + 7,
-                out,
-                0,
-            );
-        }
+        6 => speak_last(n, side, tape, work, out),
         _ => {}
     }
 }

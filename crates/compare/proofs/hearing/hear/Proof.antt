@@ -9,7 +9,7 @@ use Rattle.field.proofs.Widths.{bounds}
 use Rattle.protocol.specs.Rounds.{roundWords, afterHearing, replyTo}
 use Rattle.protocol.proofs.Turns.{no-round}
 use Rattle.compare.proofs.Sound.{sound}
-use Rattle.compare.proofs.Heard.{levels-closed, wraps-closed, both-closed}
+use Rattle.compare.proofs.Heard.{levels-closed, wraps-closed}
 use Rattle.compare.proofs.hearing.hear.Statement.{statement}
 use Rattle.compare.proofs.hearing.hear.Tie as tie
 
@@ -65,44 +65,12 @@ close-wraps-requires c κs =
     let triples = sound (s .pre .0 .3) 2 (omega arith) (t .section-of3 .result .now) (t .section-of3 .ensures) in
     ((s .pre .0 .3 .width, s .pre .0 .4), ((triples .below, omega (arith, triples .long)), (s .pre .1 .0, words s 4 (m .match .keys4))))
 
-section-of-requires-4 : tie.Need-section-of-requires-4
-section-of-requires-4 c κs = search needs
-
-half-requires : tie.Need-half-requires
-half-requires c κs = search needs
-
-half-requires-2 : tie.Need-half-requires-2
-half-requires-2 c κs = search needs
-
-mul-close-product : tie.Need-mul-close-product
-mul-close-product c = search needs
-
-add-close-product : tie.Need-add-close-product
-add-close-product c = search needs
-
-close-product-requires : tie.Need-close-product-requires
+hear-halves-requires : tie.Need-hear-halves-requires
 unfolding roundWords
-close-product-requires c κs =
-    let h = c .before .before in
-    let t = h .before .before in
-    let m = t .before in
+hear-halves-requires c κs =
+    let m = c .before in
     let s = m .before .before .before .before in
-    let triples = sound (s .pre .0 .3) 2 (omega arith) (t .section-of4 .result .now) (t .section-of4 .ensures) in (
-      (s .pre .0 .3 .width, h .half .ensures .1, c .half2 .ensures .1),
-      ((triples .below, omega (arith, triples .long)), (s .pre .1 .0, words s 5 (m .match .keys5))),
-    )
-
-mul-work : tie.Need-mul-work
-mul-work c = search needs
-
-add-work : tie.Need-add-work
-add-work c = search needs
-
-mul-work-2 : tie.Need-mul-work-2
-mul-work-2 c = search needs
-
-slice-write-work : tie.Need-slice-write-work
-slice-write-work c = search needs
+    ((s .pre .0 .3, s .pre .0 .4), (s .pre .1 .0, words s 5 (m .match .keys5)))
 
 answer-requires : tie.Need-answer-requires
 unfolding roundWords
@@ -182,21 +150,10 @@ same-length-5 c = search needs
 returns-5 : tie.Need-returns-5
 unfolding replyTo
 returns-5 c =
-    let u = c .before in
-    let v = u .before .before in
-    let t = v .before .before in
-    let m = t .before in
+    let done = c .before .before in
+    let m = done .before .before in
     let s = m .before .before .before .before in
-    let a = s .args in (
-      (
-        rw (m .match .keys5),
-        rw (m .match .keys5)
-            (both-closed (a .n) (a .side) (a .x) (a .y) (a .tape .now) (a .work .now) (a .heard .now)
-            (t .section-of4 .result .now) (v .half .result) (u .half2 .result) (c .close-product .result)
-            (t .section-of4 .ensures) (v .half .ensures .0) (u .half2 .ensures .0) (c .close-product .ensures .0)),
-      ),
-      none s,
-    )
+    ((rw (m .match .keys5), rw (m .match .keys5) (done .hear-halves .ensures (s .args .x) (s .args .y))), none s)
 
 same-length-6 : tie.Need-same-length-6
 same-length-6 c = search needs
@@ -231,16 +188,7 @@ hear-spec =
     hear-levels-requires
     section-of-requires-3
     close-wraps-requires
-    section-of-requires-4
-    half-requires
-    half-requires-2
-    mul-close-product
-    add-close-product
-    close-product-requires
-    mul-work
-    add-work
-    mul-work-2
-    slice-write-work
+    hear-halves-requires
     answer-requires
     same-length
     returns

@@ -10,7 +10,7 @@ use Rattle.tape.proofs.Sections.{section-length}
 use Rattle.protocol.specs.Products.{party}
 use Rattle.protocol.specs.Rounds.{roundWords, message}
 use Rattle.compare.proofs.Parts.{section-words}
-use Rattle.compare.proofs.Messages.{level-message, wrap-message, half-message, last-message, no-message}
+use Rattle.compare.proofs.Messages.{level-message, wrap-message, half-message, no-message}
 use Rattle.compare.proofs.speaking.speak.Statement.{statement}
 use Rattle.compare.proofs.speaking.speak.Tie as tie
 
@@ -138,32 +138,12 @@ open-product-requires c κs =
       (rw t (section-words r 2 (omega arith)), rw t (omega (arith, section-length r 2 (omega arith))), room),
     )
 
-section-of-requires-5 : tie.Need-section-of-requires-5
-section-of-requires-5 c κs = search needs
-
-last-left-requires : tie.Need-last-left-requires
-last-left-requires c κs = search needs
-
-last-right-requires : tie.Need-last-right-requires
-last-right-requires c κs = search needs
-
-mul-open-product-2 : tie.Need-mul-open-product-2
-mul-open-product-2 c = search needs
-
-add-open-product-2 : tie.Need-add-open-product-2
-add-open-product-2 c = search needs
-
-open-product-requires-2 : tie.Need-open-product-requires-2
+speak-last-requires : tie.Need-speak-last-requires
 unfolding roundWords
-open-product-requires-2 c κs =
-    let k = c .before .before .before .before in
+speak-last-requires c κs =
+    let k = c .before in
     let s = k .before .before .before .before in
-    let r = s .pre .0 .3 in
-    let room : 2 ≤ length (s .args .out .now) = rw (k .match .keys6) at (s .pre .1 .1) in
-    let t = c .before .before .before .section-of5 .ensures in (
-      (r .width, c .before .before .last-left .ensures .1, c .before .last-right .ensures .1),
-      (rw t (section-words r 2 (omega arith)), rw t (omega (arith, section-length r 2 (omega arith))), room),
-    )
+    (s .pre .0 .3, s .pre .1 .0, rw (k .match .keys6) at (s .pre .1 .1))
 
 same-length : tie.Need-same-length
 same-length c = search needs
@@ -237,15 +217,9 @@ same-length-6 c = search needs
 returns-6 : tie.Need-returns-6
 returns-6 c =
     let p = c .before .before in
-    let u = p .before .before in
-    let v = u .before in
-    let t = v .before in
-    let k = t .before in
-    let s = k .before .before .before .before in
-    let a = s .args in
-    p .open-product2 .ensures
-    ∙ rw (u .last-right .ensures .0, v .last-left .ensures .0, t .section-of5 .ensures, k .match .keys6)
-    (last-message (party (a .n) (a .side) (a .x) (a .y) (a .tape .now)) (a .work .now) (a .out .now))
+    let k = p .before .before in
+    let a = k .before .before .before .before .args in
+    p .speak-last .ensures (a .x) (a .y) ∙ rw (k .match .keys6)
 
 returns-7 : tie.Need-returns-7
 returns-7 c =
@@ -288,12 +262,7 @@ speak-spec =
     mul-open-product
     add-open-product
     open-product-requires
-    section-of-requires-5
-    last-left-requires
-    last-right-requires
-    mul-open-product-2
-    add-open-product-2
-    open-product-requires-2
+    speak-last-requires
     same-length
     returns
     same-length-2
