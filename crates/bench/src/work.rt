@@ -1,4 +1,4 @@
-// The same work done often. Its result comes back, so that none of it can be left out.
+// The same work done often. How many turns answered 1 comes back, so that none of it can be left out.
 use exchange::Shares;
 ghost use mathlib.Core.Path.{_≡_};
 ghost use mathlib.Core.Bool.{true};
@@ -20,11 +20,12 @@ fn message() -> [u32; 2889]
 // Whole jobs of both boxes.
 pub fn jobs(n: u32, count: u32, t1: &[u32], t2: &[u32]) -> u32
     requires { ⌜ listed n ≡ true ⌝ }
+    ensures { λ r. ⌜ r ≤ count ⌝ }
 {
     let mut result: u32 = 0;
     let mut i = 0;
     while i < count {
-        result ^= job(n, i % 7, t1, t2);
+        result += job(n, i % 7, t1, t2);
         i += 1;
     }
     result
@@ -33,6 +34,7 @@ pub fn jobs(n: u32, count: u32, t1: &[u32], t2: &[u32]) -> u32
 // One of them: x = 3 and y + 1 modulo 7, at width 3.
 fn job(n: u32, y: u32, t1: &[u32], t2: &[u32]) -> u32
     requires { ⌜ listed n ≡ true ⌝ }
+    ensures { λ r. ⌜ r ≤ 1 ⌝ }
 {
     let one = Shares { x: 2, y };
     let two = Shares { x: 1, y: 1 };
@@ -57,15 +59,17 @@ fn job(n: u32, y: u32, t1: &[u32], t2: &[u32]) -> u32
         &mut o1,
         &mut o2,
     );
-    r.less
+    if r.less == 1 { 1 } else { 0 }
 }
 
 // Checks of both tapes.
-pub fn checks(n: u32, count: u32, t1: &[u32], t2: &[u32]) -> u32 {
+pub fn checks(n: u32, count: u32, t1: &[u32], t2: &[u32]) -> u32
+    ensures { λ r. ⌜ r ≤ count ⌝ }
+{
     let mut result: u32 = 0;
     let mut i = 0;
     while i < count {
-        result ^= check(n, i % 2, t1, t2);
+        result += check(n, i % 2, t1, t2);
         i += 1;
     }
     result
@@ -74,6 +78,7 @@ pub fn checks(n: u32, count: u32, t1: &[u32], t2: &[u32]) -> u32 {
 // One of them. The box that is asked for changes from turn to turn, so that no turn can be taken for another.
 fn check(n: u32, turn: u32, t1: &[u32], t2: &[u32]) -> u32
     requires { ⌜ turn ≤ 1 ⌝ }
+    ensures { λ r. ⌜ r ≤ 1 ⌝ }
 {
     let one = tape::in_order(t1, n, PAIR, 1 + turn, NUMBER);
     let two = tape::in_order(t2, n, PAIR, 2 - turn, NUMBER);

@@ -1,13 +1,13 @@
--- `bench::work::checks` meets its contract.
+-- `bench::work::checks` meets its contract: a turn adds at most 1.
 use Prim.Native.Nat.{_-_, _%_, _<_, _≤_}
+use native.Mathlib.Nat.{mod-lt}
 use native.Mathlib.Omega.{arith}
 use borrow.Author.Needs.{needs}
-use native.Mathlib.Nat.{mod-lt}
 use Rattle.bench.proofs.work.checks.Statement.{statement}
 use Rattle.bench.proofs.work.checks.Tie as tie
 
 abbrev Inv-loop : tie.InvT-loop
-Inv-loop n count t1 t2 result₀ i₀ result i = i ≤ count
+Inv-loop n count t1 t2 result₀ i₀ result i = (i ≤ count) × (result ≤ i)
 
 abbrev μ-loop : tie.MeasureT-loop
 μ-loop n count t1 t2 result₀ i₀ result i = count - i
@@ -16,7 +16,12 @@ loop-holds : tie.Need-loop-holds Inv-loop μ-loop
 loop-holds c = search needs
 
 check-requires : tie.Need-check-requires Inv-loop μ-loop
-check-requires c κs = let less : c .before .loop .i % 2 < 2 = mod-lt (c .before .loop .i) (omega arith) in omega (arith, less)
+check-requires c κs =
+    let less : c .before .loop .i % 2 < 2 = mod-lt (c .before .loop .i) (omega arith) in
+    omega (arith, less)
+
+add-result : tie.Need-add-result Inv-loop μ-loop
+add-result c = omega (arith, c .before .before .loop .inv .1, c .check .ensures)
 
 add-i : tie.Need-add-i Inv-loop μ-loop
 add-i c = search needs
@@ -25,12 +30,21 @@ loop-less : tie.Need-loop-less Inv-loop μ-loop
 loop-less c = search needs
 
 loop-again : tie.Need-loop-again Inv-loop μ-loop
-loop-again c = omega arith
+loop-again c = let l = c .before .before in (omega (arith, c .before .loop-test .taken), omega (arith, l .loop .inv .1, c .check .ensures))
 
 returns : tie.Need-returns Inv-loop μ-loop
-returns c = search needs
+returns c = omega (arith, c .before .loop .inv .0, c .before .loop .inv .1)
 
 pub checks-spec : {M : Type 1} → statement M
 checks-spec =
     tie.close
-    (tie.spec Inv-loop μ-loop loop-holds check-requires add-i loop-less loop-again returns)
+    (tie.spec
+    Inv-loop
+    μ-loop
+    loop-holds
+    check-requires
+    add-result
+    add-i
+    loop-less
+    loop-again
+    returns)

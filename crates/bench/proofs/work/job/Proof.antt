@@ -38,6 +38,9 @@ less-requires c κs =
 returns : tie.Need-returns
 returns c = search needs
 
+returns-2 : tie.Need-returns-2
+returns-2 c = search needs
+
 pub job-spec : {M : Type 1} → statement M
 job-spec =
     tie.close
@@ -51,4 +54,5 @@ job-spec =
     slice-aggregate-less-5
     slice-aggregate-less-6
     less-requires
-    returns)
+    returns
+    returns-2)
