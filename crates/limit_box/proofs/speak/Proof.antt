@@ -1,9 +1,9 @@
 -- `limit_box::speak` meets its contract: refused by its check, or the round's words are at the front of out.
-use mathlib.Core.Path.{sym}
+use mathlib.Core.Path.{_≡_, refl, sym, _∙_}
 use native.Mathlib.Omega.{arith}
 use Rattle.tape.proofs.Orders.{readable}
 use Rattle.protocol.proofs.Lengths.{words-most}
-use Rattle.rules.specs.Calls.{speakRule}
+use Rattle.rules.specs.Calls.{inPhase, turned, speakRule}
 use Rattle.rules.proofs.Ranges.{due-turned}
 use Rattle.rules.proofs.Passed.{SpeakPassed, speak-passed}
 use Rattle.rules.specs.declared.state.Turn.the-variants.{Speak, Hear}
@@ -86,8 +86,10 @@ returns-2 c =
     let own = spoken .before .before .shares-in .ensures in
     let told = spoken .before .before .before in
     let a = start told .args in
-    let next = due-turned (a .state) (a .number) (Speak (a .round)) (Hear (a .round)) (passed told .turn .due) in
-    rw (c .before .words-of .ensures, c .in-phase .ensures, spoken .speak .ensures, own .0, own .1, ← next)
+    let s = a .state in
+    let next = due-turned s (a .number) (Speak (a .round)) (Hear (a .round)) (passed told .turn .due) in
+    let state : c .in-phase .result ≡ inPhase s (turned (s .phase) (Hear (a .round))) = c .in-phase .ensures ∙ rw (own .0, own .1, next) refl in
+    rw (c .before .words-of .ensures, state, spoken .speak .ensures, own .0, own .1)
     (sym (passed-outcome _ _ _ _ _ (told .enum-told .given .1) (told .before .before .speak-check .ensures)))
 
 pub speak-spec : {M : Type 1} → statement M
