@@ -56,8 +56,8 @@ module _ (g : Setting) (pair : ℕ) (log : List Event) (es : List Entry) (place 
   booked (speak number round lent out) end = tt
   booked (hear number round lent incoming) end = tt
   booked drop end = tt
-  booked cut end = tt
-  booked (cutStart number lent value) end = tt
+  booked (cut room) end = tt
+  booked (cutStart number lent value room) end = tt
 
   -- the second run's shares stand at the same places
   pub booked-too : (g′ : Setting) (w′ : World) (step : Step) → Skeleton w w′ → Fit g g′ place w w′ c step
@@ -75,5 +75,5 @@ module _ (g : Setting) (pair : ℕ) (log : List Event) (es : List Entry) (place 
   booked-too g′ w′ (speak number round lent out) k f end = tt
   booked-too g′ w′ (hear number round lent incoming) k f end = tt
   booked-too g′ w′ drop k f end = tt
-  booked-too g′ w′ cut k f end = tt
-  booked-too g′ w′ (cutStart number lent value) k f end = tt
+  booked-too g′ w′ (cut room) k f end = tt
+  booked-too g′ w′ (cutStart number lent value room) k f end = tt

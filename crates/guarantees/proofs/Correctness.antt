@@ -55,8 +55,8 @@ module _ (g : Setting) (pair : ℕ) (log : List Event) where
   booked es place w c (speak number round lent out) marked at end = tt
   booked es place w c (hear number round lent incoming) marked at end = tt
   booked es place w c drop marked at end = tt
-  booked es place w c cut marked at end = tt
-  booked es place w c (cutStart number lent value) marked at end = tt
+  booked es place w c (cut room) marked at end = tt
+  booked es place w c (cutStart number lent value room) marked at end = tt
 
   -- a whole run
   record Ran (w : World) : Type 0 where

@@ -55,8 +55,8 @@ compatible-back g g′ place w w′ c (start number lent) k h =
 compatible-back g g′ place w w′ c (speak number round lent out) k h = tt
 compatible-back g g′ place w w′ c (hear number round lent incoming) k h = tt
 compatible-back g g′ place w w′ c drop k h = tt
-compatible-back g g′ place w w′ c cut k h = tt
-compatible-back g g′ place w w′ c (cutStart number lent value) k h =
+compatible-back g g′ place w w′ c (cut room) k h = tt
+compatible-back g g′ place w w′ c (cutStart number lent value room) k h =
     (in-both-back _ _ (memories c k) (h .0), in-both-back _ _ (memories c k) (h .1))
 
 -- ---- tapes

@@ -99,8 +99,8 @@ module _ (g : Setting) (pair : ℕ) (book : Box → ℕ → ℕ → Lending) whe
   Booked place w b (speak number round lent out) = Unit {0}
   Booked place w b (hear number round lent incoming) = Unit {0}
   Booked place w b drop = Unit {0}
-  Booked place w b cut = Unit {0}
-  Booked place w b (cutStart number lent value) = Unit {0}
+  Booked place w b (cut room) = Unit {0}
+  Booked place w b (cutStart number lent value room) = Unit {0}
 
   -- ---- a phase that is settled
 
@@ -115,8 +115,8 @@ module _ (g : Setting) (pair : ℕ) (book : Box → ℕ → ℕ → Lending) whe
   awake-phase : (b : Box) (m : Memory) → Holds b m → isAsleep (modeOf (m .state)) ≡ false → Phased b (m .state) (m .work) (m .state .phase)
   awake-phase b m h awake = subst (Phased b (m .state) (m .work)) (awake-mode (m .state) awake) (h .holds)
 
-  cut-holds : (b : Box) (place : ℕ) (m : Memory) (tally : List ℕ) → Holds b (afterCut g place m tally)
-  cut-holds b place m tally = record { holds = settle b _ _ tt }
+  cut-holds : (b : Box) (place room : ℕ) (m : Memory) (tally : List ℕ) → Holds b (afterCut g place room m tally)
+  cut-holds b place room m tally = record { holds = settle b _ _ tt }
 
   -- a box keeps what it held
   kept : (b : Box) (m : Memory) (tally : List ℕ) → Holds b m → Holds b (record { state = m .state; work = m .work; tally = tally })
@@ -429,7 +429,7 @@ module _ (g : Setting) (pair : ℕ) (book : Box → ℕ → ℕ → Lending) whe
       after-follows w b _ _ f (r .holds) (r .answer)
   follows-next place w b drop f keeps booked =
       after-follows w b _ _ f (drop-holds b (memoryOf w b) (f .each b)) (quiet-drop (memoryOf w b) _ refl)
-  follows-next place w b cut f keeps booked =
-      after-follows w b _ _ f (cut-holds b place (memoryOf w b) _) refl
-  follows-next place w b (cutStart number lent value) f keeps booked =
-      after-follows w b _ _ f (cut-holds b place (memoryOf w b) _) refl
+  follows-next place w b (cut room) f keeps booked =
+      after-follows w b _ _ f (cut-holds b place room (memoryOf w b) _) refl
+  follows-next place w b (cutStart number lent value room) f keeps booked =
+      after-follows w b _ _ f (cut-holds b place room (memoryOf w b) _) refl

@@ -162,8 +162,8 @@ module _ (b : Box) (g g′ : Setting) (pair : ℕ) (book book′ : Box → ℕ �
         hear-same number round _ _ _ _ _ _ (t .state) (t .room) (order-same g g′ pair (a .orders) (a .orders′) (m .state .n) (m .state .pair) (m .state .side) number lent)
         (ap length (words-same incoming)) (ap (wordsFit (m .state .n)) (words-same incoming))
     fit place c drop h = tt
-    fit place c cut h = tt
-    fit place c (cutStart number lent value) h = start-fit g g′ pair (a .orders) (a .orders′) w w′ (j .skeleton) place c number lent (h .0) (h .1)
+    fit place c (cut room) h = tt
+    fit place c (cutStart number lent value room) h = start-fit g g′ pair (a .orders) (a .orders′) w w′ (j .skeleton) place c number lent (h .0) (h .1)
 
     -- the second run keeps to the premises
     pub keeps-too : (place : ℕ) (c : Box) (step : Step) → Fit g g′ place w w′ c step → Keeps g pair place w c step → Keeps g′ pair place w′ c step
@@ -178,8 +178,8 @@ module _ (b : Box) (g g′ : Setting) (pair : ℕ) (book book′ : Box → ℕ �
         let width = memories c (j .skeleton) .state .n in
         (k .0 ∙ ap (dealt c number) width, true-too w w′ (j .skeleton) c number _ _ round incoming width (k .1))
     keeps-too place c drop f h = tt
-    keeps-too place c cut f h = tt
-    keeps-too place c (cutStart number lent value) f h = λ ground. h (f ∙ ground) ∙ ap (dealt c number) (memories c (j .skeleton) .state .n)
+    keeps-too place c (cut room) f h = tt
+    keeps-too place c (cutStart number lent value room) f h = λ ground. h (f ∙ ground) ∙ ap (dealt c number) (memories c (j .skeleton) .state .n)
 
     incoming-next : (place : ℕ) (c : Box) (step : Step) → IncomingSame (stepped g place w c step .log) (stepped g′ place w′ c step .log)
     unfolding stepped
@@ -189,8 +189,8 @@ module _ (b : Box) (g g′ : Setting) (pair : ℕ) (book book′ : Box → ℕ �
     incoming-next place c (hear number round lent incoming) =
         incoming-after w w′ c _ _ _ _ (j .skeleton .places) (j .heard-same) (words-same incoming)
     incoming-next place c drop = incoming-after w w′ c _ _ _ _ (j .skeleton .places) (j .heard-same) refl
-    incoming-next place c cut = incoming-after w w′ c _ _ _ _ (j .skeleton .places) (j .heard-same) refl
-    incoming-next place c (cutStart number lent value) = incoming-after w w′ c _ _ _ _ (j .skeleton .places) (j .heard-same) refl
+    incoming-next place c (cut room) = incoming-after w w′ c _ _ _ _ (j .skeleton .places) (j .heard-same) refl
+    incoming-next place c (cutStart number lent value room) = incoming-after w w′ c _ _ _ _ (j .skeleton .places) (j .heard-same) refl
 
     -- one entry
     pub joint-next : (place : ℕ) (c : Box) (step : Step) → Keeps g pair place w c step → Compatible (g′ .shares) g place w c step

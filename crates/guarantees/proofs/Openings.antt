@@ -184,8 +184,8 @@ marked-next g place w b (hear number round lent incoming) h =
     let m = memoryOf w b in
     dull-after w b _ _ h refl (hear-opens (m .state) number round (tapeWords g lent) (m .work) (incomingWords (w .log) incoming)) (λ k f. f)
 marked-next g place w b drop h = dull-after w b _ _ h refl (drop-opens (memoryOf w b .state)) (λ k f. f)
-marked-next g place w b cut h = dull-after w b _ _ h refl refl (λ k f. f)
-marked-next g place w b (cutStart number lent value) h =
+marked-next g place w b (cut room) h = dull-after w b _ _ h refl refl (λ k f. f)
+marked-next g place w b (cutStart number lent value room) h =
     let m = memoryOf w b in
     dull-after w b _ _ h refl refl
     (cut-keeps (m .state) number (g .shares b place .x) (g .shares b place .y) (tapeWords g lent) (m .work) (m .tally) value)
@@ -245,8 +245,8 @@ one-more g place w b (speak number round lent out) =
 one-more g place w b (hear number round lent incoming) =
     dull-more w b _ _ (hear-opens (memoryOf w b .state) number round (tapeWords g lent) (memoryOf w b .work) (incomingWords (w .log) incoming))
 one-more g place w b drop = dull-more w b _ _ (drop-opens (memoryOf w b .state))
-one-more g place w b cut = dull-more w b _ _ refl
-one-more g place w b (cutStart number lent value) = dull-more w b _ _ refl
+one-more g place w b (cut room) = dull-more w b _ _ refl
+one-more g place w b (cutStart number lent value room) = dull-more w b _ _ refl
 
 pub next-place : (g : Setting) (place : ℕ) (w : World) (b : Box) (step : Step) → length (stepped g place w b step .log) ≡ suc (length (w .log))
 next-place g place w b step =

@@ -118,8 +118,8 @@ keepsTest pair w b (speak number round lent out) = ownTape b number (memoryOf w 
 keepsTest pair w b (hear number round lent incoming) =
     ownTape b number (memoryOf w b .state .n) lent && trueTest (w .log) b number (memoryOf w b .state .n) round incoming
 keepsTest pair w b drop = true
-keepsTest pair w b cut = true
-keepsTest pair w b (cutStart number lent value) = ownTape b number (memoryOf w b .state .n) lent
+keepsTest pair w b (cut room) = true
+keepsTest pair w b (cutStart number lent value room) = ownTape b number (memoryOf w b .state .n) lent
 
 keeps-tested : (g : Setting) (pair place : ℕ) (w : World) (b : Box) (s : Step) → keepsTest pair w b s ≡ true → Keeps g pair place w b s
 keeps-tested g pair place w b (wake n side p) e =
@@ -133,8 +133,8 @@ keeps-tested g pair place w b (hear number round lent incoming) e =
     let said = trueTest (w .log) b number n round incoming in
     λ _. (own-tape b number n lent (and-left own said e), true-message (w .log) b number n round incoming (and-right own said e))
 keeps-tested g pair place w b drop e = tt
-keeps-tested g pair place w b cut e = tt
-keeps-tested g pair place w b (cutStart number lent value) e = λ _. own-tape b number (memoryOf w b .state .n) lent e
+keeps-tested g pair place w b (cut room) e = tt
+keeps-tested g pair place w b (cutStart number lent value room) e = λ _. own-tape b number (memoryOf w b .state .n) lent e
 
 abbrev meetsTest : Setting → ℕ → ℕ → World → List Entry → Bool
 meetsTest g pair place w [] = true
@@ -172,8 +172,8 @@ module _ (shares′ : Box → ℕ → Lending) (g : Setting) where
   compatibleTest place w b (speak number round lent out) = true
   compatibleTest place w b (hear number round lent incoming) = true
   compatibleTest place w b drop = true
-  compatibleTest place w b cut = true
-  compatibleTest place w b (cutStart number lent value) = lendTest place w b
+  compatibleTest place w b (cut room) = true
+  compatibleTest place w b (cutStart number lent value room) = lendTest place w b
 
   abbrev allTest : ℕ → World → List Entry → Bool
   allTest place w [] = true
@@ -196,8 +196,8 @@ module _ (shares′ : Box → ℕ → Lending) (g : Setting) where
   compatible-tested place w b (speak number round lent out) t = tt
   compatible-tested place w b (hear number round lent incoming) t = tt
   compatible-tested place w b drop t = tt
-  compatible-tested place w b cut t = tt
-  compatible-tested place w b (cutStart number lent value) t = both-lent place w b t
+  compatible-tested place w b (cut room) t = tt
+  compatible-tested place w b (cutStart number lent value room) t = both-lent place w b t
 
   all-tested : (place : ℕ) (w : World) (es : List Entry) → allTest place w es ≡ true → AllCompatible shares′ g place w es
   all-tested place w [] t = tt

@@ -100,8 +100,8 @@ compatible-self g place w (e ∷ es) = (one (e .box) (e .step), compatible-self 
     one b (speak number round lent out) = tt
     one b (hear number round lent incoming) = tt
     one b drop = tt
-    one b cut = tt
-    one b (cutStart number lent value) = (inl refl, inl refl)
+    one b (cut room) = tt
+    one b (cutStart number lent value room) = (inl refl, inl refl)
 
 -- ---- the two runs
 

@@ -41,8 +41,8 @@ Fit g g′ place w w′ b (hear number round lent incoming) =
     hearGround (memoryOf w b .state) number round (tapeWords g lent) (memoryOf w b .work) (incomingWords (w .log) incoming)
     ≡ hearGround (memoryOf w′ b .state) number round (tapeWords g′ lent) (memoryOf w′ b .work) (incomingWords (w′ .log) incoming)
 Fit g g′ place w w′ b drop = Unit {0}
-Fit g g′ place w w′ b cut = Unit {0}
-Fit g g′ place w w′ b (cutStart number lent value) =
+Fit g g′ place w w′ b (cut room) = Unit {0}
+Fit g g′ place w w′ b (cutStart number lent value room) =
     startGround (memoryOf w b .state) number (g .shares b place .x) (g .shares b place .y) (tapeWords g lent) (memoryOf w b .work) (memoryOf w b .tally)
     ≡ startGround (memoryOf w′ b .state) number (g′ .shares b place .x) (g′ .shares b place .y) (tapeWords g′ lent) (memoryOf w′ b .work) (memoryOf w′ b .tally)
 
@@ -164,17 +164,14 @@ pub memories : {w w′ : World} (b : Box) → Skeleton w w′ → TwinMemory (me
 memories first k = k .one
 memories second k = k .two
 
--- after a cut: asleep, work as long as it was
-cut-twin : (g g′ : Setting) (place : ℕ) {m m′ : Memory} {tally tally′ : List ℕ} → TwinMemory m m′ → tally ≡ tally′
-    → TwinMemory (afterCut g place m tally) (afterCut g′ place m′ tally′)
-cut-twin g g′ place {m} {m′} t equal =
+-- after a cut: asleep, work as long as the list says
+cut-twin : (g g′ : Setting) (place room : ℕ) {m m′ : Memory} {tally tally′ : List ℕ} → TwinMemory m m′ → tally ≡ tally′
+    → TwinMemory (afterCut g place room m tally) (afterCut g′ place room m′ tally′)
+cut-twin g g′ place room t equal =
     record {
       state = in-phase (t .state) (same _);
       tally = equal;
-      room =
-          length-tabulate (length (m .work)) (g .leftovers place)
-          ∙ t .room
-          ∙ sym (length-tabulate (length (m′ .work)) (g′ .leftovers place));
+      room = length-tabulate room (g .leftovers place) ∙ sym (length-tabulate room (g′ .leftovers place));
     }
 
 -- one box's memory and the log go on alike
@@ -234,11 +231,11 @@ next g g′ place w w′ b drop k fit =
     after-skeleton b k
     (record { state = r .state; tally = t .tally; room = t .room })
     (record { box = refl; number = refl; width = t .state .n; round = refl; said = r .reply; long = refl })
-next g g′ place w w′ b cut k fit =
+next g g′ place w w′ b (cut room) k fit =
     let t = memories b k in
-    after-skeleton b k (cut-twin g g′ place t (t .tally))
+    after-skeleton b k (cut-twin g g′ place room t (t .tally))
     (record { box = refl; number = refl; width = t .state .n; round = refl; said = refl; long = refl })
-next g g′ place w w′ b (cutStart number lent value) k fit =
+next g g′ place w w′ b (cutStart number lent value room) k fit =
     let t = memories b k in
-    after-skeleton b k (cut-twin g g′ place t (rw (fit, t .tally)))
+    after-skeleton b k (cut-twin g g′ place room t (rw (fit, t .tally)))
     (record { box = refl; number = refl; width = t .state .n; round = refl; said = refl; long = refl })

@@ -132,8 +132,8 @@ fitting-next g place w c (speak number round lent out) f =
     fitting-after w c _ _ f (speak-fits (memoryOf w c .state) number round (tapeWords g lent) (memoryOf w c .work) out)
 fitting-next g place w c (hear number round lent incoming) f = fitting-after w c _ _ f (λ told. fits-none (memoryOf w c .state .n))
 fitting-next g place w c drop f = fitting-after w c _ _ f (λ told. fits-none (memoryOf w c .state .n))
-fitting-next g place w c cut f = fitting-after w c _ _ f (λ told. fits-none (memoryOf w c .state .n))
-fitting-next g place w c (cutStart number lent value) f = fitting-after w c _ _ f (λ told. fits-none (memoryOf w c .state .n))
+fitting-next g place w c (cut room) f = fitting-after w c _ _ f (λ told. fits-none (memoryOf w c .state .n))
+fitting-next g place w c (cutStart number lent value room) f = fitting-after w c _ _ f (λ told. fits-none (memoryOf w c .state .n))
 
 -- ---- two runs
 
@@ -173,8 +173,8 @@ module _ (g g′ : Setting) (pair : ℕ) (orders : InOrder g pair) (orders′ : 
       true-fits (w .log) (j .fits) c number (s .n) round incoming
       (true-back w w′ (j .skeleton) c number _ _ round incoming (t .state .n) (keeps′ taken .1)))
   fit place w w′ c drop j h keeps keeps′ = tt
-  fit place w w′ c cut j h keeps keeps′ = tt
-  fit place w w′ c (cutStart number lent value) j h keeps keeps′ =
+  fit place w w′ c (cut room) j h keeps keeps′ = tt
+  fit place w w′ c (cutStart number lent value room) j h keeps keeps′ =
       start-fit g g′ pair orders orders′ w w′ (j .skeleton) place c number lent (h .0) (h .1)
 
   steady-next : (place : ℕ) (w w′ : World) (c : Box) (step : Step) → Steady w w′ → Fit g g′ place w w′ c step

@@ -21,10 +21,10 @@ pub data Step : Type 0 where
   speak : (number round : ℕ) → Lent → (out : List ℕ) → Step
   hear : (number round : ℕ) → Lent → Incoming → Step
   drop : Step
-  -- the power fails between two calls
-  cut : Step
+  -- the power fails between two calls; work has so many words then
+  cut : (room : ℕ) → Step
   -- the power fails in a start's mark, which leaves the value there
-  cutStart : (number : ℕ) → Lent → (value : ℕ) → Step
+  cutStart : (number : ℕ) → Lent → (value room : ℕ) → Step
 
 pub record Entry : Type 0 where
   pub box : Box

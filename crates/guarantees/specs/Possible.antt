@@ -80,9 +80,9 @@ jobFrom place =
 unfoldable pub whole : List Entry
 whole = wakes first ∷ wakes second ∷ jobFrom 2
 
--- at first the power fails in box 1's mark, which leaves FF there; the later job is on that very tape
+-- at first the power fails in box 1's mark, which leaves FF there, and a word more in work; the later job is on that very tape
 unfoldable pub again : List Entry
-again = wakes first ∷ wakes second ∷ (first does cutStart 0 (dealt first 0 3) 255) ∷ wakes first ∷ jobFrom 4
+again = wakes first ∷ wakes second ∷ (first does cutStart 0 (dealt first 0 3) 255 (workLength 3 + 1)) ∷ wakes first ∷ jobFrom 4
 
 -- the box answers at that place, on tape 0, with that share
 pub record AnswersAt (log : List Event) (place : ℕ) (b : Box) (v : ℕ) : Type 0 where

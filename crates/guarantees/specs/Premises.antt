@@ -40,8 +40,8 @@ Keeps g pair place w b (hear number round lent incoming) =
     hearGround (memoryOf w b .state) number round (tapeWords g lent) (memoryOf w b .work) (incomingWords (w .log) incoming) ≡ 0
     → (lent ≡ dealt b number (memoryOf w b .state .n)) × True (w .log) b number (memoryOf w b .state .n) round incoming
 Keeps g pair place w b drop = Unit {0}
-Keeps g pair place w b cut = Unit {0}
-Keeps g pair place w b (cutStart number lent value) =
+Keeps g pair place w b (cut room) = Unit {0}
+Keeps g pair place w b (cutStart number lent value room) =
     startGround (memoryOf w b .state) number (g .shares b place .x) (g .shares b place .y) (tapeWords g lent) (memoryOf w b .work) (memoryOf w b .tally) ≡ 0
     → lent ≡ dealt b number (memoryOf w b .state .n)
 
@@ -74,8 +74,8 @@ Compatible shares′ g place w b (start number lent) =
 Compatible shares′ g place w b (speak number round lent out) = Unit {0}
 Compatible shares′ g place w b (hear number round lent incoming) = Unit {0}
 Compatible shares′ g place w b drop = Unit {0}
-Compatible shares′ g place w b cut = Unit {0}
-Compatible shares′ g place w b (cutStart number lent value) =
+Compatible shares′ g place w b (cut room) = Unit {0}
+Compatible shares′ g place w b (cutStart number lent value room) =
     InBoth (memoryOf w b) (g .shares b place .x) (shares′ b place .x) × InBoth (memoryOf w b) (g .shares b place .y) (shares′ b place .y)
 
 abbrev pub AllCompatible : (Box → ℕ → Lending) → Setting → ℕ → World → List Entry → Type 0

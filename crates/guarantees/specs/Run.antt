@@ -3,7 +3,7 @@ use Prim.Native.Nat.{ℕ, zero, suc}
 use mathlib.Core.Bool.{cond}
 use mathlib.Core.List.{List, [], _∷_, _++_}
 use lib.Dec.{eqb}
-use lib.ListN.{length, take}
+use lib.ListN.{take}
 use Rattle.lists.specs.Tabulate.{tabulate}
 use Rattle.field.specs.Width.{listed}
 use Rattle.rules.specs.Answers.{Reply, fresh, started, spoke, heard, share, dropped, refused}
@@ -90,10 +90,10 @@ spokenWords (share v) out = []
 spokenWords dropped out = []
 spokenWords (refused k) out = []
 
--- after a cut: asleep, the tally as it is, any words in work
-abbrev pub afterCut : Setting → ℕ → Memory → List ℕ → Memory
-afterCut g place m tally =
-    record { state = asleepState (m .state); work = tabulate (length (m .work)) (g .leftovers place); tally = tally }
+-- after a cut: asleep, the tally as it is, any words in work, as many as the list says
+abbrev pub afterCut : Setting → ℕ → ℕ → Memory → List ℕ → Memory
+afterCut g place room m tally =
+    record { state = asleepState (m .state); work = tabulate room (g .leftovers place); tally = tally }
 
 -- one entry, at its place of the list
 unfoldable pub stepped : Setting → ℕ → World → Box → Step → World
@@ -131,14 +131,14 @@ stepped g place w b drop =
     let r = dropRule (m .state) in
     after w b (record { state = r .state; work = m .work; tally = m .tally })
     (record { box = b; number = 0; width = m .state .n; round = 0; said = replied (r .reply); spoken = []; incoming = [] })
-stepped g place w b cut =
+stepped g place w b (cut room) =
     let m = memoryOf w b in
-    after w b (afterCut g place m (m .tally))
+    after w b (afterCut g place room m (m .tally))
     (record { box = b; number = 0; width = m .state .n; round = 0; said = nothing; spoken = []; incoming = [] })
-stepped g place w b (cutStart number lent value) =
+stepped g place w b (cutStart number lent value room) =
     let m = memoryOf w b in
     let k = startGround (m .state) number (g .shares b place .x) (g .shares b place .y) (tapeWords g lent) (m .work) (m .tally) in
-    after w b (afterCut g place m (cond (eqb k 0) (cutMarked (m .tally) number value) (m .tally)))
+    after w b (afterCut g place room m (cond (eqb k 0) (cutMarked (m .tally) number value) (m .tally)))
     (record { box = b; number = number; width = m .state .n; round = 0; said = nothing; spoken = []; incoming = [] })
 
 -- the entries from a place on
