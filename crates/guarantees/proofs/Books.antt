@@ -12,15 +12,12 @@ use Rattle.rules.specs.Grounds.{startGround}
 use Rattle.guarantees.specs.Boxes.{Box}
 use Rattle.guarantees.specs.Entries.{Lent, Step, wake, start, speak, hear, drop, cut, cutStart, Entry}
 use Rattle.guarantees.specs.Run.{Lending, Setting, Event, World, memoryOf, tapeWords, stepped, run}
-use Rattle.guarantees.proofs.Places.{openedAt}
+use Rattle.guarantees.specs.Maps.{openedAt, clip}
 use Rattle.rules.proofs.Passed.{start-passed}
 use Rattle.guarantees.proofs.Twins.{Skeleton}
 use Rattle.guarantees.proofs.Skeletons.{Fit, memories}
 use Rattle.guarantees.proofs.Openings.{Marked, found}
 use Rattle.guarantees.proofs.Follows.{Booked}
-
-abbrev pub clip : ℕ → Lending → Lending
-clip n v = record { x = v .x % modulus n; y = v .y % modulus n }
 
 pub clip-same : (n : ℕ) (v : Lending) → v .x < modulus n → v .y < modulus n → clip n v ≡ v
 clip-same n v lx ly = rw (mod-eq-of-lt lx, mod-eq-of-lt ly) refl

@@ -23,7 +23,7 @@ use Rattle.guarantees.specs.Boxes.{Box, first, second, sideOf}
 use Rattle.guarantees.specs.Entries.{Step, wake, start, speak, hear, drop, cut, cutStart, Entry}
 use Rattle.guarantees.specs.Run.{Lending, Setting, Said, nothing, replied, Event, World, memoryOf, eventAt, stepped, run}
 use Rattle.guarantees.specs.Premises.{Meets}
-use Rattle.guarantees.proofs.Places.{sameBox, isStarted, opens, openedAt}
+use Rattle.guarantees.specs.Maps.{sameBox, isStarted, opens, openedAt}
 use Rattle.guarantees.specs.Correctness.{Told, Correctness}
 use Rattle.guarantees.proofs.Jobs.{blank, answerBy}
 use Rattle.guarantees.proofs.Openings.{Marked, marked-next, Once, once-next, one-more, next-place, run-grows, found, same-box, same-self}

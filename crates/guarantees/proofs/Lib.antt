@@ -1,4 +1,3 @@
-pub mod Places
 pub mod Twins
 pub mod Jobs
 pub mod Follows

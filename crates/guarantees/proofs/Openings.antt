@@ -18,7 +18,7 @@ use Rattle.rules.proofs.Marks.{marked-spent, marked-other, cut-other}
 use Rattle.guarantees.specs.Boxes.{Box, first, second}
 use Rattle.guarantees.specs.Entries.{Lent, Step, wake, start, speak, hear, drop, cut, cutStart, Entry}
 use Rattle.guarantees.specs.Run.{Setting, Memory, replied, Event, World, memoryOf, after, eventAt, tapeWords, incomingWords, stepped, run}
-use Rattle.guarantees.proofs.Places.{sameBox, isStarted, opens, openedAt}
+use Rattle.guarantees.specs.Maps.{sameBox, isStarted, opens, openedAt}
 use Rattle.rules.proofs.Chains.{decide}
 use Rattle.rules.proofs.Passed.{start-passed}
 use Rattle.guarantees.proofs.Logs.{log-length, event-before, event-end}

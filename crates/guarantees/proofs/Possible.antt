@@ -34,7 +34,7 @@ use Rattle.guarantees.specs.Boxes.{Box, first, second, sideOf, partner}
 use Rattle.guarantees.specs.Entries.{Lent, dealt, loose, Incoming, spokenAt, other, Step, wake, start, speak, hear, drop, cut, cutStart, Entry}
 use Rattle.guarantees.specs.Run.{Lending, Setting, Memory, Said, nothing, replied, Event, World, memoryOf, eventAt, stepped}
 use Rattle.guarantees.specs.Premises.{True, Keeps, Meets, AtFirst, InBoth, Compatible, AllCompatible}
-use Rattle.guarantees.proofs.Places.{sameBox}
+use Rattle.guarantees.specs.Maps.{sameBox}
 use Rattle.guarantees.specs.Secrecy.{Valid, byBox, worldOf, settingOf, events}
 use Rattle.guarantees.specs.Possible.{pairNumber, sharesOf, sharesAnew, plainSet, plainCommon, zeros, whole, again}
 use Rattle.guarantees.specs.Possible.{CutInMark, AnswersAt, RightSum, Possible}
@@ -209,10 +209,10 @@ module _ (shares′ : Box → ℕ → Lending) (g : Setting) where
 
 -- ---- the two lists
 
-plain-valid : (b : Box) → Valid pairNumber b (plainSet (partner b)) (plainSet b)
+plain-valid : (entries : List Entry) (b : Box) → Valid (plainCommon entries b) b (plainSet b)
 unfolding otherSide
-plain-valid first number n width = plain-dealt n pairNumber number width
-plain-valid second number n width = matched-swap (plain-dealt n pairNumber number width)
+plain-valid entries first number n width = plain-dealt n pairNumber number width
+plain-valid entries second number n width = matched-swap (plain-dealt n pairNumber number width)
 
 at-first : (entries : List Entry) (b : Box) → AtFirst (worldOf (plainCommon entries b) zeros)
 unfolding listed inRange modeOf
@@ -271,7 +271,7 @@ computed second = (
 from-run : (entries : List Entry) (place : ℕ) (b : Box) → ByRun entries place b → Possible entries place b
 from-run entries place b c =
     record {
-      valid = plain-valid b;
+      valid = plain-valid entries b;
       premises = record {
         asleep = at-first entries b;
         meets = meets-tested (plainSetting entries b) pairNumber 0 (plainWorld entries b) entries (c .meeting);

@@ -1,5 +1,4 @@
--- Demand 3: the pairing of a box's valid tape sets. A set's image moves the tape of each number and width as the shares that opened its job
--- ask; where that was is the same in both runs.
+-- Demand 3: the pairing of a box's tapes. Each tape is moved as the shares ask that opened its job; where that was is the same in both runs.
 use Prim.Native.Nat.{ℕ, suc}
 use mathlib.Core.Path.{_≡_, refl, sym, ap, _∙_}
 use mathlib.Core.Bool.{true, false≢true}
@@ -9,7 +8,7 @@ use Rattle.lists.proofs.Tabulate.{length-tabulate}
 use Rattle.field.specs.Width.{listed}
 use Rattle.shares.specs.Side.{other}
 use Rattle.tape.specs.Order.{inOrder}
-use Rattle.protocol.specs.Change.{sharesOf}
+use Rattle.tape.proofs.Orders.{readable}
 use Rattle.protocol.specs.Shift.{shifted}
 use Rattle.protocol.specs.Pairing.{Moves}
 use Rattle.protocol.proofs.Secrecy.{moves}
@@ -17,14 +16,15 @@ use Rattle.guarantees.specs.Boxes.{Box, first, second, sideOf, partner}
 use Rattle.guarantees.specs.Entries.{Step, wake, start, speak, hear, drop, cut, cutStart, Entry}
 use Rattle.guarantees.specs.Run.{Lending, Setting, Event, World, quiet, stepped}
 use Rattle.guarantees.specs.Premises.{AtFirst, Meets, Compatible, AllCompatible}
-use Rattle.guarantees.proofs.Places.{openedAt}
+use Rattle.guarantees.specs.Maps.{openedAt, clip, jobShares, thereBy, backBy}
 use Rattle.guarantees.specs.View.{view}
-use Rattle.guarantees.specs.Secrecy.{TapeSet, Valid, byBox, Common, Loose, memoryAt, worldOf, settingOf, events, Premises, Hidden, Secrecy}
+use Rattle.guarantees.specs.Secrecy.{TapeSet, byBox, Common, Loose, Matching, Valid, image, memoryAt, worldOf, settingOf, events}
+use Rattle.guarantees.specs.Secrecy.{Premises, Witness, Hidden, Paired, Secrecy}
 use Rattle.guarantees.proofs.Twins.{TwinMemory, Skeleton, same}
 use Rattle.guarantees.proofs.Logs.{same-event}
 use Rattle.guarantees.proofs.First.{follows-first, marked-first}
 use Rattle.guarantees.proofs.Joint.{Alike, Joint, views}
-use Rattle.guarantees.proofs.Books.{clip, clip-y, bookOf}
+use Rattle.guarantees.proofs.Books.{clip-y, bookOf}
 use Rattle.guarantees.proofs.Runs.{Both, both}
 use Rattle.guarantees.proofs.Pairs.{KeyAlike, sent-alike, answer-alike}
 use Rattle.guarantees.proofs.Views.{opened-same, opened-twins}
@@ -32,21 +32,16 @@ use Rattle.guarantees.proofs.Steady.{steady}
 
 -- ---- the maps
 
--- the shares that opened a job of box b, by the log, and those of the other box
-abbrev moved : Common → Box → List Event → (ℕ → Lending) → (ℕ → Lending) → TapeSet → TapeSet
-moved c b log shares shares′ own number n =
-    let v = clip n (shares (openedAt log b number n)) in
-    let v′ = clip n (shares′ (openedAt log b number n)) in
-    let o = clip n (c .lendings (openedAt log (partner b) number n)) in
-    shifted (sharesOf n (sideOf b) (v .x) (v .y) (o .x) (o .y)) (sharesOf n (sideOf b) (v′ .x) (v′ .y) (o .x) (o .y)) (own number n) (c .others number n)
+-- a tape that matches the other box's has a listed width
+matching-listed : (c : Common) (b : Box) (number n : ℕ) (tape : List ℕ) → Matching c b number n tape → listed n ≡ true
+matching-listed c b number n tape m = readable n (c .pair) (sideOf b) number tape (m .own-order) .width
 
+-- one tape, moved by the shares that a log finds
 moves-at : (c : Common) (b : Box) (log : List Event) (shares shares′ : ℕ → Lending) (number n : ℕ) → listed n ≡ true
-    → let v = clip n (shares (openedAt log b number n)) in
-    let v′ = clip n (shares′ (openedAt log b number n)) in
-    let o = clip n (c .lendings (openedAt log (partner b) number n)) in
-    Moves n (c .pair) number (sideOf b) (v .x) (v .y) (v′ .x) (v′ .y) (o .x) (o .y) (c .others number n)
-    (λ own. shifted (sharesOf n (sideOf b) (v .x) (v .y) (o .x) (o .y)) (sharesOf n (sideOf b) (v′ .x) (v′ .y) (o .x) (o .y)) own (c .others number n))
-    (λ own. shifted (sharesOf n (sideOf b) (v′ .x) (v′ .y) (o .x) (o .y)) (sharesOf n (sideOf b) (v .x) (v .y) (o .x) (o .y)) own (c .others number n))
+    → let v = jobShares c b log shares number n in
+    let v′ = jobShares c b log shares′ number n in
+    Moves n (c .pair) number (sideOf b) (v .x) (v .y) (v′ .x) (v′ .y) (v .xo) (v .yo) (c .others number n)
+    (λ tape. shifted v v′ tape (c .others number n)) (λ tape. shifted v′ v tape (c .others number n))
 moves-at c b log shares shares′ number n l =
     moves n (c .pair) number (sideOf b) _ _ (c .others number n) (clip-y n (c .lendings (openedAt log (partner b) number n)) l) _ _ _ _
     (clip-y n (shares (openedAt log b number n)) l) (clip-y n (shares′ (openedAt log b number n)) l)
@@ -81,13 +76,13 @@ joint-first c b g g′ book book′ w w′ at =
 
 -- ---- the orders of the dealt tapes
 
-orders : (pair : ℕ) (b : Box) (others own : TapeSet) → Valid pair b others own
-    → (c : Box) (number n : ℕ) → listed n ≡ true → inOrder n pair (sideOf c) number (byBox b own others c number n) ≡ true
+orders : (c : Common) (b : Box) (own : TapeSet) → Valid c b own
+    → (d : Box) (number n : ℕ) → listed n ≡ true → inOrder n (c .pair) (sideOf d) number (byBox b own (c .others) d number n) ≡ true
 unfolding other
-orders pair first others own v first number n l = v number n l .own-order
-orders pair first others own v second number n l = v number n l .others-order
-orders pair second others own v first number n l = v number n l .others-order
-orders pair second others own v second number n l = v number n l .own-order
+orders c first own v first number n l = v number n l .own-order
+orders c first own v second number n l = v number n l .others-order
+orders c second own v first number n l = v number n l .others-order
+orders c second own v second number n l = v number n l .own-order
 
 -- the same table of shares twice
 compatible-self : (g : Setting) (place : ℕ) (w : World) (es : List Entry) → AllCompatible (g .shares) g place w es
@@ -115,9 +110,9 @@ SamePlaces log log′ = (d : Box) (number n : ℕ) → openedAt log d number n �
 
 module _ (c : Common) where
   -- one key, its shares and its shift found by two such logs
-  key-alike : (b : Box) (log log₀ : List Event) → SamePlaces log₀ log → (shares shares′ : ℕ → Lending) (own : TapeSet)
-      → Valid (c .pair) b (c .others) own → (number n : ℕ) → listed n ≡ true
-      → KeyAlike b (byBox b own (c .others)) (byBox b (moved c b log₀ shares shares′ own) (c .others))
+  key-alike : (b : Box) (log log₀ : List Event) → SamePlaces log₀ log → (shares shares′ : ℕ → Lending) (own : TapeSet) → Valid c b own
+      → (number n : ℕ) → listed n ≡ true
+      → KeyAlike b (byBox b own (c .others)) (byBox b (image (thereBy c b log₀ shares shares′) own) (c .others))
       (bookOf (byBox b shares (c .lendings)) log) (bookOf (byBox b shares′ (c .lendings)) log) number n
   key-alike first log log₀ e shares shares′ own v number n l =
       rw (e first number n, e second number n) (moves-at c first log shares shares′ number n l .alike (own number n) (v number n l))
@@ -125,31 +120,30 @@ module _ (c : Common) where
       rw (e first number n, e second number n) (moves-at c second log shares shares′ number n l .alike (own number n) (v number n l))
 
 module _ (c : Common) (b : Box) where
-  moved-valid : (log : List Event) (shares shares′ : ℕ → Lending) (own : TapeSet) → Valid (c .pair) b (c .others) own
-      → Valid (c .pair) b (c .others) (moved c b log shares shares′ own)
+  moved-valid : (log : List Event) (shares shares′ : ℕ → Lending) (own : TapeSet) → Valid c b own
+      → Valid c b (image (thereBy c b log shares shares′) own)
   moved-valid log shares shares′ own v number n l = moves-at c b log shares shares′ number n l .dealt (own number n) (v number n l)
 
-  alike : (log log₀ : List Event) → SamePlaces log₀ log → (shares shares′ : ℕ → Lending) (own : TapeSet) (w w′ : Loose)
-      → Valid (c .pair) b (c .others) own
+  alike : (log log₀ : List Event) → SamePlaces log₀ log → (shares shares′ : ℕ → Lending) (own : TapeSet) (w w′ : Loose) → Valid c b own
       → let g = settingOf c b own shares w in
-      let g′ = settingOf c b (moved c b log₀ shares shares′ own) shares′ w′ in
+      let g′ = settingOf c b (image (thereBy c b log₀ shares shares′) own) shares′ w′ in
       Alike b g g′ (c .pair) (bookOf (g .shares) log) (bookOf (g′ .shares) log)
   alike log log₀ e shares shares′ own w w′ v =
-      let own′ = moved c b log₀ shares shares′ own in
+      let own′ = image (thereBy c b log₀ shares shares′) own in
       let tape : (number n : ℕ) → byBox b own (c .others) (partner b) number n ≡ byBox b own′ (c .others) (partner b) number n =
       λ number n. ap (λ (t : TapeSet). t number n) (others-same b own own′ (c .others)) in
       let lent : (number n : ℕ)
       → bookOf (byBox b shares (c .lendings)) log (partner b) number n ≡ bookOf (byBox b shares′ (c .lendings)) log (partner b) number n =
       λ number n. ap (λ (t : ℕ → Lending). clip n (t (openedAt log (partner b) number n))) (others-same b shares shares′ (c .lendings)) in
       record {
-        orders = orders (c .pair) b (c .others) own v;
-        orders′ = orders (c .pair) b (c .others) own′ (moved-valid log₀ shares shares′ own v);
+        orders = orders c b own v;
+        orders′ = orders c b own′ (moved-valid log₀ shares shares′ own v);
         sent = λ d number n r l. sent-alike (byBox b own (c .others)) (byBox b own′ (c .others)) (bookOf (byBox b shares (c .lendings)) log) (bookOf (byBox b shares′ (c .lendings)) log) number n b (tape number n) (lent number n) (key-alike c b log log₀ e shares shares′ own v number n l) d r;
         answer = λ number n l. answer-alike (byBox b own (c .others)) (byBox b own′ (c .others)) (bookOf (byBox b shares (c .lendings)) log) (bookOf (byBox b shares′ (c .lendings)) log) number n b (tape number n) (lent number n) (key-alike c b log log₀ e shares shares′ own v number n l);
       }
 
   -- whatever valid tapes and words in work: two runs with the same shares that meet the premises open the same jobs
-  same-places : (shares : ℕ → Lending) (own own′ : TapeSet) → Valid (c .pair) b (c .others) own → Valid (c .pair) b (c .others) own′
+  same-places : (shares : ℕ → Lending) (own own′ : TapeSet) → Valid c b own → Valid c b own′
       → (w w′ : Loose) → Meets (settingOf c b own shares w) (c .pair) 0 (worldOf c w) (c .entries)
       → Meets (settingOf c b own′ shares w′) (c .pair) 0 (worldOf c w′) (c .entries)
       → SamePlaces (events c b own shares w) (events c b own′ shares w′)
@@ -157,64 +151,84 @@ module _ (c : Common) (b : Box) where
       let g = settingOf c b own shares w in
       let g′ = settingOf c b own′ shares w′ in
       let k =
-      steady g g′ (c .pair) (orders (c .pair) b (c .others) own v) (orders (c .pair) b (c .others) own′ v′) (c .entries) 0 (worldOf c w) (worldOf c w′)
+      steady g g′ (c .pair) (orders c b own v) (orders c b own′ v′) (c .entries) 0 (worldOf c w) (worldOf c w′)
       (record { skeleton = skeleton-first c w w′; fits = λ i told. absurd (false≢true told); fits′ = λ i told. absurd (false≢true told) })
       (compatible-self g 0 (worldOf c w) (c .entries)) meets meets′ in
       opened-twins (events c b own shares w) (events c b own′ shares w′) (k .places) (k .events)
 
   -- the places that a log finds are those of a run
-  module _ (shares shares′ : ℕ → Lending) (log : List Event) (own : TapeSet) (valid : Valid (c .pair) b (c .others) own) (w : Loose)
+  module _ (shares shares′ : ℕ → Lending) (log : List Event) (own : TapeSet) (valid : Valid c b own) (w : Loose)
       (premises : Premises c b shares shares′ own w) (e : SamePlaces log (events c b own shares w)) where
     run-both : (w′ : Loose)
-        → Both b (settingOf c b own shares w) (settingOf c b (moved c b log shares shares′ own) shares′ w′) (c .pair) (events c b own shares w)
-        (alike (events c b own shares w) log e shares shares′ own w w′ valid) (c .entries) 0 (worldOf c w) (worldOf c w′)
+        → Both b (settingOf c b own shares w) (settingOf c b (image (thereBy c b log shares shares′) own) shares′ w′) (c .pair)
+        (events c b own shares w) (alike (events c b own shares w) log e shares shares′ own w w′ valid) (c .entries) 0 (worldOf c w) (worldOf c w′)
     run-both w′ =
         both b _ _ (c .pair) (events c b own shares w) _ (c .entries) 0 (worldOf c w) (worldOf c w′)
         (joint-first c b _ _ _ _ w w′ (premises .asleep)) (marked-first (worldOf c w) (premises .asleep)) refl refl (premises .meets) (premises .compatible)
 
-    looks-same : (w′ : Loose) → view b (events c b own shares w) ≡ view b (events c b (moved c b log shares shares′ own) shares′ w′)
+    looks-same : (w′ : Loose) → view b (events c b own shares w) ≡ view b (events c b (image (thereBy c b log shares shares′) own) shares′ w′)
     looks-same w′ =
         views b _ _ (c .pair) _ _ (alike (events c b own shares w) log e shares shares′ own w w′ valid) _ _ (run-both w′ .joint)
 
-    meets-too : (w′ : Loose) → Premises c b shares′ shares (moved c b log shares shares′ own) w′
+    meets-too : (w′ : Loose) → Premises c b shares′ shares (image (thereBy c b log shares shares′) own) w′
     meets-too w′ =
         record { asleep = first-again c w w′ (premises .asleep); meets = run-both w′ .meets; compatible = run-both w′ .compatible }
 
   -- both maps go by one log
   hidden : (shares shares′ : ℕ → Lending) (log : List Event)
-      → ((own : TapeSet) → Valid (c .pair) b (c .others) own → (w : Loose) → Premises c b shares shares′ own w
-      → SamePlaces log (events c b own shares w))
-      → Hidden c b shares shares′ (moved c b log shares shares′) (moved c b log shares′ shares)
+      → ((own : TapeSet) → Valid c b own → (w : Loose) → Premises c b shares shares′ own w → SamePlaces log (events c b own shares w))
+      → Hidden c b shares shares′ (thereBy c b log shares shares′) (backBy c b log shares shares′)
   hidden shares shares′ log places =
       record {
-        valid = moved-valid log shares shares′;
-        undone = λ own v number n l. moves-at c b log shares shares′ number n l .undone (own number n) (v number n l);
+        matching = λ number n tape m. moves-at c b log shares shares′ number n (matching-listed c b number n tape m) .dealt tape m;
+        undone = λ number n tape m. moves-at c b log shares shares′ number n (matching-listed c b number n tape m) .undone tape m;
         meets = λ own v w w′ p. meets-too shares shares′ log own v w p (places own v w p) w′;
         alike = λ own v w w′ p. looks-same shares shares′ log own v w p (places own v w p) w′;
       }
 
--- demand 3
+-- ---- demand 3
+
+module _ (c : Common) (b : Box) (shares shares′ : ℕ → Lending) where
+  -- the log of the witness's run
+  abbrev logOf : Witness c b shares shares′ → List Event
+  logOf e = events c b (e .own) shares (e .loose)
+
+  paired : Witness c b shares shares′ → Paired c b shares shares′
+  paired e =
+      record {
+        there = thereBy c b log shares shares′;
+        back = backBy c b log shares shares′;
+        hidden = hidden c b shares shares′ log (λ own v w p. same-places c b shares (e .own) own (e .valid) v (e .loose) w (e .premises .meets) (p .meets));
+        hidden-back = hidden c b shares′ shares log back-places;
+      }
+    where
+      log : List Event
+      log = logOf e
+
+      partnerSet : TapeSet
+      partnerSet = image (thereBy c b log shares shares′) (e .own)
+
+      same-log : SamePlaces log log
+      same-log d number n = refl
+
+      back-places : (own : TapeSet) → Valid c b own → (w : Loose) → Premises c b shares′ shares own w
+          → SamePlaces log (events c b own shares′ w)
+      back-places own v w p d number n =
+          opened-same b log (events c b partnerSet shares′ (e .loose))
+          (looks-same c b shares shares′ log (e .own) (e .valid) (e .loose) (e .premises) same-log (e .loose)) d number n
+          ∙ same-places c b shares′ partnerSet own (moved-valid c b log shares shares′ (e .own) (e .valid)) v (e .loose) w
+          (meets-too c b shares shares′ log (e .own) (e .valid) (e .loose) (e .premises) same-log (e .loose) .meets) (p .meets) d number n
+
+  -- two witnesses find the same places
+  same-logs : (e e′ : Witness c b shares shares′) → SamePlaces (logOf e) (logOf e′)
+  same-logs e e′ =
+      same-places c b shares (e .own) (e′ .own) (e .valid) (e′ .valid) (e .loose) (e′ .loose) (e .premises .meets) (e′ .premises .meets)
+
 pub secrecy : Secrecy
-secrecy c b shares shares′ own w valid premises =
+unfolding paired
+secrecy =
     record {
-      there = moved c b log shares shares′;
-      back = moved c b log shares′ shares;
-      hidden = hidden c b shares shares′ log (λ own′ v′ w′ p′. same-places c b shares own own′ valid v′ w w′ (premises .meets) (p′ .meets));
-      hidden-back = hidden c b shares′ shares log back-places;
+      paired = paired;
+      same-there = λ c b shares shares′ e e′ number n tape m. rw (same-logs c b shares shares′ e e′ b number n, same-logs c b shares shares′ e e′ (partner b) number n) refl;
+      same-back = λ c b shares shares′ e e′ number n tape m. rw (same-logs c b shares shares′ e e′ b number n, same-logs c b shares shares′ e e′ (partner b) number n) refl;
     }
-  where
-    log : List Event
-    log = events c b own shares w
-
-    image : TapeSet
-    image = moved c b log shares shares′ own
-
-    same-log : SamePlaces log log
-    same-log d number n = refl
-
-    back-places : (own′ : TapeSet) → Valid (c .pair) b (c .others) own′ → (w′ : Loose) → Premises c b shares′ shares own′ w′
-        → SamePlaces log (events c b own′ shares′ w′)
-    back-places own′ v′ w′ p′ d number n =
-        opened-same b log (events c b image shares′ w) (looks-same c b shares shares′ log own valid w premises same-log w) d number n
-        ∙ same-places c b shares′ image own′ (moved-valid c b log shares shares′ own valid) v′ w w′
-        (meets-too c b shares shares′ log own valid w premises same-log w .meets) (p′ .meets) d number n

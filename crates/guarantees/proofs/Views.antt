@@ -7,7 +7,7 @@ use lib.ListN.{length}
 use Rattle.rules.specs.Answers.{fresh, started, spoke, heard, share, dropped, refused}
 use Rattle.guarantees.specs.Boxes.{Box, first, second}
 use Rattle.guarantees.specs.Run.{Said, nothing, replied, Event, eventAt}
-use Rattle.guarantees.proofs.Places.{isStarted, openedAt}
+use Rattle.guarantees.specs.Maps.{isStarted, openedAt}
 use Rattle.guarantees.specs.View.{covered, saidTo, view}
 use Rattle.guarantees.proofs.Twins.{SameEvent}
 

@@ -4,5 +4,6 @@ pub mod Run
 pub mod Premises
 pub mod View
 pub mod Secrecy
+pub mod Maps
 pub mod Correctness
 pub mod Possible

@@ -93,7 +93,7 @@ pub record AnswersAt (log : List Event) (place : ℕ) (b : Box) (v : ℕ) : Type
 
 -- whichever box is to stay hidden: the list meets the premises, and both boxes answer with their last hears, from that place on
 pub record Possible (entries : List Entry) (place : ℕ) (b : Box) : Type 0 where
-  pub valid : Valid pairNumber b (plainSet (partner b)) (plainSet b)
+  pub valid : Valid (plainCommon entries b) b (plainSet b)
   pub premises : Premises (plainCommon entries b) b (sharesOf b) sharesAnew (plainSet b) zeros
   pub first-answers : AnswersAt (events (plainCommon entries b) b (plainSet b) (sharesOf b) zeros) place first 2
   pub second-answers : AnswersAt (events (plainCommon entries b) b (plainSet b) (sharesOf b) zeros) (place + 1) second 6

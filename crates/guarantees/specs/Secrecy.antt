@@ -1,5 +1,9 @@
--- Demand 3, for either box b: over any list that meets the premises, b's valid tape sets are paired, and a run with a set and the first
+-- Demand 3, for either box b: over any list that meets the premises b's tapes are paired one to one, and a run with a tape set and the first
 -- shares looks to the other box like a run with the paired set and the second shares.
+--
+-- The pairing is tape by tape. A valid set has a tape for every number, and a list touches few of them: maps on whole sets could keep marks
+-- where no list looks, and a one-to-one map between infinite sets says nothing of how often a view comes up. The tapes of one number and
+-- width that match the other box's are finitely many, so a map that is one to one on them shows that they are as many (Counting.antt).
 use Prim.Native.Nat.{ℕ}
 use mathlib.Core.Path.{_≡_}
 use mathlib.Core.Bool.{true}
@@ -17,10 +21,6 @@ use Rattle.guarantees.specs.View.{view}
 -- a tape of a box for each number and width
 abbrev pub TapeSet : Type 0
 TapeSet = ℕ → ℕ → List ℕ
-
--- each makes, with the other box's, a pair dealt by the rules
-abbrev pub Valid : ℕ → Box → TapeSet → TapeSet → Type 0
-Valid pair b others own = (number n : ℕ) → listed n ≡ true → Matched n pair number (sideOf b) (own number n) (others number n)
 
 -- what box b has, and what the other has
 abbrev pub byBox : {A : Type 0} → Box → A → A → Box → A
@@ -45,6 +45,26 @@ pub record Loose : Type 0 where
   pub works : Box → ℕ → ℕ
   pub leftovers : ℕ → ℕ → ℕ
 
+-- ---- tapes
+
+-- a tape of box b makes, with the other box's of that number and width, a pair dealt by the rules; the width is listed then
+abbrev pub Matching : Common → Box → ℕ → ℕ → List ℕ → Type 0
+Matching c b number n tape = Matched n (c .pair) number (sideOf b) tape (c .others number n)
+
+-- a valid tape set
+abbrev pub Valid : Common → Box → TapeSet → Type 0
+Valid c b own = (number n : ℕ) → listed n ≡ true → Matching c b number n (own number n)
+
+-- a map of tapes, for each number and width by itself
+abbrev pub TapeMap : Type 0
+TapeMap = ℕ → ℕ → List ℕ → List ℕ
+
+-- the set of the images
+abbrev pub image : TapeMap → TapeSet → TapeSet
+image map own number n = map number n (own number n)
+
+-- ---- runs
+
 abbrev pub memoryAt : Common → Loose → Box → Memory
 memoryAt c w b = record { state = c .states b; work = tabulate (c .rooms b) (w .works b); tally = c .tallies b }
 
@@ -65,26 +85,39 @@ pub record Premises (c : Common) (b : Box) (shares shares′ : ℕ → Lending) 
   pub meets : Meets (settingOf c b own shares w) (c .pair) 0 (worldOf c w) (c .entries)
   pub compatible : AllCompatible (byBox b shares′ (c .lendings)) (settingOf c b own shares w) 0 (worldOf c w) (c .entries)
 
--- the two maps: `there` takes valid sets to valid sets, `back` undoes it on them, and where a run with a set and the first shares meets
--- the premises, the run with the set's image and the second shares meets them too and looks the same, whatever work holds in either
-pub record Hidden (c : Common) (b : Box) (shares shares′ : ℕ → Lending) (there back : TapeSet → TapeSet) : Type 0 where
-  pub valid : (own : TapeSet) → Valid (c .pair) b (c .others) own → Valid (c .pair) b (c .others) (there own)
-  pub undone : (own : TapeSet) → Valid (c .pair) b (c .others) own → (number n : ℕ) → listed n ≡ true
-      → back (there own) number n ≡ own number n
-  pub meets : (own : TapeSet) → Valid (c .pair) b (c .others) own → (w w′ : Loose) → Premises c b shares shares′ own w
-      → Premises c b shares′ shares (there own) w′
-  pub alike : (own : TapeSet) → Valid (c .pair) b (c .others) own → (w w′ : Loose) → Premises c b shares shares′ own w
-      → view b (events c b own shares w) ≡ view b (events c b (there own) shares′ w′)
+-- a valid set and words of work with which the list meets the premises
+pub record Witness (c : Common) (b : Box) (shares shares′ : ℕ → Lending) : Type 0 where
+  pub own : TapeSet
+  pub loose : Loose
+  pub valid : Valid c b own
+  pub premises : Premises c b shares shares′ own loose
+
+-- ---- the statement
+
+-- `there` takes each tape that matches the other box's to one that does, and `back` undoes it. Where a run with a set and the first shares
+-- meets the premises, the run with the set of the images and the second shares meets them too and looks the same, whatever work holds in either
+pub record Hidden (c : Common) (b : Box) (shares shares′ : ℕ → Lending) (there back : TapeMap) : Type 0 where
+  pub matching : (number n : ℕ) (tape : List ℕ) → Matching c b number n tape → Matching c b number n (there number n tape)
+  pub undone : (number n : ℕ) (tape : List ℕ) → Matching c b number n tape → back number n (there number n tape) ≡ tape
+  pub meets : (own : TapeSet) → Valid c b own → (w w′ : Loose) → Premises c b shares shares′ own w
+      → Premises c b shares′ shares (image there own) w′
+  pub alike : (own : TapeSet) → Valid c b own → (w w′ : Loose) → Premises c b shares shares′ own w
+      → view b (events c b own shares w) ≡ view b (events c b (image there own) shares′ w′)
 
 -- a pairing: the same holds of the two maps with the tables of shares exchanged, so none is left over
 pub record Paired (c : Common) (b : Box) (shares shares′ : ℕ → Lending) : Type 0 where
-  pub there : TapeSet → TapeSet
-  pub back : TapeSet → TapeSet
+  pub there : TapeMap
+  pub back : TapeMap
   pub hidden : Hidden c b shares shares′ there back
   pub hidden-back : Hidden c b shares′ shares back there
 
--- demand 3: a list that meets the premises, as its run with one valid set shows, has a pairing
-abbrev pub Secrecy : Type 0
-Secrecy =
-    (c : Common) (b : Box) (shares shares′ : ℕ → Lending) (own : TapeSet) (w : Loose) → Valid (c .pair) b (c .others) own
-    → Premises c b shares shares′ own w → Paired c b shares shares′
+-- demand 3: a list that meets the premises, as a witness shows, has a pairing. The pairing does not depend on the witness: it is given by
+-- the list, all shares and the other box's tapes
+pub record Secrecy : Type 0 where
+  pub paired : (c : Common) (b : Box) (shares shares′ : ℕ → Lending) → Witness c b shares shares′ → Paired c b shares shares′
+  pub same-there : (c : Common) (b : Box) (shares shares′ : ℕ → Lending) (e e′ : Witness c b shares shares′)
+      → (number n : ℕ) (tape : List ℕ) → Matching c b number n tape
+      → paired c b shares shares′ e .there number n tape ≡ paired c b shares shares′ e′ .there number n tape
+  pub same-back : (c : Common) (b : Box) (shares shares′ : ℕ → Lending) (e e′ : Witness c b shares shares′)
+      → (number n : ℕ) (tape : List ℕ) → Matching c b number n tape
+      → paired c b shares shares′ e .back number n tape ≡ paired c b shares shares′ e′ .back number n tape
