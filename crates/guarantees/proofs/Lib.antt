@@ -16,5 +16,6 @@ pub mod Pairs
 pub mod Views
 pub mod First
 pub mod Secrecy
+pub mod Counting
 pub mod Correctness
 pub mod Possible

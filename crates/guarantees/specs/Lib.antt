@@ -5,5 +5,6 @@ pub mod Premises
 pub mod View
 pub mod Secrecy
 pub mod Maps
+pub mod Counting
 pub mod Correctness
 pub mod Possible
