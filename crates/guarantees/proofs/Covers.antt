@@ -17,6 +17,27 @@ isSpoke (replied (share v)) = false
 isSpoke (replied dropped) = false
 isSpoke (replied (refused k)) = false
 
+-- how many words were spoken
+abbrev pub spokeCount : Said → ℕ
+spokeCount nothing = 0
+spokeCount (replied (fresh k)) = 0
+spokeCount (replied started) = 0
+spokeCount (replied (spoke k)) = k
+spokeCount (replied heard) = 0
+spokeCount (replied (share v)) = 0
+spokeCount (replied dropped) = 0
+spokeCount (replied (refused k)) = 0
+
+pub spoke-said : (s : Said) → isSpoke s ≡ true → s ≡ replied (spoke (spokeCount s))
+spoke-said nothing e = absurd (false≢true e)
+spoke-said (replied (fresh k)) e = absurd (false≢true e)
+spoke-said (replied started) e = absurd (false≢true e)
+spoke-said (replied (spoke k)) e = refl
+spoke-said (replied heard) e = absurd (false≢true e)
+spoke-said (replied (share v)) e = absurd (false≢true e)
+spoke-said (replied dropped) e = absurd (false≢true e)
+spoke-said (replied (refused k)) e = absurd (false≢true e)
+
 abbrev pub isShare : Said → Bool
 isShare nothing = false
 isShare (replied (fresh k)) = false

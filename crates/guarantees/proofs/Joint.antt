@@ -7,18 +7,18 @@ use native.Mathlib.Omega.{arith}
 use lib.ListN.{length}
 use Rattle.field.specs.Width.{listed}
 use Rattle.rules.specs.Answers.{fresh, started, spoke, heard, share, dropped, refused}
-use Rattle.rules.specs.Grounds.{wordsFit, wakeGround}
+use Rattle.rules.specs.Grounds.{wordsFit}
 use Rattle.guarantees.specs.Boxes.{Box, first, second, partner}
-use Rattle.guarantees.specs.Entries.{dealt, Incoming, spokenAt, other, Step, wake, start, speak, hear, drop, cut, cutStart}
+use Rattle.guarantees.specs.Entries.{Incoming, spokenAt, other, Step, wake, start, speak, hear, drop, cut, cutStart}
 use Rattle.guarantees.specs.Run.{Lending, Setting, Memory, Said, nothing, replied, Event, World, memoryOf, after, eventAt, incomingWords, stepped}
 use Rattle.guarantees.specs.Premises.{Keeps, Compatible}
 use Rattle.guarantees.specs.View.{seen, view}
 use Rattle.guarantees.proofs.Twins.{SameEvent, Skeleton}
 use Rattle.guarantees.proofs.Jobs.{sentBy, answerBy}
-use Rattle.guarantees.proofs.Refusals.{wake-same, speak-same, hear-same}
+use Rattle.guarantees.proofs.Refusals.{speak-same, hear-same}
 use Rattle.guarantees.proofs.Skeletons.{Fit, memories, next}
 use Rattle.guarantees.proofs.Covers.{isSpoke, spoke-same, uncover, said-to}
-use Rattle.guarantees.proofs.Fits.{InOrder, order-same, start-fit, true-too}
+use Rattle.guarantees.proofs.Fits.{InOrder, order-same, start-fit, keeps-too}
 use Rattle.guarantees.proofs.Follows.{Uttered, Answered, True-to, Follows, Booked, follows-next}
 
 -- ---- what is told of an event
@@ -165,22 +165,6 @@ module _ (b : Box) (g g′ : Setting) (pair : ℕ) (book book′ : Box → ℕ �
     fit place c (cut room) h = tt
     fit place c (cutStart number lent value room) h = start-fit g g′ pair (a .orders) (a .orders′) w w′ (j .skeleton) place c number lent (h .0) (h .1)
 
-    -- the second run keeps to the premises
-    pub keeps-too : (place : ℕ) (c : Box) (step : Step) → Fit g g′ place w w′ c step → Keeps g pair place w c step → Keeps g′ pair place w′ c step
-    keeps-too place c (wake n side p) f h =
-        let t = memories c (j .skeleton) in
-        λ ground. h (wake-same n side (memoryOf w c .tally) (t .state) ∙ ap (wakeGround (memoryOf w′ c .state) n side) (t .tally) ∙ ground)
-    keeps-too place c (start number lent) f h = λ ground. h (f ∙ ground) ∙ ap (dealt c number) (memories c (j .skeleton) .state .n)
-    keeps-too place c (speak number round lent out) f h = λ ground. h (f ∙ ground) ∙ ap (dealt c number) (memories c (j .skeleton) .state .n)
-    keeps-too place c (hear number round lent incoming) f h =
-        λ ground.
-        let k = h (f ∙ ground) in
-        let width = memories c (j .skeleton) .state .n in
-        (k .0 ∙ ap (dealt c number) width, true-too w w′ (j .skeleton) c number _ _ round incoming width (k .1))
-    keeps-too place c drop f h = tt
-    keeps-too place c (cut room) f h = tt
-    keeps-too place c (cutStart number lent value room) f h = λ ground. h (f ∙ ground) ∙ ap (dealt c number) (memories c (j .skeleton) .state .n)
-
     incoming-next : (place : ℕ) (c : Box) (step : Step) → IncomingSame (stepped g place w c step .log) (stepped g′ place w′ c step .log)
     unfolding stepped
     incoming-next place c (wake n side p) = incoming-after w w′ c _ _ _ _ (j .skeleton .places) (j .heard-same) refl
@@ -201,6 +185,6 @@ module _ (b : Box) (g g′ : Setting) (pair : ℕ) (book book′ : Box → ℕ �
         record {
           skeleton = next g g′ place w w′ c step (j .skeleton) f;
           follows = follows-next g pair book place w c step (j .follows) keeps booked;
-          follows′ = follows-next g′ pair book′ place w′ c step (j .follows′) (keeps-too place c step f keeps) booked′;
+          follows′ = follows-next g′ pair book′ place w′ c step (j .follows′) (keeps-too g g′ pair place w w′ (j .skeleton) c step f keeps) booked′;
           heard-same = incoming-next place c step;
         }

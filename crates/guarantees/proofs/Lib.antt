@@ -8,6 +8,7 @@ pub mod Logs
 pub mod Skeletons
 pub mod Covers
 pub mod Fits
+pub mod Fitting
 pub mod Steady
 pub mod Joint
 pub mod Books
@@ -17,5 +18,6 @@ pub mod Views
 pub mod First
 pub mod Secrecy
 pub mod Counting
+pub mod AnyTapes
 pub mod Correctness
 pub mod Possible

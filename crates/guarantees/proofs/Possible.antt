@@ -39,7 +39,7 @@ use Rattle.guarantees.specs.Secrecy.{Valid, byBox, worldOf, settingOf, e
 use Rattle.guarantees.specs.Possible.{pairNumber, sharesOf, sharesAnew, plainSet, plainCommon, zeros, whole, again}
 use Rattle.guarantees.specs.Possible.{CutInMark, AnswersAt, RightSum, Possible}
 use Rattle.guarantees.proofs.Openings.{same-box}
-use Rattle.guarantees.proofs.Covers.{isSpoke}
+use Rattle.guarantees.proofs.Covers.{isSpoke, spokeCount, spoke-said}
 
 -- ---- a computed test of the premises, for lists in which no entry is to be refused
 
@@ -58,27 +58,6 @@ own-tape b number n (dealt c k m) e =
     )
     refl
 own-tape b number n (loose words) e = absurd (false≢true e)
-
--- how many words were spoken
-abbrev spokeCount : Said → ℕ
-spokeCount nothing = 0
-spokeCount (replied (fresh k)) = 0
-spokeCount (replied started) = 0
-spokeCount (replied (spoke k)) = k
-spokeCount (replied heard) = 0
-spokeCount (replied (share v)) = 0
-spokeCount (replied dropped) = 0
-spokeCount (replied (refused k)) = 0
-
-spoke-said : (s : Said) → isSpoke s ≡ true → s ≡ replied (spoke (spokeCount s))
-spoke-said nothing e = absurd (false≢true e)
-spoke-said (replied (fresh k)) e = absurd (false≢true e)
-spoke-said (replied started) e = absurd (false≢true e)
-spoke-said (replied (spoke k)) e = refl
-spoke-said (replied heard) e = absurd (false≢true e)
-spoke-said (replied (share v)) e = absurd (false≢true e)
-spoke-said (replied dropped) e = absurd (false≢true e)
-spoke-said (replied (refused k)) e = absurd (false≢true e)
 
 -- the other box spoke it earlier, under that number, width and round
 abbrev aboutTest : Box → ℕ → ℕ → ℕ → Event → Bool

@@ -9,8 +9,8 @@ use Rattle.guarantees.specs.Run.{Setting, Event, World, stepped, run}
 use Rattle.guarantees.specs.Premises.{Meets, AllCompatible}
 use Rattle.guarantees.proofs.Openings.{Marked, marked-next, next-place}
 use Rattle.guarantees.proofs.Books.{bookOf, booked, booked-too}
-use Rattle.guarantees.proofs.Joint.{Alike, Joint, fit, keeps-too, joint-next}
-use Rattle.guarantees.proofs.Fits.{compatible-back}
+use Rattle.guarantees.proofs.Joint.{Alike, Joint, fit, joint-next}
+use Rattle.guarantees.proofs.Fits.{compatible-back, keeps-too}
 
 module _ (b : Box) (g g′ : Setting) (pair : ℕ) (log : List Event) (a : Alike b g g′ pair (bookOf (g .shares) log) (bookOf (g′ .shares) log)) where
   pub record Both (es : List Entry) (place : ℕ) (w w′ : World) : Type 0 where
@@ -33,6 +33,6 @@ module _ (b : Box) (g g′ : Setting) (pair : ℕ) (log : List Event) (a : Alike
       (next-place g place w (e .box) (e .step) ∙ ap suc at) end (meets .1) (compatible .1) in
       record {
         joint = rest .joint;
-        meets = (keeps-too b g g′ pair _ _ a w w′ j place (e .box) (e .step) f (meets .0), rest .meets);
+        meets = (keeps-too g g′ pair place w w′ (j .skeleton) (e .box) (e .step) f (meets .0), rest .meets);
         compatible = (compatible-back g g′ place w w′ (e .box) (e .step) (j .skeleton) (compatible .0), rest .compatible);
       }

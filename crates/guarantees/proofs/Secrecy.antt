@@ -22,12 +22,13 @@ use Rattle.guarantees.specs.Secrecy.{TapeSet, byBox, Common, Loose, Matc
 use Rattle.guarantees.specs.Secrecy.{Premises, Witness, Hidden, Paired, Secrecy}
 use Rattle.guarantees.proofs.Twins.{TwinMemory, Skeleton, same}
 use Rattle.guarantees.proofs.Logs.{same-event}
-use Rattle.guarantees.proofs.First.{follows-first, marked-first}
+use Rattle.guarantees.proofs.First.{first-again, skeleton-first, orders, follows-first, marked-first}
 use Rattle.guarantees.proofs.Joint.{Alike, Joint, views}
 use Rattle.guarantees.proofs.Books.{clip-y, bookOf}
 use Rattle.guarantees.proofs.Runs.{Both, both}
 use Rattle.guarantees.proofs.Pairs.{KeyAlike, sent-alike, answer-alike}
 use Rattle.guarantees.proofs.Views.{opened-same, opened-twins}
+use Rattle.guarantees.proofs.Fitting.{fitting-first}
 use Rattle.guarantees.proofs.Steady.{steady}
 
 -- ---- the maps
@@ -48,22 +49,6 @@ moves-at c b log shares shares′ number n l =
 
 -- ---- both runs at first
 
-twin-first : (c : Common) (w w′ : Loose) (b : Box) → TwinMemory (memoryAt c w b) (memoryAt c w′ b)
-twin-first c w w′ b =
-    record {
-      state = record { n = refl; side = refl; pair = refl; tally = refl; phase = same (c .states b .phase) };
-      tally = refl;
-      room = length-tabulate (c .rooms b) (w .works b) ∙ sym (length-tabulate (c .rooms b) (w′ .works b));
-    }
-
--- what work holds does not matter
-first-again : (c : Common) (w w′ : Loose) → AtFirst (worldOf c w) → AtFirst (worldOf c w′)
-first-again c w w′ at = record { first-asleep = at .first-asleep; second-asleep = at .second-asleep; no-events = refl }
-
-skeleton-first : (c : Common) (w w′ : Loose) → Skeleton (worldOf c w) (worldOf c w′)
-skeleton-first c w w′ =
-    record { one = twin-first c w w′ first; two = twin-first c w w′ second; places = refl; events = λ k. same-event quiet }
-
 joint-first : (c : Common) (b : Box) (g g′ : Setting) (book book′ : Box → ℕ → ℕ → Lending) (w w′ : Loose) → AtFirst (worldOf c w)
     → Joint b g g′ (c .pair) book book′ (worldOf c w) (worldOf c w′)
 joint-first c b g g′ book book′ w w′ at =
@@ -73,16 +58,6 @@ joint-first c b g g′ book book′ w w′ at =
       follows′ = follows-first g′ (c .pair) book′ (worldOf c w′) (first-again c w w′ at);
       heard-same = λ k. refl;
     }
-
--- ---- the orders of the dealt tapes
-
-orders : (c : Common) (b : Box) (own : TapeSet) → Valid c b own
-    → (d : Box) (number n : ℕ) → listed n ≡ true → inOrder n (c .pair) (sideOf d) number (byBox b own (c .others) d number n) ≡ true
-unfolding other
-orders c first own v first number n l = v number n l .own-order
-orders c first own v second number n l = v number n l .others-order
-orders c second own v first number n l = v number n l .others-order
-orders c second own v second number n l = v number n l .own-order
 
 -- the same table of shares twice
 compatible-self : (g : Setting) (place : ℕ) (w : World) (es : List Entry) → AllCompatible (g .shares) g place w es
@@ -152,7 +127,7 @@ module _ (c : Common) (b : Box) where
       let g′ = settingOf c b own′ shares w′ in
       let k =
       steady g g′ (c .pair) (orders c b own v) (orders c b own′ v′) (c .entries) 0 (worldOf c w) (worldOf c w′)
-      (record { skeleton = skeleton-first c w w′; fits = λ i told. absurd (false≢true told); fits′ = λ i told. absurd (false≢true told) })
+      (record { skeleton = skeleton-first c w w′; fits = fitting-first; fits′ = fitting-first })
       (compatible-self g 0 (worldOf c w) (c .entries)) meets meets′ in
       opened-twins (events c b own shares w) (events c b own′ shares w′) (k .places) (k .events)
 

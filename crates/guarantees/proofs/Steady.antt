@@ -1,8 +1,10 @@
--- Two runs that both meet the premises come to the same places, whatever valid tapes they use: a message is taken just when it is true.
+-- Two runs over one list come to the same places, whatever valid tapes they use, where both meet the premises, or where the first does and no
+-- hear is lent a message of a larger width. The second then meets them too.
 use Prim.Native.Nat.{ℕ, zero, suc}
 use mathlib.Core.Path.{_≡_, refl, sym, ap, subst, _∙_}
 use mathlib.Core.Bool.{Bool, true, false, not, _||_, cond, true≢false, false≢true}
 use mathlib.Core.List.{List, [], _∷_, _++_}
+use native.Mathlib.Nat.{le-of-eq}
 use native.Mathlib.Omega.{arith}
 use lib.Dec.{eqb, leb, ltb}
 use lib.ListN.{length, getD}
@@ -19,33 +21,18 @@ use Rattle.rules.specs.declared.state.State.{State}
 use Rattle.guarantees.specs.Boxes.{Box, first, second}
 use Rattle.guarantees.specs.Entries.{Incoming, spokenAt, other, Step, wake, start, speak, hear, drop, cut, cutStart, Entry}
 use Rattle.guarantees.specs.Run.{Setting, Memory, replied, Event, World, memoryOf, after, eventAt, tapeWords, incomingWords, spokenWords, stepped, run}
+use Rattle.guarantees.specs.View.{covered}
 use Rattle.guarantees.specs.Premises.{True, Keeps, Meets, Compatible, AllCompatible}
+use Rattle.guarantees.specs.AnyTapes.{NotWider, Narrow, AllNarrow}
 use Rattle.guarantees.proofs.Twins.{Twin, Skeleton}
-use Rattle.rules.proofs.Chains.{decide}
-use Rattle.rules.proofs.Passed.{speak-passed}
-use Rattle.rules.proofs.Spoken.{spoken-front, message-fits}
+use Rattle.rules.proofs.Chains.{Numbered, first-none, both-none}
+use Rattle.rules.proofs.Passed.{hear-passed}
 use Rattle.guarantees.proofs.Turns.{asleep-same, job-same, due-same}
 use Rattle.guarantees.proofs.Refusals.{OrderAlike, speak-same, hear-same}
 use Rattle.guarantees.proofs.Skeletons.{Fit, memories, next}
-use Rattle.guarantees.proofs.Covers.{isSpoke}
-use Rattle.guarantees.proofs.Fits.{InOrder, order-same, start-fit, true-too, true-back}
-
--- ---- the words spoken are below p
-
-abbrev pub Fitting : List Event → Type 0
-Fitting log = (k : ℕ) → isSpoke (eventAt log k .said) ≡ true → wordsFit (eventAt log k .width) (eventAt log k .spoken) ≡ true
-
-fitting-more : (log : List Event) (e : Event) → Fitting log → (isSpoke (e .said) ≡ true → wordsFit (e .width) (e .spoken) ≡ true)
-    → Fitting (log ++ (e ∷ []))
-fitting-more [] e old new zero = new
-fitting-more [] e old new (suc k) = λ h. absurd (false≢true h)
-fitting-more (d ∷ log) e old new zero = old zero
-fitting-more (d ∷ log) e old new (suc k) = fitting-more log e (λ i. old (suc i)) new k
-
-fitting-after : (w : World) (c : Box) (m : Memory) (e : Event) → Fitting (w .log)
-    → (isSpoke (e .said) ≡ true → wordsFit (e .width) (e .spoken) ≡ true) → Fitting (after w c m e .log)
-fitting-after w first m e old new = fitting-more (w .log) e old new
-fitting-after w second m e old new = fitting-more (w .log) e old new
+use Rattle.guarantees.proofs.Covers.{spokeCount, spoke-said, uncover-spoke}
+use Rattle.guarantees.proofs.Fitting.{Fitting, fitting-next}
+use Rattle.guarantees.proofs.Fits.{InOrder, order-same, start-fit, compatible-back, true-too, true-back, keeps-too}
 
 -- ---- refused alike before the last ground
 
@@ -93,6 +80,16 @@ module _ {s s′ : State} (number round : ℕ) (tape tape′ work work′ incomi
       let there = hear-early ∙ ap (λ (b : Bool). firstOf (early ++ ((13 when not b) ∷ []))) fits in
       hear-own ∙ sym (last-free early 13 (not (wordsFit (s .n) incoming)) (λ z. some (there ∙ z))) ∙ sym there
 
+  -- taken in the second run, a message with a word p or more is refused with 13 in the first
+  hear-thirteen : hearGround s′ number round tape′ work′ incoming′ ≡ 0 → wordsFit (s .n) incoming ≡ false
+      → hearGround s number round tape work incoming ≡ 13
+  hear-thirteen taken unfit =
+      let numbered : Numbered early = omega arith in
+      let passed = both-none early ((13 when not (wordsFit (s .n) incoming′)) ∷ []) numbered (sym hear-early ∙ taken) .0 in
+      hear-own
+      ∙ ap (λ (b : Bool). firstOf (early ++ ((13 when not b) ∷ []))) unfit
+      ∙ first-none early ((13 when true) ∷ []) numbered passed
+
   -- where a message that is taken in one run fits in the other, both refuse alike
   hear-alike : (hearGround s number round tape work incoming ≡ 0 → wordsFit (s .n) incoming′ ≡ true)
       → (hearGround s′ number round tape′ work′ incoming′ ≡ 0 → wordsFit (s .n) incoming ≡ true)
@@ -106,35 +103,6 @@ module _ {s s′ : State} (number round : ℕ) (tape tape′ work work′ incomi
       go true false p q = hear-before p (λ z. true≢false (sym (there z) ∙ q))
       go false true p q = hear-after q (λ z. true≢false (sym (back z) ∙ p))
 
--- ---- speaking
-
-speak-fits : (s : State) (number round : ℕ) (tape work out : List ℕ)
-    → let r = speakRule s number round tape work out in
-    isSpoke (replied (r .reply)) ≡ true → wordsFit (s .n) (spokenWords (r .reply) (r .buffer)) ≡ true
-unfolding speakRule
-speak-fits s number round tape work out =
-    decide (λ r. isSpoke (replied (r .reply)) ≡ true → wordsFit (s .n) (spokenWords (r .reply) (r .buffer)) ≡ true)
-    (speakGround s number round tape work out) s out _
-    (λ zero-ground told.
-    let p = speak-passed s number round tape work out zero-ground in
-    subst (λ (l : List ℕ). wordsFit (s .n) l ≡ true) (sym (spoken-front s tape work out round (p .out-room)))
-    (message-fits s tape work round (p .turn .sound .width)))
-    (λ told. absurd (false≢true told))
-
-fits-none : (n : ℕ) → wordsFit n [] ≡ true
-fits-none n = every-intro 0 (λ i. ltb (getD {A = ℕ} [] i 0) (modulus n)) (λ i less. absurd (omega (arith, less)))
-
-fitting-next : (g : Setting) (place : ℕ) (w : World) (c : Box) (step : Step) → Fitting (w .log) → Fitting (stepped g place w c step .log)
-unfolding stepped
-fitting-next g place w c (wake n side p) f = fitting-after w c _ _ f (λ told. fits-none n)
-fitting-next g place w c (start number lent) f = fitting-after w c _ _ f (λ told. fits-none (memoryOf w c .state .n))
-fitting-next g place w c (speak number round lent out) f =
-    fitting-after w c _ _ f (speak-fits (memoryOf w c .state) number round (tapeWords g lent) (memoryOf w c .work) out)
-fitting-next g place w c (hear number round lent incoming) f = fitting-after w c _ _ f (λ told. fits-none (memoryOf w c .state .n))
-fitting-next g place w c drop f = fitting-after w c _ _ f (λ told. fits-none (memoryOf w c .state .n))
-fitting-next g place w c (cut room) f = fitting-after w c _ _ f (λ told. fits-none (memoryOf w c .state .n))
-fitting-next g place w c (cutStart number lent value room) f = fitting-after w c _ _ f (λ told. fits-none (memoryOf w c .state .n))
-
 -- ---- two runs
 
 module _ (g g′ : Setting) (pair : ℕ) (orders : InOrder g pair) (orders′ : InOrder g′ pair) where
@@ -147,7 +115,7 @@ module _ (g g′ : Setting) (pair : ℕ) (orders : InOrder g pair) (orders′ : 
   true-fits : (log : List Event) → Fitting log → (c : Box) (number n round : ℕ) (incoming : Incoming) → True log c number n round incoming
       → wordsFit n (incomingWords log incoming) ≡ true
   true-fits log fits c number n round incoming t =
-      rw (t .named, ← t .wide) (fits (t .place) (ap isSpoke (t .uttered)))
+      rw (t .named) (fits (t .place) n (λ told. le-of-eq (t .wide)))
 
   -- both runs heard as many words
   long-same : (w w′ : World) → Skeleton w w′ → (incoming : Incoming)
@@ -155,26 +123,36 @@ module _ (g g′ : Setting) (pair : ℕ) (orders : InOrder g pair) (orders′ : 
   long-same w w′ k (spokenAt place) = k .events place .long
   long-same w w′ k (other words) = refl
 
+  -- what the second run asks of the first: a message taken there has its words below p here
+  abbrev Below : World → World → Box → Step → Type 0
+  Below w w′ c (wake n side p) = Unit {0}
+  Below w w′ c (start number lent) = Unit {0}
+  Below w w′ c (speak number round lent out) = Unit {0}
+  Below w w′ c (hear number round lent incoming) =
+      hearGround (memoryOf w′ c .state) number round (tapeWords g′ lent) (memoryOf w′ c .work) (incomingWords (w′ .log) incoming) ≡ 0
+      → wordsFit (memoryOf w c .state .n) (incomingWords (w .log) incoming) ≡ true
+  Below w w′ c drop = Unit {0}
+  Below w w′ c (cut room) = Unit {0}
+  Below w w′ c (cutStart number lent value room) = Unit {0}
+
   fit : (place : ℕ) (w w′ : World) (c : Box) (step : Step) → Steady w w′ → Compatible (g′ .shares) g place w c step
-      → Keeps g pair place w c step → Keeps g′ pair place w′ c step → Fit g g′ place w w′ c step
-  fit place w w′ c (wake n side p) j h keeps keeps′ = tt
-  fit place w w′ c (start number lent) j h keeps keeps′ = start-fit g g′ pair orders orders′ w w′ (j .skeleton) place c number lent (h .0) (h .1)
-  fit place w w′ c (speak number round lent out) j h keeps keeps′ =
+      → Keeps g pair place w c step → Below w w′ c step → Fit g g′ place w w′ c step
+  fit place w w′ c (wake n side p) j h keeps below = tt
+  fit place w w′ c (start number lent) j h keeps below = start-fit g g′ pair orders orders′ w w′ (j .skeleton) place c number lent (h .0) (h .1)
+  fit place w w′ c (speak number round lent out) j h keeps below =
       let s = memoryOf w c .state in
       let t = memories c (j .skeleton) in
       speak-same number round _ _ _ _ out (t .state) (t .room) (order-same g g′ pair orders orders′ (s .n) (s .pair) (s .side) number lent)
-  fit place w w′ c (hear number round lent incoming) j h keeps keeps′ =
+  fit place w w′ c (hear number round lent incoming) j h keeps below =
       let s = memoryOf w c .state in
       let t = memories c (j .skeleton) in
       hear-alike number round _ _ _ _ _ _ (t .state) (t .room) (order-same g g′ pair orders orders′ (s .n) (s .pair) (s .side) number lent)
       (long-same w w′ (j .skeleton) incoming)
       (λ taken. true-fits (w′ .log) (j .fits′) c number (s .n) round incoming (true-too w w′ (j .skeleton) c number _ _ round incoming refl (keeps taken .1)))
-      (λ taken.
-      true-fits (w .log) (j .fits) c number (s .n) round incoming
-      (true-back w w′ (j .skeleton) c number _ _ round incoming (t .state .n) (keeps′ taken .1)))
-  fit place w w′ c drop j h keeps keeps′ = tt
-  fit place w w′ c (cut room) j h keeps keeps′ = tt
-  fit place w w′ c (cutStart number lent value room) j h keeps keeps′ =
+      below
+  fit place w w′ c drop j h keeps below = tt
+  fit place w w′ c (cut room) j h keeps below = tt
+  fit place w w′ c (cutStart number lent value room) j h keeps below =
       start-fit g g′ pair orders orders′ w w′ (j .skeleton) place c number lent (h .0) (h .1)
 
   steady-next : (place : ℕ) (w w′ : World) (c : Box) (step : Step) → Steady w w′ → Fit g g′ place w w′ c step
@@ -186,10 +164,94 @@ module _ (g g′ : Setting) (pair : ℕ) (orders : InOrder g pair) (orders′ : 
         fits′ = fitting-next g′ place w′ c step (j .fits′);
       }
 
+  -- ---- both runs meet the premises
+
+  true-below : (place : ℕ) (w w′ : World) (c : Box) (step : Step) → Steady w w′ → Keeps g′ pair place w′ c step → Below w w′ c step
+  true-below place w w′ c (wake n side p) j keeps = tt
+  true-below place w w′ c (start number lent) j keeps = tt
+  true-below place w w′ c (speak number round lent out) j keeps = tt
+  true-below place w w′ c (hear number round lent incoming) j keeps =
+      λ taken.
+      true-fits (w .log) (j .fits) c number (memoryOf w c .state .n) round incoming
+      (true-back w w′ (j .skeleton) c number _ _ round incoming (memories c (j .skeleton) .state .n) (keeps taken .1))
+  true-below place w w′ c drop j keeps = tt
+  true-below place w w′ c (cut room) j keeps = tt
+  true-below place w w′ c (cutStart number lent value room) j keeps = tt
+
   pub steady : (es : List Entry) (place : ℕ) (w w′ : World) → Steady w w′ → AllCompatible (g′ .shares) g place w es
       → Meets g pair place w es → Meets g′ pair place w′ es → Skeleton (run g place w es) (run g′ place w′ es)
   steady [] place w w′ j compatible meets meets′ = j .skeleton
   steady (e ∷ es) place w w′ j compatible meets meets′ =
       steady es (suc place) _ _
-      (steady-next place w w′ (e .box) (e .step) j (fit place w w′ (e .box) (e .step) j (compatible .0) (meets .0) (meets′ .0)))
+      (steady-next place w w′ (e .box) (e .step) j
+      (fit place w w′ (e .box) (e .step) j (compatible .0) (meets .0) (true-below place w w′ (e .box) (e .step) j (meets′ .0))))
       (compatible .1) (meets .1) (meets′ .1)
+
+  -- ---- the first does, and no message is of a larger width
+
+  -- spoken under no larger width, a message fits
+  narrow-fits : (log : List Event) → Fitting log → (n place : ℕ) → NotWider log n (spokenAt place) → wordsFit n (eventAt log place .spoken) ≡ true
+  narrow-fits log fits n place least =
+      fits place n (λ told. least (spokeCount (eventAt log place .said)) (spoke-said (eventAt log place .said) told))
+
+  -- so a hear is refused with 13 for other words only, which are the same in both runs
+  narrow-below : (w w′ : World) (c : Box) (step : Step) → Steady w w′ → Narrow g w c step → Below w w′ c step
+  narrow-below w w′ c (wake n side p) j narrow = tt
+  narrow-below w w′ c (start number lent) j narrow = tt
+  narrow-below w w′ c (speak number round lent out) j narrow = tt
+  narrow-below w w′ c (hear number round lent (spokenAt place)) j narrow = λ taken. go (wordsFit (m .state .n) words) refl taken
+    where
+      m : Memory
+      m = memoryOf w c
+
+      words : List ℕ
+      words = eventAt (w .log) place .spoken
+
+      go : (b : Bool) → wordsFit (m .state .n) words ≡ b
+          → hearGround (memoryOf w′ c .state) number round (tapeWords g′ lent) (memoryOf w′ c .work) (eventAt (w′ .log) place .spoken) ≡ 0
+          → wordsFit (m .state .n) words ≡ true
+      go true fits taken = fits
+      go false unfit taken =
+          let t = memories c (j .skeleton) in
+          narrow-fits (w .log) (j .fits) (m .state .n) place
+          (narrow
+          (hear-thirteen number round _ _ _ _ words _ (t .state) (t .room)
+          (order-same g g′ pair orders orders′ (m .state .n) (m .state .pair) (m .state .side) number lent)
+          (j .skeleton .events place .long) taken unfit))
+  narrow-below w w′ c (hear number round lent (other words)) j narrow =
+      λ taken. rw (memories c (j .skeleton) .state .n) (hear-passed (memoryOf w′ c .state) number round _ _ words taken .words)
+  narrow-below w w′ c drop j narrow = tt
+  narrow-below w w′ c (cut room) j narrow = tt
+  narrow-below w w′ c (cutStart number lent value room) j narrow = tt
+
+  narrow-too : (place : ℕ) (w w′ : World) (c : Box) (step : Step) → Skeleton w w′ → Fit g g′ place w w′ c step → Narrow g w c step
+      → Narrow g′ w′ c step
+  narrow-too place w w′ c (wake n side p) k f narrow = tt
+  narrow-too place w w′ c (start number lent) k f narrow = tt
+  narrow-too place w w′ c (speak number round lent out) k f narrow = tt
+  narrow-too place w w′ c (hear number round lent (spokenAt from)) k f narrow =
+      λ ground count said.
+      let se = k .events from in
+      rw (← se .width, ← memories c k .state .n) (narrow (f ∙ ground) count (uncover-spoke _ count (se .said ∙ ap covered said)))
+  narrow-too place w w′ c (hear number round lent (other words)) k f narrow = λ ground. tt
+  narrow-too place w w′ c drop k f narrow = tt
+  narrow-too place w w′ c (cut room) k f narrow = tt
+  narrow-too place w w′ c (cutStart number lent value room) k f narrow = tt
+
+  -- what then holds of the second run
+  pub record Lasts (es : List Entry) (place : ℕ) (w′ : World) : Type 0 where
+    pub meets : Meets g′ pair place w′ es
+    pub compatible : AllCompatible (g .shares) g′ place w′ es
+    pub narrow : AllNarrow g′ place w′ es
+
+  pub lasts : (es : List Entry) (place : ℕ) (w w′ : World) → Steady w w′ → AllCompatible (g′ .shares) g place w es
+      → Meets g pair place w es → AllNarrow g place w es → Lasts es place w′
+  lasts [] place w w′ j compatible meets narrow = record { meets = tt; compatible = tt; narrow = tt }
+  lasts (e ∷ es) place w w′ j compatible meets narrow =
+      let f = fit place w w′ (e .box) (e .step) j (compatible .0) (meets .0) (narrow-below w w′ (e .box) (e .step) j (narrow .0)) in
+      let rest = lasts es (suc place) _ _ (steady-next place w w′ (e .box) (e .step) j f) (compatible .1) (meets .1) (narrow .1) in
+      record {
+        meets = (keeps-too g g′ pair place w w′ (j .skeleton) (e .box) (e .step) f (meets .0), rest .meets);
+        compatible = (compatible-back g g′ place w w′ (e .box) (e .step) (j .skeleton) (compatible .0), rest .compatible);
+        narrow = (narrow-too place w w′ (e .box) (e .step) (j .skeleton) f (narrow .0), rest .narrow);
+      }

@@ -6,5 +6,6 @@ pub mod View
 pub mod Secrecy
 pub mod Maps
 pub mod Counting
+pub mod AnyTapes
 pub mod Correctness
 pub mod Possible
