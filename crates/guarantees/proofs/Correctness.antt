@@ -22,13 +22,13 @@ use Rattle.rules.specs.Answers.{fresh, started, spoke, heard, share, dropped, r
 use Rattle.guarantees.specs.Boxes.{Box, first, second, sideOf}
 use Rattle.guarantees.specs.Entries.{Step, wake, start, speak, hear, drop, cut, cutStart, Entry}
 use Rattle.guarantees.specs.Run.{Lending, Setting, Said, nothing, replied, Event, World, memoryOf, eventAt, stepped, run}
-use Rattle.guarantees.specs.Premises.{Meets}
+use Rattle.guarantees.specs.Premises.{AtFirst, AllDealt, Meets}
 use Rattle.guarantees.specs.Maps.{sameBox, isStarted, opens, openedAt}
-use Rattle.guarantees.specs.Correctness.{Told, Correctness}
-use Rattle.guarantees.proofs.Jobs.{blank, answerBy}
+use Rattle.guarantees.specs.Correctness.{Told, Begun, Exchanged, Right, Correctness}
+use Rattle.guarantees.specs.Jobs.{blank, sentBy, answerBy}
 use Rattle.guarantees.proofs.Openings.{Marked, marked-next, Once, once-next, one-more, next-place, run-grows, found, same-box, same-self}
 use Rattle.guarantees.proofs.First.{follows-first, marked-first, once-first}
-use Rattle.guarantees.proofs.Follows.{Answered, True-to, Follows, Booked, follows-next}
+use Rattle.guarantees.proofs.Follows.{Uttered, Answered, True-to, Follows, Booked, follows-next}
 
 -- ---- the shares that opened each job; out of range where none was opened
 
@@ -175,41 +175,83 @@ bitOf n u v = indicator (ltb ((u .x + v .x) % modulus n) ((u .y + v .y) % modulu
 bit-below : (n : ℕ) (u v : Lending) → listed n ≡ true → bitOf n u v % modulus n ≡ bitOf n u v
 bit-below n u v l = mod-eq-of-lt (omega (arith, indicator-bit (ltb ((u .x + v .x) % modulus n) ((u .y + v .y) % modulus n)), bounds l))
 
+-- ---- a run that meets the premises
+
+module _ (g : Setting) (pair : ℕ) (w : World) (entries : List Entry) (at : AtFirst w) (dealt : AllDealt (g .tapes) first pair)
+    (meets : Meets g pair 0 w entries) where
+  abbrev log : List Event
+  log = run g 0 w entries .log
+
+  abbrev lent : Box → ℕ → ℕ → Lending
+  lent = book (g .shares) log
+
+  whole : Ran g pair log (run g 0 w entries)
+  whole =
+      ran g pair log entries 0 w (record { follows = follows-first g pair lent w at; once = once-first w at }) (marked-first w at)
+      (ap length (at .no-events)) refl meets
+
+  -- a box that has shares in the book had its start
+  begun : (b : Box) (number n : ℕ) → lent b number n .x < modulus n → Begun log b number n
+  begun b number n fits =
+      record { place = openedAt log b number n; told = told-start log b number n (opened-before (g .shares) log b number n fits) }
+
+  answered : (b : Box) (place number n v : ℕ) → Told log place b number n (replied (share v))
+      → Answered g pair lent (record { box = b; number = number; width = n; round = 0; said = nothing; spoken = []; incoming = [] }) v
+  answered b place number n v t = answer-told g pair log log place b number n v (whole .follows .events) t
+
+  exchanged : Exchanged g log
+  exchanged =
+      record {
+        book = lent;
+        lent = λ b place number n t. shares-there b place number n t;
+        messages = λ b place number n count t. spoken b place number n count t;
+        answers = λ b place number n v t. (
+          begun b number n (answered b place number n v t .x-fits),
+          answered b place number n v t .is,
+        );
+      }
+    where
+      shares-there : (b : Box) (place number n : ℕ) → Told log place b number n (replied started) → lent b number n ≡ g .shares b place
+      shares-there b place number n t =
+          let here = only-start log (whole .once) b number n place t in
+          book-opened (g .shares) log b number n (subst (λ (k : ℕ). k < length log) here (t .within)) ∙ ap (g .shares b) (sym here)
+
+      spoken : (b : Box) (place number n count : ℕ) → Told log place b number n (replied (spoke count))
+          → Begun log b number n × (eventAt log place .spoken ≡ sentBy (g .tapes) lent b number n (eventAt log place .round))
+      spoken b place number n count t =
+          let e = eventAt log place in
+          let u : Uttered g pair lent e = subst (True-to g pair lent e) (t .said-is) (whole .follows .events place) in
+          (begun b number n (rw (← t .box, ← t .numbered, ← t .wide) (u .x-fits)), u .words ∙ rw (t .box, t .numbered, t .wide))
+
+  right-sum : (k1 k2 number n v1 v2 : ℕ) → Told log k1 first number n (replied (share v1)) → Told log k2 second number n (replied (share v2))
+      → Right g log number n v1 v2
+  right-sum k1 k2 number n v1 v2 t1 t2 =
+      record {
+        place = λ c. openedAt log c number n;
+        opened = λ c. told-start log c number n (before c);
+        only = λ c place t. only-start log (whole .once) c number n place t;
+        sum = added;
+      }
+    where
+      a1 : Answered g pair lent (record { box = first; number = number; width = n; round = 0; said = nothing; spoken = []; incoming = [] }) v1
+      a1 = answered first k1 number n v1 t1
+
+      a2 : Answered g pair lent (record { box = second; number = number; width = n; round = 0; said = nothing; spoken = []; incoming = [] }) v2
+      a2 = answered second k2 number n v2 t2
+
+      before : (c : Box) → openedAt log c number n < length log
+      before first = opened-before (g .shares) log first number n (a1 .x-fits)
+      before second = opened-before (g .shares) log second number n (a2 .x-fits)
+
+      added : (v1 + v2) % modulus n ≡ bitOf n (g .shares first (openedAt log first number n)) (g .shares second (openedAt log second number n))
+      added =
+          ap (λ (k : ℕ). (k + v2) % modulus n) (a1 .is)
+          ∙ ap (λ (k : ℕ). (answerBy (g .tapes) lent first number n + k) % modulus n) (a2 .is)
+          ∙ exchange-right (g .tapes) lent pair number n (dealt number n (a1 .width)) (a1 .y-fits) (a2 .y-fits) .same
+          ∙ bit-below n (lent first number n) (lent second number n) (a1 .width)
+          ∙ ap (λ (u : Lending). bitOf n u (lent second number n)) (book-opened (g .shares) log first number n (before first))
+          ∙ ap (bitOf n (g .shares first (openedAt log first number n))) (book-opened (g .shares) log second number n (before second))
+
 pub correctness : Correctness
-correctness g pair w entries at dealt meets k1 k2 number n v1 v2 t1 t2 =
-    record {
-      place = λ c. openedAt log c number n;
-      opened = λ c. told-start log c number n (before c);
-      only = λ c place t. only-start log (whole .once) c number n place t;
-      sum = added;
-    }
-  where
-    log : List Event
-    log = run g 0 w entries .log
-
-    whole : Ran g pair log (run g 0 w entries)
-    whole =
-        ran g pair log entries 0 w (record { follows = follows-first g pair (book (g .shares) log) w at; once = once-first w at }) (marked-first w at)
-        (ap length (at .no-events)) refl meets
-
-    a1 : Answered g pair (book (g .shares) log) (record { box = first; number = number; width = n; round = 0; said = nothing; spoken = []; incoming = [] }) v1
-    a1 = answer-told g pair log log k1 first number n v1 (whole .follows .events) t1
-
-    a2 : Answered g pair (book (g .shares) log) (record { box = second; number = number; width = n; round = 0; said = nothing; spoken = []; incoming = [] }) v2
-    a2 = answer-told g pair log log k2 second number n v2 (whole .follows .events) t2
-
-    before : (c : Box) → openedAt log c number n < length log
-    before first = opened-before (g .shares) log first number n (a1 .x-fits)
-    before second = opened-before (g .shares) log second number n (a2 .x-fits)
-
-    lent : Box → Lending
-    lent c = book (g .shares) log c number n
-
-    added : (v1 + v2) % modulus n ≡ bitOf n (g .shares first (openedAt log first number n)) (g .shares second (openedAt log second number n))
-    added =
-        ap (λ (k : ℕ). (k + v2) % modulus n) (a1 .is)
-        ∙ ap (λ (k : ℕ). (answerBy (g .tapes) (book (g .shares) log) first number n + k) % modulus n) (a2 .is)
-        ∙ exchange-right (g .tapes) (book (g .shares) log) pair number n (dealt number n (a1 .width)) (a1 .y-fits) (a2 .y-fits) .same
-        ∙ bit-below n (lent first) (lent second) (a1 .width)
-        ∙ ap (λ (u : Lending). bitOf n u (lent second)) (book-opened (g .shares) log first number n (before first))
-        ∙ ap (bitOf n (g .shares first (openedAt log first number n))) (book-opened (g .shares) log second number n (before second))
+correctness g pair w entries at dealt meets =
+    record { exchanged = exchanged g pair w entries at dealt meets; right = right-sum g pair w entries at dealt meets }

@@ -26,7 +26,8 @@ use Rattle.guarantees.specs.Boxes.{Box, first, second, sideOf, partner}
 use Rattle.guarantees.specs.Entries.{Lent, dealt, Incoming, Step, wake, start, speak, hear, drop, cut, cutStart}
 use Rattle.guarantees.specs.Run.{Lending, Setting, Memory, Said, nothing, replied, Event, World, memoryOf, after, afterCut, eventAt, tapeWords, incomingWords, spokenWords, stepped}
 use Rattle.guarantees.specs.Premises.{True, Keeps}
-use Rattle.guarantees.proofs.Jobs.{partyAt, holding, sentBy, answerBy, sent-is, holding-next, answer-is, holding-room}
+use Rattle.guarantees.specs.Jobs.{partyAt, sentBy, answerBy}
+use Rattle.guarantees.proofs.Jobs.{holding, sent-is, holding-next, answer-is, holding-room}
 use Rattle.rules.proofs.Spoken.{spoken-front}
 use Rattle.rules.proofs.Chains.{decide, pass}
 use Rattle.rules.proofs.Ranges.{awake-mode, awake-listed, Due, job-range}
@@ -66,6 +67,7 @@ module _ (g : Setting) (pair : ℕ) (book : Box → ℕ → ℕ → Lending) whe
     pub heard : ℕ
     pub round-is : e .round ≡ suc heard
     pub early : heard < 6
+    pub x-fits : book (e .box) (e .number) (e .width) .x < modulus (e .width)
     pub words : e .spoken ≡ sentBy (g .tapes) book (e .box) (e .number) (e .width) (e .round)
 
   -- and so is an answer share
@@ -258,6 +260,7 @@ module _ (g : Setting) (pair : ℕ) (book : Box → ℕ → ℕ → Lending) whe
           heard = i .heard;
           round-is = i .count;
           early = j .early;
+          x-fits = j .x-fits;
           words =
               spoken-front (m .state) (tapeWords g lent) (m .work) out round (p .out-room)
               ∙ rw (j .party-is, i .count)

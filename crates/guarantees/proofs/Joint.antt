@@ -14,7 +14,7 @@ use Rattle.guarantees.specs.Run.{Lending, Setting, Memory, Said, nothing
 use Rattle.guarantees.specs.Premises.{Keeps, Compatible}
 use Rattle.guarantees.specs.View.{seen, view}
 use Rattle.guarantees.proofs.Twins.{SameEvent, Skeleton}
-use Rattle.guarantees.proofs.Jobs.{sentBy, answerBy}
+use Rattle.guarantees.specs.Jobs.{sentBy, answerBy}
 use Rattle.guarantees.proofs.Refusals.{speak-same, hear-same}
 use Rattle.guarantees.proofs.Skeletons.{Fit, memories, next}
 use Rattle.guarantees.proofs.Covers.{isSpoke, spoke-same, uncover, said-to}

@@ -11,7 +11,7 @@ use Rattle.protocol.specs.Exchange.{Both, exchanged, sentOwn, sentOthers, answe
 use Rattle.protocol.specs.Pairing.{Roomy, LooksAlike}
 use Rattle.guarantees.specs.Boxes.{Box, first, second, sideOf, partner}
 use Rattle.guarantees.specs.Run.{Lending}
-use Rattle.guarantees.proofs.Jobs.{blank, partyAt, sentBy, answerBy}
+use Rattle.guarantees.specs.Jobs.{blank, partyAt, sentBy, answerBy}
 
 -- ---- the same exchange with the boxes named the other way round
 

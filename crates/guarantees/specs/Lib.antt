@@ -7,5 +7,6 @@ pub mod Secrecy
 pub mod Maps
 pub mod Counting
 pub mod AnyTapes
+pub mod Jobs
 pub mod Correctness
 pub mod Possible
