@@ -1,5 +1,5 @@
 -- The shares that opened each job of a run: found by the job's place in the log, reduced so that they are in range in any case.
-use Prim.Native.Nat.{ℕ, suc, _%_, _<_}
+use Prim.Native.Nat.{ℕ, suc, _<_}
 use mathlib.Core.Path.{_≡_, refl, sym, ap, _∙_}
 use mathlib.Core.Bool.{true}
 use mathlib.Core.List.{List}
@@ -32,7 +32,7 @@ abbrev pub bookOf : (Box → ℕ → Lending) → List Event → Box → ℕ →
 bookOf shares log c number n = clip n (shares c (openedAt log c number n))
 
 -- the log of the run from here on finds a start that is not refused
-module _ (g : Setting) (pair : ℕ) (log : List Event) (es : List Entry) (place : ℕ) (w : World) (c : Box) (marked : Marked w)
+module _ (g : Setting) (log : List Event) (es : List Entry) (place : ℕ) (w : World) (c : Box) (marked : Marked w)
     (at : length (w .log) ≡ place) where
   opened : (number : ℕ) (lent : Lent) → run g (suc place) (stepped g place w c (start number lent)) es .log ≡ log
       → startGround (memoryOf w c .state) number (g .shares c place .x) (g .shares c place .y) (tapeWords g lent) (memoryOf w c .work) (memoryOf w c .tally)
@@ -42,7 +42,7 @@ module _ (g : Setting) (pair : ℕ) (log : List Event) (es : List Entry) (place 
       ap (λ (l : List Event). openedAt l c number (memoryOf w c .state .n)) (sym end) ∙ found g place w c number lent es marked ground ∙ at
 
   pub booked : (step : Step) → run g (suc place) (stepped g place w c step) es .log ≡ log
-      → Booked g pair (bookOf (g .shares) log) place w c step
+      → Booked g (bookOf (g .shares) log) place w c step
   booked (wake n side p) end = tt
   booked (start number lent) end =
       λ ground.
@@ -59,7 +59,7 @@ module _ (g : Setting) (pair : ℕ) (log : List Event) (es : List Entry) (place 
   -- the second run's shares stand at the same places
   pub booked-too : (g′ : Setting) (w′ : World) (step : Step) → Skeleton w w′ → Fit g g′ place w w′ c step
       → run g (suc place) (stepped g place w c step) es .log ≡ log
-      → Booked g′ pair (bookOf (g′ .shares) log) place w′ c step
+      → Booked g′ (bookOf (g′ .shares) log) place w′ c step
   booked-too g′ w′ (wake n side p) k f end = tt
   booked-too g′ w′ (start number lent) k f end =
       λ ground.

@@ -27,6 +27,7 @@ use Rattle.guarantees.specs.Maps.{sameBox, isStarted, opens, openedAt}
 use Rattle.guarantees.specs.Correctness.{Told, Begun, Exchanged, Right, Correctness}
 use Rattle.guarantees.specs.Jobs.{blank, sentBy, answerBy}
 use Rattle.guarantees.proofs.Openings.{Marked, marked-next, Once, once-next, one-more, next-place, run-grows, found, same-box, same-self}
+use Rattle.guarantees.proofs.Fits.{InOrder}
 use Rattle.guarantees.proofs.First.{follows-first, marked-first, once-first}
 use Rattle.guarantees.proofs.Follows.{Uttered, Answered, True-to, Follows, Booked, follows-next}
 
@@ -38,9 +39,9 @@ bookAt shares long n c place = cond (ltb place long) (shares c place) (record { 
 abbrev book : (Box → ℕ → Lending) → List Event → Box → ℕ → ℕ → Lending
 book shares log c number n = bookAt shares (length log) n c (openedAt log c number n)
 
-module _ (g : Setting) (pair : ℕ) (log : List Event) where
+module _ (g : Setting) (pair : ℕ) (orders : InOrder g pair) (log : List Event) where
   booked : (es : List Entry) (place : ℕ) (w : World) (c : Box) (step : Step) → Marked w → length (w .log) ≡ place
-      → run g (suc place) (stepped g place w c step) es .log ≡ log → Booked g pair (book (g .shares) log) place w c step
+      → run g (suc place) (stepped g place w c step) es .log ≡ log → Booked g (book (g .shares) log) place w c step
   booked es place w c (wake n side p) marked at end = tt
   booked es place w c (start number lent) marked at end =
       λ ground.
@@ -60,17 +61,17 @@ module _ (g : Setting) (pair : ℕ) (log : List Event) where
 
   -- a whole run
   record Ran (w : World) : Type 0 where
-    follows : Follows g pair (book (g .shares) log) w
+    follows : Follows g (book (g .shares) log) w
     once : Once (w .log)
 
   ran : (es : List Entry) (place : ℕ) (w : World) → Ran w → Marked w → length (w .log) ≡ place → run g place w es .log ≡ log
-      → Meets g pair place w es → Ran (run g place w es)
+      → Meets g place w es → Ran (run g place w es)
   ran [] place w r marked at end meets = r
   ran (e ∷ es) place w r marked at end meets =
       ran es (suc place) (stepped g place w (e .box) (e .step))
       (record {
         follows =
-            follows-next g pair (book (g .shares) log) place w (e .box) (e .step) (r .follows) (meets .0) (booked es place w (e .box) (e .step) marked at end);
+            follows-next g (book (g .shares) log) pair orders place w (e .box) (e .step) (r .follows) (meets .0) (booked es place w (e .box) (e .step) marked at end);
         once = once-next w _ marked (one-more g place w (e .box) (e .step)) (r .once);
       })
       (marked-next g place w (e .box) (e .step) marked) (next-place g place w (e .box) (e .step) ∙ ap suc at) end (meets .1)
@@ -142,12 +143,12 @@ book-opened : (shares : Box → ℕ → Lending) (log : List Event) (c : Box) (n
 book-opened shares log c number n less = rw (lt-ltb (openedAt log c number n) (length log) less) refl
 
 -- the answer told is the exchange's
-answer-told : (g : Setting) (pair : ℕ) (log log′ : List Event) (k : ℕ) (c : Box) (number n v : ℕ)
-    → ((i : ℕ) → True-to g pair (book (g .shares) log) (eventAt log′ i) (eventAt log′ i .said))
+answer-told : (g : Setting) (log log′ : List Event) (k : ℕ) (c : Box) (number n v : ℕ)
+    → ((i : ℕ) → True-to g (book (g .shares) log) (eventAt log′ i) (eventAt log′ i .said))
     → Told log′ k c number n (replied (share v))
-    → Answered g pair (book (g .shares) log) (record { box = c; number = number; width = n; round = 0; said = nothing; spoken = []; incoming = [] }) v
-answer-told g pair log log′ k c number n v events t =
-    let a : Answered g pair (book (g .shares) log) (eventAt log′ k) v = subst (True-to g pair (book (g .shares) log) (eventAt log′ k)) (t .said-is) (events k) in
+    → Answered g (book (g .shares) log) (record { box = c; number = number; width = n; round = 0; said = nothing; spoken = []; incoming = [] }) v
+answer-told g log log′ k c number n v events t =
+    let a : Answered g (book (g .shares) log) (eventAt log′ k) v = subst (True-to g (book (g .shares) log) (eventAt log′ k)) (t .said-is) (events k) in
     record {
       width = rw (← t .wide) (a .width);
       is = rw (← t .box, ← t .numbered, ← t .wide) (a .is);
@@ -177,17 +178,22 @@ bit-below n u v l = mod-eq-of-lt (omega (arith, indicator-bit (ltb ((u .x + v .x
 
 -- ---- a run that meets the premises
 
+all-orders : (g : Setting) (pair : ℕ) → AllDealt (g .tapes) first pair → InOrder g pair
+unfolding other
+all-orders g pair dealt first number n l = dealt number n l .own-order
+all-orders g pair dealt second number n l = dealt number n l .others-order
+
 module _ (g : Setting) (pair : ℕ) (w : World) (entries : List Entry) (at : AtFirst w) (dealt : AllDealt (g .tapes) first pair)
-    (meets : Meets g pair 0 w entries) where
+    (meets : Meets g 0 w entries) where
   abbrev log : List Event
   log = run g 0 w entries .log
 
   abbrev lent : Box → ℕ → ℕ → Lending
   lent = book (g .shares) log
 
-  whole : Ran g pair log (run g 0 w entries)
+  whole : Ran g pair (all-orders g pair dealt) log (run g 0 w entries)
   whole =
-      ran g pair log entries 0 w (record { follows = follows-first g pair lent w at; once = once-first w at }) (marked-first w at)
+      ran g pair (all-orders g pair dealt) log entries 0 w (record { follows = follows-first g lent w at; once = once-first w at }) (marked-first w at)
       (ap length (at .no-events)) refl meets
 
   -- a box that has shares in the book had its start
@@ -196,8 +202,8 @@ module _ (g : Setting) (pair : ℕ) (w : World) (entries : List Entry) (at : AtF
       record { place = openedAt log b number n; told = told-start log b number n (opened-before (g .shares) log b number n fits) }
 
   answered : (b : Box) (place number n v : ℕ) → Told log place b number n (replied (share v))
-      → Answered g pair lent (record { box = b; number = number; width = n; round = 0; said = nothing; spoken = []; incoming = [] }) v
-  answered b place number n v t = answer-told g pair log log place b number n v (whole .follows .events) t
+      → Answered g lent (record { box = b; number = number; width = n; round = 0; said = nothing; spoken = []; incoming = [] }) v
+  answered b place number n v t = answer-told g log log place b number n v (whole .follows .events) t
 
   exchanged : Exchanged g log
   exchanged =
@@ -220,7 +226,7 @@ module _ (g : Setting) (pair : ℕ) (w : World) (entries : List Entry) (at : AtF
           → Begun log b number n × (eventAt log place .spoken ≡ sentBy (g .tapes) lent b number n (eventAt log place .round))
       spoken b place number n count t =
           let e = eventAt log place in
-          let u : Uttered g pair lent e = subst (True-to g pair lent e) (t .said-is) (whole .follows .events place) in
+          let u : Uttered g lent e = subst (True-to g lent e) (t .said-is) (whole .follows .events place) in
           (begun b number n (rw (← t .box, ← t .numbered, ← t .wide) (u .x-fits)), u .words ∙ rw (t .box, t .numbered, t .wide))
 
   right-sum : (k1 k2 number n v1 v2 : ℕ) → Told log k1 first number n (replied (share v1)) → Told log k2 second number n (replied (share v2))
@@ -233,10 +239,10 @@ module _ (g : Setting) (pair : ℕ) (w : World) (entries : List Entry) (at : AtF
         sum = added;
       }
     where
-      a1 : Answered g pair lent (record { box = first; number = number; width = n; round = 0; said = nothing; spoken = []; incoming = [] }) v1
+      a1 : Answered g lent (record { box = first; number = number; width = n; round = 0; said = nothing; spoken = []; incoming = [] }) v1
       a1 = answered first k1 number n v1 t1
 
-      a2 : Answered g pair lent (record { box = second; number = number; width = n; round = 0; said = nothing; spoken = []; incoming = [] }) v2
+      a2 : Answered g lent (record { box = second; number = number; width = n; round = 0; said = nothing; spoken = []; incoming = [] }) v2
       a2 = answered second k2 number n v2 t2
 
       before : (c : Box) → openedAt log c number n < length log

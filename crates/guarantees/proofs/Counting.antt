@@ -1,8 +1,6 @@
 -- The pairing, read as a pairing of the sets that give one view.
-use Prim.Native.Nat.{ℕ}
-use mathlib.Core.Path.{_≡_, sym, ap, _∙_}
-use Rattle.guarantees.specs.Secrecy.{TapeSet}
-use Rattle.guarantees.specs.Counting.{Gives, AsMany, Counting}
+use mathlib.Core.Path.{sym, ap, _∙_}
+use Rattle.guarantees.specs.Counting.{Counting}
 
 pub counting : Counting
 counting c b shares shares′ p w w′ range rest valid seen =

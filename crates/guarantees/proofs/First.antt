@@ -22,20 +22,20 @@ use Rattle.guarantees.proofs.Logs.{same-event}
 use Rattle.guarantees.proofs.Openings.{Unopened, Marked, Once}
 use Rattle.guarantees.proofs.Follows.{Phased, Holds, True-to, Follows}
 
-module _ (g : Setting) (pair : ℕ) (book : Box → ℕ → ℕ → Lending) where
-  asleep-phased : (b : Box) (s : State) (work : List ℕ) (p : Phase) → isAsleep p ≡ true → Phased g pair book b s work p
+module _ (g : Setting) (book : Box → ℕ → ℕ → Lending) where
+  asleep-phased : (b : Box) (s : State) (work : List ℕ) (p : Phase) → isAsleep p ≡ true → Phased g book b s work p
   asleep-phased b s work Asleep h = tt
   asleep-phased b s work Idle h = absurd (false≢true h)
   asleep-phased b s work (Job turn number x y) h = absurd (false≢true h)
 
-  pub follows-first : (w : World) → AtFirst w → Follows g pair book w
+  pub follows-first : (w : World) → AtFirst w → Follows g book w
   follows-first w at =
       record {
         each = each;
-        events = λ k. subst (λ (l : List Event). True-to g pair book (eventAt l k) (eventAt l k .said)) (sym (at .no-events)) refl;
+        events = λ k. subst (λ (l : List Event). True-to g book (eventAt l k) (eventAt l k .said)) (sym (at .no-events)) refl;
       }
     where
-      each : (b : Box) → Holds g pair book b (memoryOf w b)
+      each : (b : Box) → Holds g book b (memoryOf w b)
       each first = record { holds = asleep-phased first (w .one .state) (w .one .work) (modeOf (w .one .state)) (at .first-asleep) }
       each second = record { holds = asleep-phased second (w .two .state) (w .two .work) (modeOf (w .two .state)) (at .second-asleep) }
 

@@ -10,7 +10,7 @@ use Rattle.field.specs.Width.{listed, modulus}
 use Rattle.tape.specs.Order.{inOrder}
 use Rattle.tape.proofs.Keys.{order-alike}
 use Rattle.rules.specs.Modes.{modeOf, isAsleep}
-use Rattle.rules.specs.Grounds.{wakeGround, startGround}
+use Rattle.rules.specs.Grounds.{startGround}
 use Rattle.guarantees.specs.Boxes.{Box, sideOf}
 use Rattle.guarantees.specs.Entries.{Lent, dealt, loose, Incoming, Step, wake, start, speak, hear, drop, cut, cutStart}
 use Rattle.guarantees.specs.Run.{Setting, Memory, World, memoryOf, tapeWords}
@@ -18,7 +18,7 @@ use Rattle.guarantees.specs.Premises.{True, Keeps, InBoth, Compatible}
 use Rattle.guarantees.specs.View.{covered}
 use Rattle.guarantees.proofs.Twins.{TwinMemory, Skeleton}
 use Rattle.guarantees.proofs.Turns.{asleep-same}
-use Rattle.guarantees.proofs.Refusals.{SharesAlike, wake-same, start-same}
+use Rattle.guarantees.proofs.Refusals.{SharesAlike, start-same}
 use Rattle.guarantees.proofs.Skeletons.{Fit, memories}
 use Rattle.guarantees.proofs.Covers.{uncover-spoke}
 
@@ -128,18 +128,16 @@ module _ (w w′ : World) (k : Skeleton w w′) where
 -- ---- the premises
 
 -- with the same grounds of refusal the second run keeps to what the first keeps to
-pub keeps-too : (g g′ : Setting) (pair place : ℕ) (w w′ : World) (k : Skeleton w w′) (c : Box) (step : Step) → Fit g g′ place w w′ c step
-    → Keeps g pair place w c step → Keeps g′ pair place w′ c step
-keeps-too g g′ pair place w w′ k c (wake n side p) f h =
-    let t = memories c k in
-    λ ground. h (wake-same n side (memoryOf w c .tally) (t .state) ∙ ap (wakeGround (memoryOf w′ c .state) n side) (t .tally) ∙ ground)
-keeps-too g g′ pair place w w′ k c (start number lent) f h = λ ground. h (f ∙ ground) ∙ ap (dealt c number) (memories c k .state .n)
-keeps-too g g′ pair place w w′ k c (speak number round lent out) f h = λ ground. h (f ∙ ground) ∙ ap (dealt c number) (memories c k .state .n)
-keeps-too g g′ pair place w w′ k c (hear number round lent incoming) f h =
+pub keeps-too : (g g′ : Setting) (place : ℕ) (w w′ : World) (k : Skeleton w w′) (c : Box) (step : Step) → Fit g g′ place w w′ c step
+    → Keeps g w c step → Keeps g′ w′ c step
+keeps-too g g′ place w w′ k c (wake n side p) f h = tt
+keeps-too g g′ place w w′ k c (start number lent) f h = tt
+keeps-too g g′ place w w′ k c (speak number round lent out) f h = λ ground. h (f ∙ ground) ∙ ap (dealt c number) (memories c k .state .n)
+keeps-too g g′ place w w′ k c (hear number round lent incoming) f h =
     λ ground.
     let kept = h (f ∙ ground) in
     let width = memories c k .state .n in
     (kept .0 ∙ ap (dealt c number) width, true-too w w′ k c number _ _ round incoming width (kept .1))
-keeps-too g g′ pair place w w′ k c drop f h = tt
-keeps-too g g′ pair place w w′ k c (cut room) f h = tt
-keeps-too g g′ pair place w w′ k c (cutStart number lent value room) f h = λ ground. h (f ∙ ground) ∙ ap (dealt c number) (memories c k .state .n)
+keeps-too g g′ place w w′ k c drop f h = tt
+keeps-too g g′ place w w′ k c (cut room) f h = tt
+keeps-too g g′ place w w′ k c (cutStart number lent value room) f h = tt

@@ -2,20 +2,22 @@
 -- and every answer share.
 use Prim.Native.Nat.{ℕ, zero, suc, _+_, _<_, _≤_}
 use mathlib.Core.Path.{_≡_, refl, sym, ap, subst, _∙_}
-use mathlib.Core.Bool.{Bool, true, false, not, cond, true≢false}
+use mathlib.Core.Bool.{Bool, true, false, cond}
 use mathlib.Core.List.{List, [], _∷_, _++_}
 use native.Mathlib.Omega.{arith}
 use borrow.Author.Tests.{eqb-true}
 use lib.Dec.{eqb}
 use lib.ListN.{length}
 use Rattle.field.specs.Width.{listed, modulus}
+use Rattle.tape.specs.Order.{inOrder}
+use Rattle.tape.proofs.Keys.{order-key}
 use Rattle.protocol.specs.Work.{workLength}
 use Rattle.protocol.specs.Rounds.{afterHearing, answerShare}
 use Rattle.protocol.proofs.Live.{Live, message-live, after-live, answer-live}
 use Rattle.protocol.proofs.Lengths.{after-length}
 use Rattle.rules.specs.Answers.{fresh, started, spoke, heard, share, dropped, refused}
-use Rattle.rules.specs.Modes.{roundOf, inRange, modeOf, isAsleep, inJob}
-use Rattle.rules.specs.Grounds.{_when_, wakeGround, startGround, speakGround, hearGround, dropGround}
+use Rattle.rules.specs.Modes.{roundOf, inRange, modeOf, isAsleep}
+use Rattle.rules.specs.Grounds.{wakeGround, startGround, speakGround, hearGround, dropGround}
 use Rattle.rules.specs.Calls.{Result, inPhase, partyOf, turned, wakeRule, startRule, speakRule, hearRule, dropRule}
 use Rattle.rules.specs.declared.state.Turn.{Turn}
 use Rattle.rules.specs.declared.state.Turn.the-variants.{Speak, Hear}
@@ -28,22 +30,17 @@ use Rattle.guarantees.specs.Run.{Lending, Setting, Memory, Said, nothing
 use Rattle.guarantees.specs.Premises.{True, Keeps}
 use Rattle.guarantees.specs.Jobs.{partyAt, sentBy, answerBy}
 use Rattle.guarantees.proofs.Jobs.{holding, sent-is, holding-next, answer-is, holding-room}
+use Rattle.guarantees.proofs.Fits.{InOrder}
 use Rattle.rules.proofs.Spoken.{spoken-front}
-use Rattle.rules.proofs.Chains.{decide, pass}
+use Rattle.rules.proofs.Chains.{decide}
 use Rattle.rules.proofs.Ranges.{awake-mode, awake-listed, Due, job-range}
 use Rattle.rules.proofs.Passed.{start-passed, speak-passed, hear-passed}
 
-module _ (g : Setting) (pair : ℕ) (book : Box → ℕ → ℕ → Lending) where
+module _ (g : Setting) (book : Box → ℕ → ℕ → Lending) where
   -- ---- what holds of one box
-
-  -- awake under its own side and pair number
-  pub record Own (b : Box) (s : State) : Type 0 where
-    pub side : s .side ≡ sideOf b
-    pub pair-is : s .pair ≡ pair
 
   -- in a job whose turn has that round: so many rounds were heard
   pub record InJob (b : Box) (s : State) (work : List ℕ) (turn : Turn) (number x y : ℕ) : Type 0 where
-    pub own : Own b s
     pub x-is : x ≡ book b number (s .n) .x
     pub y-is : y ≡ book b number (s .n) .y
     pub room : workLength (s .n) ≤ length work
@@ -53,7 +50,7 @@ module _ (g : Setting) (pair : ℕ) (book : Box → ℕ → ℕ → Lending) whe
 
   abbrev pub Phased : Box → State → List ℕ → Phase → Type 0
   Phased b s work Asleep = Unit {0}
-  Phased b s work Idle = Own b s
+  Phased b s work Idle = Unit {0}
   Phased b s work (Job turn number x y) = InJob b s work turn number x y
 
   pub record Holds (b : Box) (m : Memory) : Type 0 where
@@ -128,23 +125,14 @@ module _ (g : Setting) (pair : ℕ) (book : Box → ℕ → ℕ → Lending) whe
   named-tape : (lent : Lent) (b : Box) (number n : ℕ) → listed n ≡ true → lent ≡ dealt b number n → tapeWords g lent ≡ g .tapes b number n
   named-tape lent b number n l e = ap (tapeWords g) e ∙ rw l
 
-  -- awake, so under its own side and pair
-  awake-own : (b : Box) (s : State) (work : List ℕ) (p : Phase) → isAsleep p ≡ false → Phased b s work p → Own b s
-  awake-own b s work Asleep a h = absurd (true≢false a)
-  awake-own b s work Idle a h = h
-  awake-own b s work (Job turn number x y) a h = h .own
-
   -- ---- wake
 
   wake-holds : (b : Box) (m : Memory) (n side p : ℕ) → Holds b m
-      → (wakeGround (m .state) n side (m .tally) ≡ 0 → (side ≡ sideOf b) × (p ≡ pair))
       → Holds b (record { state = wakeRule (m .state) n side p (m .tally) .state; work = m .work; tally = m .tally })
   unfolding wakeRule
-  wake-holds b m n side p h keeps =
+  wake-holds b m n side p h =
       decide (λ r. Holds b (record { state = r .state; work = m .work; tally = m .tally })) (wakeGround (m .state) n side (m .tally)) (m .state) (m .tally) _
-      (λ zero-ground.
-      let o = keeps zero-ground in
-      record { holds = settle b _ (m .work) (record { side = o .0; pair-is = o .1 }) })
+      (λ zero-ground. record { holds = settle b _ (m .work) tt })
       (kept b m (m .tally) h)
 
   -- ---- start
@@ -160,12 +148,10 @@ module _ (g : Setting) (pair : ℕ) (book : Box → ℕ → ℕ → Lending) whe
       (λ zero-ground.
       let p = start-passed (m .state) number (v .x) (v .y) tape (m .work) (m .tally) zero-ground in
       let e = booked zero-ground in
-      let o = awake-own b (m .state) (m .work) (modeOf (m .state)) (p .awake) (h .holds) in
       record {
         holds =
             settle b _ (m .work)
             (record {
-              own = record { side = o .side; pair-is = o .pair-is };
               x-is = ap (λ (q : Lending). q .x) (sym e);
               y-is = ap (λ (q : Lending). q .y) (sym e);
               room = p .room;
@@ -178,17 +164,11 @@ module _ (g : Setting) (pair : ℕ) (book : Box → ℕ → ℕ → Lending) whe
 
   -- ---- drop
 
-  drop-awake : (s : State) → dropGround s ≡ 0 → isAsleep (modeOf s) ≡ false
-  unfolding dropGround
-  drop-awake s e = pass (1 when isAsleep (modeOf s)) ((6 when not (inJob (modeOf s))) ∷ []) (omega arith) e .0
-
   drop-holds : (b : Box) (m : Memory) → Holds b m → Holds b (record { state = dropRule (m .state) .state; work = m .work; tally = m .tally })
   unfolding dropRule
   drop-holds b m h =
       decide (λ r. Holds b (record { state = r .state; work = m .work; tally = m .tally })) (dropGround (m .state)) (m .state) [] _
-      (λ zero-ground.
-      let o = awake-own b (m .state) (m .work) (modeOf (m .state)) (drop-awake (m .state) zero-ground) (h .holds) in
-      record { holds = settle b _ (m .work) (record { side = o .side; pair-is = o .pair-is }) })
+      (λ zero-ground. record { holds = settle b _ (m .work) tt })
       (kept b m (m .tally) h)
 
   -- ---- the job that a speak or a hear goes on with
@@ -204,13 +184,19 @@ module _ (g : Setting) (pair : ℕ) (book : Box → ℕ → ℕ → Lending) whe
     pub y-fits : book b number (m .state .n) .y < modulus (m .state .n)
     pub party-is : partyOf (m .state) tape ≡ partyAt (g .tapes) book b number (m .state .n)
 
-  going : (b : Box) (m : Memory) (number round : ℕ) (turn : Turn) (lent : Lent) → Holds b m
-      → (awake : isAsleep (modeOf (m .state)) ≡ false) → Due (m .state) number turn → lent ≡ dealt b number (m .state .n)
+  -- the box's dealt tape is in order for no side but its own
+  going : (pair : ℕ) (orders : InOrder g pair) (b : Box) (m : Memory) (number round : ℕ) (turn : Turn) (lent : Lent) → Holds b m
+      → (awake : isAsleep (modeOf (m .state)) ≡ false) → Due (m .state) number turn
+      → inOrder (m .state .n) (m .state .pair) (m .state .side) number (tapeWords g lent) ≡ true → lent ≡ dealt b number (m .state .n)
       → Going b m number round turn (tapeWords g lent)
-  going b m number round turn lent h awake d named =
+  going pair orders b m number round turn lent h awake d ordered named =
       let l = awake-listed (m .state) awake in
+      let tape = named-tape lent b number (m .state .n) l named in
       let range = job-range (m .state) (d .x) (d .y) awake (d .job) in
       let inside : InJob b (m .state) (m .work) turn number (d .x) (d .y) = subst (Phased b (m .state) (m .work)) (d .job) (awake-phase b m h awake) in
+      let side =
+      order-key (m .state .n) (m .state .pair) (m .state .side) number (m .state .n) pair (sideOf b) number (g .tapes b number (m .state .n))
+      (rw (← tape) ordered) (orders b number (m .state .n) l) .side-is in
       record {
         x = d .x;
         y = d .y;
@@ -220,7 +206,7 @@ module _ (g : Setting) (pair : ℕ) (book : Box → ℕ → ℕ → Lending) whe
         early = omega (arith, range .last, inside .count);
         x-fits = rw (← inside .x-is) (range .x-fits);
         y-fits = rw (← inside .y-is) (range .y-fits);
-        party-is = rw (d .job, inside .own .side, inside .x-is, inside .y-is, named-tape lent b number (m .state .n) l named);
+        party-is = rw (d .job, side, inside .x-is, inside .y-is, tape);
       }
 
   -- ---- speak
@@ -230,15 +216,15 @@ module _ (g : Setting) (pair : ℕ) (book : Box → ℕ → ℕ → Lending) whe
     pub holds : Holds b (record { state = r .state; work = m .work; tally = m .tally })
     pub words : True-to (record { box = b; number = number; width = m .state .n; round = round; said = replied (r .reply); spoken = spokenWords (r .reply) (r .buffer); incoming = [] }) (replied (r .reply))
 
-  speak-holds : (b : Box) (m : Memory) (number round : ℕ) (lent : Lent) (out : List ℕ) → Holds b m
+  speak-holds : (pair : ℕ) (orders : InOrder g pair) (b : Box) (m : Memory) (number round : ℕ) (lent : Lent) (out : List ℕ) → Holds b m
       → (speakGround (m .state) number round (tapeWords g lent) (m .work) out ≡ 0 → lent ≡ dealt b number (m .state .n))
       → Spoken b m number round (speakRule (m .state) number round (tapeWords g lent) (m .work) out)
   unfolding speakRule
-  speak-holds b m number round lent out h keeps =
+  speak-holds pair orders b m number round lent out h keeps =
       decide (Spoken b m number round) (speakGround (m .state) number round (tapeWords g lent) (m .work) out) (m .state) out _
       (λ zero-ground.
       let p = speak-passed (m .state) number round (tapeWords g lent) (m .work) out zero-ground in
-      let j = going b m number round (Speak round) lent h (p .turn .awake) (p .turn .due) (keeps zero-ground) in
+      let j = going pair orders b m number round (Speak round) lent h (p .turn .awake) (p .turn .due) (p .turn .ordered) (keeps zero-ground) in
       let i = j .inside in
       record {
         holds = record {
@@ -246,7 +232,6 @@ module _ (g : Setting) (pair : ℕ) (book : Box → ℕ → ℕ → Lending) whe
               settle b _ (m .work)
               (rw (j .job)
               (record {
-                own = record { side = i .own .side; pair-is = i .own .pair-is };
                 x-is = i .x-is;
                 y-is = i .y-is;
                 room = i .room;
@@ -326,7 +311,7 @@ module _ (g : Setting) (pair : ℕ) (book : Box → ℕ → ℕ → Lending) whe
             (record { reply = heard; state = inPhase (m .state) (turned (m .state .phase) (Speak (round + 1))); buffer = work′ }))
         go true e =
             record {
-              holds = record { holds = settle b _ work′ (record { side = j .inside .own .side; pair-is = j .inside .own .pair-is }) };
+              holds = record { holds = settle b _ work′ tt };
               answer = record { width = j .width; is = answer-last (eqb-true round 6 e); x-fits = j .x-fits; y-fits = j .y-fits; silent = refl };
             }
         go false e =
@@ -337,7 +322,6 @@ module _ (g : Setting) (pair : ℕ) (book : Box → ℕ → ℕ → Lending) whe
                     (subst (λ (p : Phase). Phased b (inPhase (m .state) (turned (m .state .phase) (Speak (round + 1)))) work′ p)
                     (sym (ap (λ (p : Phase). turned p (Speak (round + 1))) (j .job)))
                     (record {
-                      own = record { side = j .inside .own .side; pair-is = j .inside .own .pair-is };
                       x-is = j .inside .x-is;
                       y-is = j .inside .y-is;
                       room = rw (after-length (partyOf (m .state) tape) (m .work) words round) (j .inside .room);
@@ -349,18 +333,18 @@ module _ (g : Setting) (pair : ℕ) (book : Box → ℕ → ℕ → Lending) whe
               answer = refl;
             }
 
-  hear-holds : (b : Box) (m : Memory) (number round : ℕ) (lent : Lent) (words : List ℕ) → Holds b m
+  hear-holds : (pair : ℕ) (orders : InOrder g pair) (b : Box) (m : Memory) (number round : ℕ) (lent : Lent) (words : List ℕ) → Holds b m
       → (hearGround (m .state) number round (tapeWords g lent) (m .work) words ≡ 0
       → (lent ≡ dealt b number (m .state .n)) × (words ≡ sentBy (g .tapes) book (partner b) number (m .state .n) round))
       → Heard b m number round words (hearRule (m .state) number round (tapeWords g lent) (m .work) words)
   unfolding hearRule
-  hear-holds b m number round lent words h keeps =
+  hear-holds pair orders b m number round lent words h keeps =
       decide (Heard b m number round words) (hearGround (m .state) number round (tapeWords g lent) (m .work) words) (m .state) (m .work) _
       (λ zero-ground.
       let p = hear-passed (m .state) number round (tapeWords g lent) (m .work) words zero-ground in
       let k = keeps zero-ground in
       hear-goes b m number round (tapeWords g lent) words
-      (going b m number round (Hear round) lent h (p .turn .awake) (p .turn .due) (k .0)) (k .1))
+      (going pair orders b m number round (Hear round) lent h (p .turn .awake) (p .turn .due) (p .turn .ordered) (k .0)) (k .1))
       (record { holds = kept b m (m .tally) h; answer = refl })
 
   -- ---- the log and the worlds
@@ -413,26 +397,26 @@ module _ (g : Setting) (pair : ℕ) (book : Box → ℕ → ℕ → Lending) whe
   quiet-drop m e none = decide (λ r. True-to e (replied (r .reply))) (dropGround (m .state)) (m .state) [] _ (λ z. none) none
 
   -- one entry
-  pub follows-next : (place : ℕ) (w : World) (b : Box) (step : Step) → Follows w → Keeps g pair place w b step → Booked place w b step
+  pub follows-next : (pair : ℕ) (orders : InOrder g pair) (place : ℕ) (w : World) (b : Box) (step : Step) → Follows w → Keeps g w b step → Booked place w b step
       → Follows (stepped g place w b step)
   unfolding stepped
-  follows-next place w b (wake n side p) f keeps booked =
-      after-follows w b _ _ f (wake-holds b (memoryOf w b) n side p (f .each b) keeps) (quiet-wake (memoryOf w b) n side p _ refl)
-  follows-next place w b (start number lent) f keeps booked =
+  follows-next pair orders place w b (wake n side p) f keeps booked =
+      after-follows w b _ _ f (wake-holds b (memoryOf w b) n side p (f .each b)) (quiet-wake (memoryOf w b) n side p _ refl)
+  follows-next pair orders place w b (start number lent) f keeps booked =
       after-follows w b _ _ f (start-holds b (memoryOf w b) number (g .shares b place) (tapeWords g lent) (f .each b) booked)
       (quiet-start (memoryOf w b) number (g .shares b place) (tapeWords g lent) _ refl)
-  follows-next place w b (speak number round lent out) f keeps booked =
-      let r = speak-holds b (memoryOf w b) number round lent out (f .each b) keeps in
+  follows-next pair orders place w b (speak number round lent out) f keeps booked =
+      let r = speak-holds pair orders b (memoryOf w b) number round lent out (f .each b) keeps in
       after-follows w b _ _ f (r .holds) (r .words)
-  follows-next place w b (hear number round lent incoming) f keeps booked =
-      let r = hear-holds b (memoryOf w b) number round lent (incomingWords (w .log) incoming) (f .each b)
+  follows-next pair orders place w b (hear number round lent incoming) f keeps booked =
+      let r = hear-holds pair orders b (memoryOf w b) number round lent (incomingWords (w .log) incoming) (f .each b)
       (λ zero-ground.
       let k = keeps zero-ground in
       (k .0, true-message w b number (memoryOf w b .state .n) round incoming f (k .1))) in
       after-follows w b _ _ f (r .holds) (r .answer)
-  follows-next place w b drop f keeps booked =
+  follows-next pair orders place w b drop f keeps booked =
       after-follows w b _ _ f (drop-holds b (memoryOf w b) (f .each b)) (quiet-drop (memoryOf w b) _ refl)
-  follows-next place w b (cut room) f keeps booked =
+  follows-next pair orders place w b (cut room) f keeps booked =
       after-follows w b _ _ f (cut-holds b place room (memoryOf w b) _) refl
-  follows-next place w b (cutStart number lent value room) f keeps booked =
+  follows-next pair orders place w b (cutStart number lent value room) f keeps booked =
       after-follows w b _ _ f (cut-holds b place room (memoryOf w b) _) refl

@@ -23,8 +23,8 @@ use Rattle.guarantees.proofs.Follows.{Uttered, Answered, True-to, Follo
 
 -- ---- what is told of an event
 
-module _ (g : Setting) (pair : ℕ) (book : Box → ℕ → ℕ → Lending) (e : Event) where
-  uttered : (s : Said) → True-to g pair book e s → isSpoke s ≡ true → Uttered g pair book e
+module _ (g : Setting) (book : Box → ℕ → ℕ → Lending) (e : Event) where
+  uttered : (s : Said) → True-to g book e s → isSpoke s ≡ true → Uttered g book e
   uttered nothing t h = absurd (false≢true h)
   uttered (replied (fresh k)) t h = absurd (false≢true h)
   uttered (replied started) t h = absurd (false≢true h)
@@ -34,7 +34,7 @@ module _ (g : Setting) (pair : ℕ) (book : Box → ℕ → ℕ → Lending) (e 
   uttered (replied dropped) t h = absurd (false≢true h)
   uttered (replied (refused k)) t h = absurd (false≢true h)
 
-  silent : (s : Said) → True-to g pair book e s → isSpoke s ≡ false → e .spoken ≡ []
+  silent : (s : Said) → True-to g book e s → isSpoke s ≡ false → e .spoken ≡ []
   silent nothing t h = t
   silent (replied (fresh k)) t h = t
   silent (replied started) t h = t
@@ -87,8 +87,8 @@ module _ (b : Box) (g g′ : Setting) (pair : ℕ) (book book′ : Box → ℕ �
   -- two worlds that the runs reach at one place
   pub record Joint (w w′ : World) : Type 0 where
     pub skeleton : Skeleton w w′
-    pub follows : Follows g pair book w
-    pub follows′ : Follows g′ pair book′ w′
+    pub follows : Follows g book w
+    pub follows′ : Follows g′ book′ w′
     pub heard-same : IncomingSame (w .log) (w′ .log)
 
   module _ (a : Alike) (w w′ : World) (j : Joint w w′) where
@@ -109,11 +109,11 @@ module _ (b : Box) (g g′ : Setting) (pair : ℕ) (book book′ : Box → ℕ �
 
         go : (t : Bool) → isSpoke (e .said) ≡ t → e .spoken ≡ e′ .spoken
         go false q =
-            silent g pair book e (e .said) (j .follows .events k) q
-            ∙ sym (silent g′ pair book′ e′ (e′ .said) (j .follows′ .events k) (sym told ∙ q))
+            silent g book e (e .said) (j .follows .events k) q
+            ∙ sym (silent g′ book′ e′ (e′ .said) (j .follows′ .events k) (sym told ∙ q))
         go true q =
-            let u = uttered g pair book e (e .said) (j .follows .events k) q in
-            let u′ = uttered g′ pair book′ e′ (e′ .said) (j .follows′ .events k) (sym told ∙ q) in
+            let u = uttered g book e (e .said) (j .follows .events k) q in
+            let u′ = uttered g′ book′ e′ (e′ .said) (j .follows′ .events k) (sym told ∙ q) in
             let exchange : sentBy (g .tapes) book (e .box) (e .number) (e .width) (e .round)
             ≡ sentBy (g′ .tapes) book′ (e′ .box) (e′ .number) (e′ .width) (e′ .round) =
             rw (← se .box, ← se .number, ← se .width, ← se .round, u .round-is)
@@ -127,8 +127,8 @@ module _ (b : Box) (g g′ : Setting) (pair : ℕ) (book book′ : Box → ℕ �
         let se = j .skeleton .events k in
         uncover (e .said) (e′ .said) (se .said)
         (λ v v′ q q′.
-        let t : Answered g pair book e v = subst (True-to g pair book e) q (j .follows .events k) in
-        let t′ : Answered g′ pair book′ e′ v′ = subst (True-to g′ pair book′ e′) q′ (j .follows′ .events k) in
+        let t : Answered g book e v = subst (True-to g book e) q (j .follows .events k) in
+        let t′ : Answered g′ book′ e′ v′ = subst (True-to g′ book′ e′) q′ (j .follows′ .events k) in
         let exchange : answerBy (g .tapes) book (e .box) (e .number) (e .width)
         ≡ answerBy (g′ .tapes) book′ (e′ .box) (e′ .number) (e′ .width) =
         rw (← se .box, ← se .number, ← se .width, at) (a .answer (e .number) (e .width) (t .width)) in
@@ -177,14 +177,14 @@ module _ (b : Box) (g g′ : Setting) (pair : ℕ) (book book′ : Box → ℕ �
     incoming-next place c (cutStart number lent value room) = incoming-after w w′ c _ _ _ _ (j .skeleton .places) (j .heard-same) refl
 
     -- one entry
-    pub joint-next : (place : ℕ) (c : Box) (step : Step) → Keeps g pair place w c step → Compatible (g′ .shares) g place w c step
-        → Booked g pair book place w c step → Booked g′ pair book′ place w′ c step
+    pub joint-next : (place : ℕ) (c : Box) (step : Step) → Keeps g w c step → Compatible (g′ .shares) g place w c step
+        → Booked g book place w c step → Booked g′ book′ place w′ c step
         → Joint (stepped g place w c step) (stepped g′ place w′ c step)
     joint-next place c step keeps h booked booked′ =
         let f = fit place c step h in
         record {
           skeleton = next g g′ place w w′ c step (j .skeleton) f;
-          follows = follows-next g pair book place w c step (j .follows) keeps booked;
-          follows′ = follows-next g′ pair book′ place w′ c step (j .follows′) (keeps-too g g′ pair place w w′ (j .skeleton) c step f keeps) booked′;
+          follows = follows-next g book pair (a .orders) place w c step (j .follows) keeps booked;
+          follows′ = follows-next g′ book′ pair (a .orders′) place w′ c step (j .follows′) (keeps-too g g′ place w w′ (j .skeleton) c step f keeps) booked′;
           heard-same = incoming-next place c step;
         }

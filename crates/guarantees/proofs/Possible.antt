@@ -25,14 +25,13 @@ use Rattle.protocol.specs.Squares.{bitDifference, squareClosing, matchCount}
 use Rattle.protocol.specs.Levels.{levelMatch, wrapShare}
 use Rattle.protocol.specs.Rounds.{squareWord, lowProducts, lowSum, levelProducts, wrapProducts, halfShare}
 use Rattle.protocol.specs.Rounds.{halfProduct, lastLeft, lastRight, lastProduct, answerShare, roundWords, message, afterHearing}
-use Rattle.rules.specs.Answers.{fresh, started, spoke, heard, share, dropped, refused}
 use Rattle.rules.specs.Tally.{tallyFits, tapesOf, isFresh, marked, cutMarked, freshCount}
 use Rattle.rules.specs.Modes.{inRange, modeOf}
 use Rattle.rules.specs.Grounds.{wakeGround, startGround, speakGround, hearGround}
 use Rattle.rules.specs.Calls.{wakeRule, startRule, speakRule, hearRule}
-use Rattle.guarantees.specs.Boxes.{Box, first, second, sideOf, partner}
+use Rattle.guarantees.specs.Boxes.{Box, first, second, partner}
 use Rattle.guarantees.specs.Entries.{Lent, dealt, loose, Incoming, spokenAt, other, Step, wake, start, speak, hear, drop, cut, cutStart, Entry}
-use Rattle.guarantees.specs.Run.{Lending, Setting, Memory, Said, nothing, replied, Event, World, memoryOf, eventAt, stepped}
+use Rattle.guarantees.specs.Run.{Lending, Setting, Memory, Event, World, memoryOf, eventAt, stepped}
 use Rattle.guarantees.specs.Premises.{True, Keeps, Meets, AtFirst, InBoth, Compatible, AllCompatible}
 use Rattle.guarantees.specs.Maps.{sameBox}
 use Rattle.guarantees.specs.Secrecy.{Valid, byBox, worldOf, settingOf, events}
@@ -90,44 +89,40 @@ true-message log b number width round (spokenAt place) t =
       uttered = spoke-said (e .said) (and-right (eqb (e .round) round) _ t3);
     }
 
-abbrev keepsTest : ℕ → World → Box → Step → Bool
-keepsTest pair w b (wake n side p) = eqb side (sideOf b) && eqb p pair
-keepsTest pair w b (start number lent) = ownTape b number (memoryOf w b .state .n) lent
-keepsTest pair w b (speak number round lent out) = ownTape b number (memoryOf w b .state .n) lent
-keepsTest pair w b (hear number round lent incoming) =
+abbrev keepsTest : World → Box → Step → Bool
+keepsTest w b (wake n side p) = true
+keepsTest w b (start number lent) = true
+keepsTest w b (speak number round lent out) = ownTape b number (memoryOf w b .state .n) lent
+keepsTest w b (hear number round lent incoming) =
     ownTape b number (memoryOf w b .state .n) lent && trueTest (w .log) b number (memoryOf w b .state .n) round incoming
-keepsTest pair w b drop = true
-keepsTest pair w b (cut room) = true
-keepsTest pair w b (cutStart number lent value room) = ownTape b number (memoryOf w b .state .n) lent
+keepsTest w b drop = true
+keepsTest w b (cut room) = true
+keepsTest w b (cutStart number lent value room) = true
 
-keeps-tested : (g : Setting) (pair place : ℕ) (w : World) (b : Box) (s : Step) → keepsTest pair w b s ≡ true → Keeps g pair place w b s
-keeps-tested g pair place w b (wake n side p) e =
-    let own = eqb side (sideOf b) in
-    λ _. (eqb-true side (sideOf b) (and-left own (eqb p pair) e), eqb-true p pair (and-right own (eqb p pair) e))
-keeps-tested g pair place w b (start number lent) e = λ _. own-tape b number (memoryOf w b .state .n) lent e
-keeps-tested g pair place w b (speak number round lent out) e = λ _. own-tape b number (memoryOf w b .state .n) lent e
-keeps-tested g pair place w b (hear number round lent incoming) e =
+keeps-tested : (g : Setting) (w : World) (b : Box) (s : Step) → keepsTest w b s ≡ true → Keeps g w b s
+keeps-tested g w b (wake n side p) e = tt
+keeps-tested g w b (start number lent) e = tt
+keeps-tested g w b (speak number round lent out) e = λ _. own-tape b number (memoryOf w b .state .n) lent e
+keeps-tested g w b (hear number round lent incoming) e =
     let n = memoryOf w b .state .n in
     let own = ownTape b number n lent in
     let said = trueTest (w .log) b number n round incoming in
     λ _. (own-tape b number n lent (and-left own said e), true-message (w .log) b number n round incoming (and-right own said e))
-keeps-tested g pair place w b drop e = tt
-keeps-tested g pair place w b (cut room) e = tt
-keeps-tested g pair place w b (cutStart number lent value room) e = λ _. own-tape b number (memoryOf w b .state .n) lent e
+keeps-tested g w b drop e = tt
+keeps-tested g w b (cut room) e = tt
+keeps-tested g w b (cutStart number lent value room) e = tt
 
-abbrev meetsTest : Setting → ℕ → ℕ → World → List Entry → Bool
-meetsTest g pair place w [] = true
-meetsTest g pair place w (e ∷ es) =
-    keepsTest pair w (e .box) (e .step) && meetsTest g pair (suc place) (stepped g place w (e .box) (e .step)) es
+abbrev meetsTest : Setting → ℕ → World → List Entry → Bool
+meetsTest g place w [] = true
+meetsTest g place w (e ∷ es) = keepsTest w (e .box) (e .step) && meetsTest g (suc place) (stepped g place w (e .box) (e .step)) es
 
-meets-tested : (g : Setting) (pair place : ℕ) (w : World) (es : List Entry)
-    → meetsTest g pair place w es ≡ true → Meets g pair place w es
-meets-tested g pair place w [] t = tt
-meets-tested g pair place w (e ∷ es) t =
-    let here = keepsTest pair w (e .box) (e .step) in
+meets-tested : (g : Setting) (place : ℕ) (w : World) (es : List Entry) → meetsTest g place w es ≡ true → Meets g place w es
+meets-tested g place w [] t = tt
+meets-tested g place w (e ∷ es) t =
+    let here = keepsTest w (e .box) (e .step) in
     let next = stepped g place w (e .box) (e .step) in
-    let later = meetsTest g pair (suc place) next es in
-    (keeps-tested g pair place w (e .box) (e .step) (and-left here later t), meets-tested g pair (suc place) next es (and-right here later t))
+    let later = meetsTest g (suc place) next es in
+    (keeps-tested g w (e .box) (e .step) (and-left here later t), meets-tested g (suc place) next es (and-right here later t))
 
 -- ---- a computed test of the second shares: all in range
 
@@ -205,7 +200,7 @@ plainWorld entries b = worldOf (plainCommon entries b) zeros
 
 -- what is computed of a list
 record ByRun (entries : List Entry) (place : ℕ) (b : Box) : Type 0 where
-  meeting : meetsTest (plainSetting entries b) pairNumber 0 (plainWorld entries b) entries ≡ true
+  meeting : meetsTest (plainSetting entries b) 0 (plainWorld entries b) entries ≡ true
   ranging : allTest (byBox b sharesAnew (sharesOf (partner b))) (plainSetting entries b) 0 (plainWorld entries b) entries ≡ true
   first-answers : AnswersAt (events (plainCommon entries b) b (plainSet b) (sharesOf b) zeros) place first 2
   second-answers : AnswersAt (events (plainCommon entries b) b (plainSet b) (sharesOf b) zeros) (place + 1) second 6
@@ -253,7 +248,7 @@ from-run entries place b c =
       valid = plain-valid entries b;
       premises = record {
         asleep = at-first entries b;
-        meets = meets-tested (plainSetting entries b) pairNumber 0 (plainWorld entries b) entries (c .meeting);
+        meets = meets-tested (plainSetting entries b) 0 (plainWorld entries b) entries (c .meeting);
         compatible = all-tested (byBox b sharesAnew (sharesOf (partner b))) (plainSetting entries b) 0 (plainWorld entries b) entries (c .ranging);
       };
       first-answers = c .first-answers;

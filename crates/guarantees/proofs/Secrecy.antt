@@ -1,27 +1,22 @@
 -- Demand 3: the pairing of a box's tapes. Each tape is moved as the shares ask that opened its job; where that was is the same in both runs.
 use Prim.Native.Nat.{ℕ, suc}
-use mathlib.Core.Path.{_≡_, refl, sym, ap, _∙_}
-use mathlib.Core.Bool.{true, false≢true}
+use mathlib.Core.Path.{_≡_, refl, ap, _∙_}
+use mathlib.Core.Bool.{true}
 use mathlib.Core.List.{List, [], _∷_}
 use mathlib.Core.Logic.{inl}
-use Rattle.lists.proofs.Tabulate.{length-tabulate}
 use Rattle.field.specs.Width.{listed}
-use Rattle.shares.specs.Side.{other}
-use Rattle.tape.specs.Order.{inOrder}
 use Rattle.tape.proofs.Orders.{readable}
 use Rattle.protocol.specs.Shift.{shifted}
 use Rattle.protocol.specs.Pairing.{Moves}
 use Rattle.protocol.proofs.Secrecy.{moves}
 use Rattle.guarantees.specs.Boxes.{Box, first, second, sideOf, partner}
 use Rattle.guarantees.specs.Entries.{Step, wake, start, speak, hear, drop, cut, cutStart, Entry}
-use Rattle.guarantees.specs.Run.{Lending, Setting, Event, World, quiet, stepped}
+use Rattle.guarantees.specs.Run.{Lending, Setting, Event, World, stepped}
 use Rattle.guarantees.specs.Premises.{AtFirst, Meets, Compatible, AllCompatible}
 use Rattle.guarantees.specs.Maps.{openedAt, clip, jobShares, thereBy, backBy}
 use Rattle.guarantees.specs.View.{view}
-use Rattle.guarantees.specs.Secrecy.{TapeSet, byBox, Common, Loose, Matching, Valid, image, memoryAt, worldOf, settingOf, events}
+use Rattle.guarantees.specs.Secrecy.{TapeSet, byBox, Common, Loose, Matching, Valid, image, worldOf, settingOf, events}
 use Rattle.guarantees.specs.Secrecy.{Premises, Witness, Hidden, Paired, Secrecy}
-use Rattle.guarantees.proofs.Twins.{TwinMemory, Skeleton, same}
-use Rattle.guarantees.proofs.Logs.{same-event}
 use Rattle.guarantees.proofs.First.{first-again, skeleton-first, orders, follows-first, marked-first}
 use Rattle.guarantees.proofs.Joint.{Alike, Joint, views}
 use Rattle.guarantees.proofs.Books.{clip-y, bookOf}
@@ -54,8 +49,8 @@ joint-first : (c : Common) (b : Box) (g g′ : Setting) (book book′ : Box → 
 joint-first c b g g′ book book′ w w′ at =
     record {
       skeleton = skeleton-first c w w′;
-      follows = follows-first g (c .pair) book (worldOf c w) at;
-      follows′ = follows-first g′ (c .pair) book′ (worldOf c w′) (first-again c w w′ at);
+      follows = follows-first g book (worldOf c w) at;
+      follows′ = follows-first g′ book′ (worldOf c w′) (first-again c w w′ at);
       heard-same = λ k. refl;
     }
 
@@ -119,8 +114,8 @@ module _ (c : Common) (b : Box) where
 
   -- whatever valid tapes and words in work: two runs with the same shares that meet the premises open the same jobs
   same-places : (shares : ℕ → Lending) (own own′ : TapeSet) → Valid c b own → Valid c b own′
-      → (w w′ : Loose) → Meets (settingOf c b own shares w) (c .pair) 0 (worldOf c w) (c .entries)
-      → Meets (settingOf c b own′ shares w′) (c .pair) 0 (worldOf c w′) (c .entries)
+      → (w w′ : Loose) → Meets (settingOf c b own shares w) 0 (worldOf c w) (c .entries)
+      → Meets (settingOf c b own′ shares w′) 0 (worldOf c w′) (c .entries)
       → SamePlaces (events c b own shares w) (events c b own′ shares w′)
   same-places shares own own′ v v′ w w′ meets meets′ =
       let g = settingOf c b own shares w in

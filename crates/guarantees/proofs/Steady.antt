@@ -1,26 +1,23 @@
 -- Two runs over one list come to the same places, whatever valid tapes they use, where both meet the premises, or where the first does and no
 -- hear is lent a message of a larger width. The second then meets them too.
-use Prim.Native.Nat.{ℕ, zero, suc}
-use mathlib.Core.Path.{_≡_, refl, sym, ap, subst, _∙_}
-use mathlib.Core.Bool.{Bool, true, false, not, _||_, cond, true≢false, false≢true}
+use Prim.Native.Nat.{ℕ, suc}
+use mathlib.Core.Path.{_≡_, refl, sym, ap, _∙_}
+use mathlib.Core.Bool.{Bool, true, false, not, _||_, cond, true≢false}
 use mathlib.Core.List.{List, [], _∷_, _++_}
 use native.Mathlib.Nat.{le-of-eq}
 use native.Mathlib.Omega.{arith}
-use lib.Dec.{eqb, leb, ltb}
-use lib.ListN.{length, getD}
-use Rattle.lists.proofs.Every.{every-intro}
-use Rattle.field.specs.Width.{modulus}
+use lib.Dec.{eqb, leb}
+use lib.ListN.{length}
 use Rattle.tape.specs.Order.{inOrder}
 use Rattle.protocol.specs.Work.{workLength}
 use Rattle.protocol.specs.Rounds.{roundWords}
 use Rattle.rules.specs.Modes.{modeOf, isAsleep, inJob, isDue}
-use Rattle.rules.specs.Grounds.{Ground, _when_, firstOf, wordsFit, speakGround, hearGround}
-use Rattle.rules.specs.Calls.{speakRule}
+use Rattle.rules.specs.Grounds.{Ground, _when_, firstOf, wordsFit, hearGround}
 use Rattle.rules.specs.declared.state.Turn.the-variants.{Hear}
 use Rattle.rules.specs.declared.state.State.{State}
-use Rattle.guarantees.specs.Boxes.{Box, first, second}
+use Rattle.guarantees.specs.Boxes.{Box}
 use Rattle.guarantees.specs.Entries.{Incoming, spokenAt, other, Step, wake, start, speak, hear, drop, cut, cutStart, Entry}
-use Rattle.guarantees.specs.Run.{Setting, Memory, replied, Event, World, memoryOf, after, eventAt, tapeWords, incomingWords, spokenWords, stepped, run}
+use Rattle.guarantees.specs.Run.{Setting, Memory, Event, World, memoryOf, eventAt, tapeWords, incomingWords, stepped, run}
 use Rattle.guarantees.specs.View.{covered}
 use Rattle.guarantees.specs.Premises.{True, Keeps, Meets, Compatible, AllCompatible}
 use Rattle.guarantees.specs.AnyTapes.{NotWider, Narrow, AllNarrow}
@@ -136,7 +133,7 @@ module _ (g g′ : Setting) (pair : ℕ) (orders : InOrder g pair) (orders′ : 
   Below w w′ c (cutStart number lent value room) = Unit {0}
 
   fit : (place : ℕ) (w w′ : World) (c : Box) (step : Step) → Steady w w′ → Compatible (g′ .shares) g place w c step
-      → Keeps g pair place w c step → Below w w′ c step → Fit g g′ place w w′ c step
+      → Keeps g w c step → Below w w′ c step → Fit g g′ place w w′ c step
   fit place w w′ c (wake n side p) j h keeps below = tt
   fit place w w′ c (start number lent) j h keeps below = start-fit g g′ pair orders orders′ w w′ (j .skeleton) place c number lent (h .0) (h .1)
   fit place w w′ c (speak number round lent out) j h keeps below =
@@ -166,7 +163,7 @@ module _ (g g′ : Setting) (pair : ℕ) (orders : InOrder g pair) (orders′ : 
 
   -- ---- both runs meet the premises
 
-  true-below : (place : ℕ) (w w′ : World) (c : Box) (step : Step) → Steady w w′ → Keeps g′ pair place w′ c step → Below w w′ c step
+  true-below : (place : ℕ) (w w′ : World) (c : Box) (step : Step) → Steady w w′ → Keeps g′ w′ c step → Below w w′ c step
   true-below place w w′ c (wake n side p) j keeps = tt
   true-below place w w′ c (start number lent) j keeps = tt
   true-below place w w′ c (speak number round lent out) j keeps = tt
@@ -179,7 +176,7 @@ module _ (g g′ : Setting) (pair : ℕ) (orders : InOrder g pair) (orders′ : 
   true-below place w w′ c (cutStart number lent value room) j keeps = tt
 
   pub steady : (es : List Entry) (place : ℕ) (w w′ : World) → Steady w w′ → AllCompatible (g′ .shares) g place w es
-      → Meets g pair place w es → Meets g′ pair place w′ es → Skeleton (run g place w es) (run g′ place w′ es)
+      → Meets g place w es → Meets g′ place w′ es → Skeleton (run g place w es) (run g′ place w′ es)
   steady [] place w w′ j compatible meets meets′ = j .skeleton
   steady (e ∷ es) place w w′ j compatible meets meets′ =
       steady es (suc place) _ _
@@ -240,18 +237,18 @@ module _ (g g′ : Setting) (pair : ℕ) (orders : InOrder g pair) (orders′ : 
 
   -- what then holds of the second run
   pub record Lasts (es : List Entry) (place : ℕ) (w′ : World) : Type 0 where
-    pub meets : Meets g′ pair place w′ es
+    pub meets : Meets g′ place w′ es
     pub compatible : AllCompatible (g .shares) g′ place w′ es
     pub narrow : AllNarrow g′ place w′ es
 
   pub lasts : (es : List Entry) (place : ℕ) (w w′ : World) → Steady w w′ → AllCompatible (g′ .shares) g place w es
-      → Meets g pair place w es → AllNarrow g place w es → Lasts es place w′
+      → Meets g place w es → AllNarrow g place w es → Lasts es place w′
   lasts [] place w w′ j compatible meets narrow = record { meets = tt; compatible = tt; narrow = tt }
   lasts (e ∷ es) place w w′ j compatible meets narrow =
       let f = fit place w w′ (e .box) (e .step) j (compatible .0) (meets .0) (narrow-below w w′ (e .box) (e .step) j (narrow .0)) in
       let rest = lasts es (suc place) _ _ (steady-next place w w′ (e .box) (e .step) j f) (compatible .1) (meets .1) (narrow .1) in
       record {
-        meets = (keeps-too g g′ pair place w w′ (j .skeleton) (e .box) (e .step) f (meets .0), rest .meets);
+        meets = (keeps-too g g′ place w w′ (j .skeleton) (e .box) (e .step) f (meets .0), rest .meets);
         compatible = (compatible-back g g′ place w w′ (e .box) (e .step) (j .skeleton) (compatible .0), rest .compatible);
         narrow = (narrow-too place w w′ (e .box) (e .step) (j .skeleton) f (narrow .0), rest .narrow);
       }

@@ -54,5 +54,5 @@ pub record Correct (g : Setting) (log : List Event) : Type 0 where
 
 abbrev pub Correctness : Type 0
 Correctness =
-    (g : Setting) (pair : ℕ) (w : World) (entries : List Entry) → AtFirst w → AllDealt (g .tapes) first pair → Meets g pair 0 w entries
+    (g : Setting) (pair : ℕ) (w : World) (entries : List Entry) → AtFirst w → AllDealt (g .tapes) first pair → Meets g 0 w entries
     → Correct g (run g 0 w entries .log)

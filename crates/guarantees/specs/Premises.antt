@@ -9,7 +9,7 @@ use Rattle.field.specs.Width.{listed, modulus}
 use Rattle.tape.specs.Dealt.{Matched}
 use Rattle.rules.specs.Answers.{spoke}
 use Rattle.rules.specs.Modes.{modeOf, isAsleep}
-use Rattle.rules.specs.Grounds.{wakeGround, startGround, speakGround, hearGround}
+use Rattle.rules.specs.Grounds.{speakGround, hearGround}
 use Rattle.guarantees.specs.Boxes.{Box, sideOf, partner}
 use Rattle.guarantees.specs.Entries.{dealt, Incoming, spokenAt, Step, wake, start, speak, hear, drop, cut, cutStart, Entry}
 use Rattle.guarantees.specs.Run.{Lending, Setting, Memory, Event, replied, World, memoryOf, eventAt, tapeWords, incomingWords, stepped}
@@ -26,30 +26,25 @@ pub record True (log : List Event) (b : Box) (number width round : ℕ) (incomin
   pub count : ℕ
   pub uttered : eventAt log place .said ≡ replied (spoke count)
 
--- what an entry that is not refused keeps to; a ground of 0 is none
-abbrev pub Keeps : Setting → ℕ → ℕ → World → Box → Step → Type 0
-Keeps g pair place w b (wake n side p) =
-    wakeGround (memoryOf w b .state) n side (memoryOf w b .tally) ≡ 0 → (side ≡ sideOf b) × (p ≡ pair)
-Keeps g pair place w b (start number lent) =
-    startGround (memoryOf w b .state) number (g .shares b place .x) (g .shares b place .y) (tapeWords g lent) (memoryOf w b .work) (memoryOf w b .tally) ≡ 0
-    → lent ≡ dealt b number (memoryOf w b .state .n)
-Keeps g pair place w b (speak number round lent out) =
+-- what an entry that is not refused keeps to; a ground of 0 is none. Document 01 also has a wake name its box's own side and pair, and a
+-- start lent its box's dealt tape. Nothing rests on either: under another side or pair a speak with the box's dealt tape is refused with 10
+abbrev pub Keeps : Setting → World → Box → Step → Type 0
+Keeps g w b (wake n side pair) = Unit {0}
+Keeps g w b (start number lent) = Unit {0}
+Keeps g w b (speak number round lent out) =
     speakGround (memoryOf w b .state) number round (tapeWords g lent) (memoryOf w b .work) out ≡ 0
     → lent ≡ dealt b number (memoryOf w b .state .n)
-Keeps g pair place w b (hear number round lent incoming) =
+Keeps g w b (hear number round lent incoming) =
     hearGround (memoryOf w b .state) number round (tapeWords g lent) (memoryOf w b .work) (incomingWords (w .log) incoming) ≡ 0
     → (lent ≡ dealt b number (memoryOf w b .state .n)) × True (w .log) b number (memoryOf w b .state .n) round incoming
-Keeps g pair place w b drop = Unit {0}
-Keeps g pair place w b (cut room) = Unit {0}
-Keeps g pair place w b (cutStart number lent value room) =
-    startGround (memoryOf w b .state) number (g .shares b place .x) (g .shares b place .y) (tapeWords g lent) (memoryOf w b .work) (memoryOf w b .tally) ≡ 0
-    → lent ≡ dealt b number (memoryOf w b .state .n)
+Keeps g w b drop = Unit {0}
+Keeps g w b (cut room) = Unit {0}
+Keeps g w b (cutStart number lent value room) = Unit {0}
 
 -- every entry from a place on keeps to them
-abbrev pub Meets : Setting → ℕ → ℕ → World → List Entry → Type 0
-Meets g pair place w [] = Unit {0}
-Meets g pair place w (e ∷ es) =
-    Keeps g pair place w (e .box) (e .step) × Meets g pair (suc place) (stepped g place w (e .box) (e .step)) es
+abbrev pub Meets : Setting → ℕ → World → List Entry → Type 0
+Meets g place w [] = Unit {0}
+Meets g place w (e ∷ es) = Keeps g w (e .box) (e .step) × Meets g (suc place) (stepped g place w (e .box) (e .step)) es
 
 -- at first both boxes are asleep
 pub record AtFirst (w : World) : Type 0 where

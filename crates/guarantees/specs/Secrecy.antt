@@ -82,7 +82,7 @@ events c b own shares w = run (settingOf c b own shares w) 0 (worldOf c w) (c .e
 -- the premises of the run with these tapes and the first shares, the second shares being in range with them
 pub record Premises (c : Common) (b : Box) (shares shares′ : ℕ → Lending) (own : TapeSet) (w : Loose) : Type 0 where
   pub asleep : AtFirst (worldOf c w)
-  pub meets : Meets (settingOf c b own shares w) (c .pair) 0 (worldOf c w) (c .entries)
+  pub meets : Meets (settingOf c b own shares w) 0 (worldOf c w) (c .entries)
   pub compatible : AllCompatible (byBox b shares′ (c .lendings)) (settingOf c b own shares w) 0 (worldOf c w) (c .entries)
 
 -- a valid set and words of work with which the list meets the premises
