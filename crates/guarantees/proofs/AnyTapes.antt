@@ -1,5 +1,5 @@
 -- Where no message of a larger width is lent, a list that meets the premises meets them with all valid tapes and any shares in range.
-use Rattle.guarantees.specs.Secrecy.{worldOf, settingOf}
+use Rattle.guarantees.specs.Comparison.{worldOf, settingOf}
 use Rattle.guarantees.specs.AnyTapes.{AnyTapes}
 use Rattle.guarantees.proofs.Fitting.{fitting-first}
 use Rattle.guarantees.proofs.First.{first-again, skeleton-first, orders}

@@ -1,5 +1,5 @@
 -- The shares that opened each job of a run: found by the job's place in the log, reduced so that they are in range in any case.
-use Prim.Native.Nat.{ℕ, suc, _<_}
+use Prim.Native.Nat.{ℕ, suc, _%_, _<_}
 use mathlib.Core.Path.{_≡_, refl, sym, ap, _∙_}
 use mathlib.Core.Bool.{true}
 use mathlib.Core.List.{List}
@@ -22,11 +22,8 @@ use Rattle.guarantees.proofs.Follows.{Booked}
 pub clip-same : (n : ℕ) (v : Lending) → v .x < modulus n → v .y < modulus n → clip n v ≡ v
 clip-same n v lx ly = rw (mod-eq-of-lt lx, mod-eq-of-lt ly) refl
 
-pub clip-x : (n : ℕ) (v : Lending) → listed n ≡ true → clip n v .x < modulus n
-clip-x n v l = mod-lt (v .x) (omega (arith, bounds l))
-
-pub clip-y : (n : ℕ) (v : Lending) → listed n ≡ true → clip n v .y < modulus n
-clip-y n v l = mod-lt (v .y) (omega (arith, bounds l))
+pub reduced : (n v : ℕ) → listed n ≡ true → v % modulus n < modulus n
+reduced n v l = mod-lt v (omega (arith, bounds l))
 
 abbrev pub bookOf : (Box → ℕ → Lending) → List Event → Box → ℕ → ℕ → Lending
 bookOf shares log c number n = clip n (shares c (openedAt log c number n))

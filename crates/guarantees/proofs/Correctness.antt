@@ -27,7 +27,7 @@ use Rattle.guarantees.specs.Maps.{sameBox, isStarted, opens, openedAt}
 use Rattle.guarantees.specs.Correctness.{Told, Begun, Exchanged, Right, Correctness}
 use Rattle.guarantees.specs.Jobs.{blank, sentBy, answerBy}
 use Rattle.guarantees.proofs.Openings.{Marked, marked-next, Once, once-next, one-more, next-place, run-grows, found, same-box, same-self}
-use Rattle.guarantees.proofs.Fits.{InOrder}
+use Rattle.guarantees.proofs.Jobs.{InOrder}
 use Rattle.guarantees.proofs.First.{follows-first, marked-first, once-first}
 use Rattle.guarantees.proofs.Follows.{Uttered, Answered, True-to, Follows, Booked, follows-next}
 

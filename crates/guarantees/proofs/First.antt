@@ -16,7 +16,7 @@ use Rattle.rules.specs.declared.state.State.{State}
 use Rattle.guarantees.specs.Boxes.{Box, first, second, sideOf}
 use Rattle.guarantees.specs.Run.{Lending, Setting, Event, quiet, World, memoryOf, eventAt}
 use Rattle.guarantees.specs.Premises.{AtFirst}
-use Rattle.guarantees.specs.Secrecy.{TapeSet, byBox, Common, Loose, Valid, memoryAt, worldOf}
+use Rattle.guarantees.specs.Comparison.{TapeSet, byBox, Common, Loose, Valid, memoryAt, worldOf}
 use Rattle.guarantees.proofs.Twins.{TwinMemory, Skeleton, same}
 use Rattle.guarantees.proofs.Logs.{same-event}
 use Rattle.guarantees.proofs.Openings.{Unopened, Marked, Once}

@@ -16,6 +16,7 @@ use Rattle.guarantees.specs.Entries.{Lent, dealt, loose, Incoming, Step,
 use Rattle.guarantees.specs.Run.{Setting, Memory, World, memoryOf, tapeWords}
 use Rattle.guarantees.specs.Premises.{True, Keeps, InBoth, Compatible}
 use Rattle.guarantees.specs.View.{covered}
+use Rattle.guarantees.proofs.Jobs.{InOrder}
 use Rattle.guarantees.proofs.Twins.{TwinMemory, Skeleton}
 use Rattle.guarantees.proofs.Turns.{asleep-same}
 use Rattle.guarantees.proofs.Refusals.{SharesAlike, start-same}
@@ -60,10 +61,6 @@ compatible-back g g′ place w w′ c (cutStart number lent value room) k h =
     (in-both-back _ _ (memories c k) (h .0), in-both-back _ _ (memories c k) (h .1))
 
 -- ---- tapes
-
--- the dealt tapes are in order
-abbrev pub InOrder : Setting → ℕ → Type 0
-InOrder g pair = (c : Box) (number n : ℕ) → listed n ≡ true → inOrder n pair (sideOf c) number (g .tapes c number n) ≡ true
 
 module _ (g g′ : Setting) (pair : ℕ) (orders : InOrder g pair) (orders′ : InOrder g′ pair) where
   pub order-same : (n p side number : ℕ) (lent : Lent)

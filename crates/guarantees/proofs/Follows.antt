@@ -29,8 +29,7 @@ use Rattle.guarantees.specs.Entries.{Lent, dealt, Incoming, Step, wake, 
 use Rattle.guarantees.specs.Run.{Lending, Setting, Memory, Said, nothing, replied, Event, World, memoryOf, after, afterCut, eventAt, tapeWords, incomingWords, spokenWords, stepped}
 use Rattle.guarantees.specs.Premises.{True, Keeps}
 use Rattle.guarantees.specs.Jobs.{partyAt, sentBy, answerBy}
-use Rattle.guarantees.proofs.Jobs.{holding, sent-is, holding-next, answer-is, holding-room}
-use Rattle.guarantees.proofs.Fits.{InOrder}
+use Rattle.guarantees.proofs.Jobs.{InOrder, holding, sent-is, holding-next, answer-is, holding-room}
 use Rattle.rules.proofs.Spoken.{spoken-front}
 use Rattle.rules.proofs.Chains.{decide}
 use Rattle.rules.proofs.Ranges.{awake-mode, awake-listed, Due, job-range}

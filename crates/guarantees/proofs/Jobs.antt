@@ -1,16 +1,23 @@
 -- A job's exchange: what the two boxes of a key (tape number and width) hold after each round, and the laws that a run goes by.
 use Prim.Native.Nat.{ℕ, zero, suc, _≤_}
 use mathlib.Core.Path.{_≡_, refl, sym}
+use mathlib.Core.Bool.{true}
 use mathlib.Core.List.{List}
 use native.Mathlib.Nat.{le-of-eq}
 use lib.ListN.{length, length-replicate}
+use Rattle.field.specs.Width.{listed}
+use Rattle.tape.specs.Order.{inOrder}
 use Rattle.protocol.specs.Work.{workLength}
 use Rattle.protocol.specs.Rounds.{message, afterHearing, answerShare}
 use Rattle.protocol.specs.Exchange.{Both, exchanged, sentOwn, sentOthers, answerOwn, answerOthers}
 use Rattle.protocol.proofs.Lengths.{after-length}
-use Rattle.guarantees.specs.Boxes.{Box, first, second, partner}
-use Rattle.guarantees.specs.Run.{Lending}
+use Rattle.guarantees.specs.Boxes.{Box, first, second, sideOf, partner}
+use Rattle.guarantees.specs.Run.{Lending, Setting}
 use Rattle.guarantees.specs.Jobs.{blank, partyAt, sentBy, answerBy}
+
+-- the dealt tapes are in order
+abbrev pub InOrder : Setting → ℕ → Type 0
+InOrder g pair = (c : Box) (number n : ℕ) → listed n ≡ true → inOrder n pair (sideOf c) number (g .tapes c number n) ≡ true
 
 -- tapes by box, number and width, and the shares that opened each job
 module _ (tapes : Box → ℕ → ℕ → List ℕ) (book : Box → ℕ → ℕ → Lending) where

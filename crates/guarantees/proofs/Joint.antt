@@ -18,7 +18,8 @@ use Rattle.guarantees.specs.Jobs.{sentBy, answerBy}
 use Rattle.guarantees.proofs.Refusals.{speak-same, hear-same}
 use Rattle.guarantees.proofs.Skeletons.{Fit, memories, next}
 use Rattle.guarantees.proofs.Covers.{isSpoke, spoke-same, uncover, said-to}
-use Rattle.guarantees.proofs.Fits.{InOrder, order-same, start-fit, keeps-too}
+use Rattle.guarantees.proofs.Jobs.{InOrder}
+use Rattle.guarantees.proofs.Fits.{order-same, start-fit, keeps-too}
 use Rattle.guarantees.proofs.Follows.{Uttered, Answered, True-to, Follows, Booked, follows-next}
 
 -- ---- what is told of an event

@@ -1,10 +1,10 @@
 pub mod Twins
 pub mod Jobs
-pub mod Follows
+pub mod Logs
 pub mod Openings
+pub mod Follows
 pub mod Turns
 pub mod Refusals
-pub mod Logs
 pub mod Skeletons
 pub mod Covers
 pub mod Fits

@@ -17,7 +17,7 @@ use Rattle.rules.specs.Calls.{Result, partyOf, wakeRule, startRule, speakRule, 
 use Rattle.rules.proofs.Marks.{marked-spent, marked-other, cut-other}
 use Rattle.guarantees.specs.Boxes.{Box, first, second}
 use Rattle.guarantees.specs.Entries.{Lent, Step, wake, start, speak, hear, drop, cut, cutStart, Entry}
-use Rattle.guarantees.specs.Run.{Setting, Memory, replied, Event, World, memoryOf, after, eventAt, tapeWords, incomingWords, stepped, run}
+use Rattle.guarantees.specs.Run.{Setting, Memory, replied, Event, World, memoryOf, after, afterStart, eventAt, tapeWords, incomingWords, stepped, run}
 use Rattle.guarantees.specs.Maps.{sameBox, isStarted, opens, openedAt}
 use Rattle.rules.proofs.Chains.{decide}
 use Rattle.rules.proofs.Passed.{start-passed}
@@ -107,42 +107,42 @@ unfolding dropRule
 drop-opens s = decide (λ r. isStarted (replied (r .reply)) ≡ false) (dropGround s) s [] _ (λ z. refl) refl
 
 -- a start marks the number that it opens
-start-marks : (s : State) (number x y : ℕ) (tape work tally : List ℕ) (b : Box) (n k : ℕ)
-    → let r = startRule s number x y tape work tally in
-    isFresh (r .buffer) k ≡ true
-    → (isFresh tally k ≡ true)
-    × (opens b k (record { box = b; number = number; width = n; round = 0; said = replied (r .reply); spoken = []; incoming = [] }) ≡ false)
+start-marks : (m : Memory) (number x y : ℕ) (tape : List ℕ) (b : Box) (k : ℕ)
+    → let r = startRule (m .state) number x y tape (m .work) (m .tally) in
+    isFresh (afterStart m r .tally) k ≡ true
+    → (isFresh (m .tally) k ≡ true)
+    × (opens b k (record { box = b; number = number; width = m .state .n; round = 0; said = replied (r .reply); spoken = []; incoming = [] }) ≡ false)
 unfolding startRule
-start-marks s number x y tape work tally b n k =
+start-marks m number x y tape b k =
     decide
     (λ r.
-    isFresh (r .buffer) k ≡ true
-    → (isFresh tally k ≡ true)
-    × (opens b k (record { box = b; number = number; width = n; round = 0; said = replied (r .reply); spoken = []; incoming = [] }) ≡ false))
-    (startGround s number x y tape work tally) s tally _
-    (λ zero-ground f. opened (start-passed s number x y tape work tally zero-ground .numbered) (eqb k number) refl f)
+    isFresh (afterStart m r .tally) k ≡ true
+    → (isFresh (m .tally) k ≡ true)
+    × (opens b k (record { box = b; number = number; width = m .state .n; round = 0; said = replied (r .reply); spoken = []; incoming = [] }) ≡ false))
+    (startGround (m .state) number x y tape (m .work) (m .tally)) (m .state) (m .tally) _
+    (λ zero-ground f. opened (start-passed (m .state) number x y tape (m .work) (m .tally) zero-ground .numbered) (eqb k number) refl f)
     (λ f. (
       f,
       not-opening b k
           (record {
             box = b;
             number = number;
-            width = n;
+            width = m .state .n;
             round = 0;
-            said = replied (refused (startGround s number x y tape work tally));
+            said = replied (refused (startGround (m .state) number x y tape (m .work) (m .tally)));
             spoken = [];
             incoming = [];
           })
           refl,
     ))
   where
-    opened : number < tapesOf (length tally) → (t : Bool) → eqb k number ≡ t → isFresh (marked tally number) k ≡ true
-        → (isFresh tally k ≡ true)
-        × (opens b k (record { box = b; number = number; width = n; round = 0; said = replied started; spoken = []; incoming = [] }) ≡ false)
+    opened : number < tapesOf (length (m .tally)) → (t : Bool) → eqb k number ≡ t → isFresh (marked (m .tally) number) k ≡ true
+        → (isFresh (m .tally) k ≡ true)
+        × (opens b k (record { box = b; number = number; width = m .state .n; round = 0; said = replied started; spoken = []; incoming = [] }) ≡ false)
     opened less true q f =
-        absurd (true≢false (sym f ∙ ap (isFresh (marked tally number)) (eqb-true k number q) ∙ marked-spent tally number less))
+        absurd (true≢false (sym f ∙ ap (isFresh (marked (m .tally) number)) (eqb-true k number q) ∙ marked-spent (m .tally) number less))
     opened less false q f =
-        (sym (marked-other tally number k (eqb-false k number q)) ∙ f, rw q (dull (sameBox b b)))
+        (sym (marked-other (m .tally) number k (eqb-false k number q)) ∙ f, rw q (dull (sameBox b b)))
       where
         dull : (t : Bool) → t && false && true ≡ false
         dull true = refl
@@ -176,7 +176,7 @@ marked-next g place w b (wake n side p) h =
 marked-next g place w b (start number lent) h =
     let m = memoryOf w b in
     marked-after w b _ _ h refl
-    (start-marks (m .state) number (g .shares b place .x) (g .shares b place .y) (tapeWords g lent) (m .work) (m .tally) b (m .state .n))
+    (start-marks m number (g .shares b place .x) (g .shares b place .y) (tapeWords g lent) b)
 marked-next g place w b (speak number round lent out) h =
     let m = memoryOf w b in
     dull-after w b _ _ h refl (speak-opens (m .state) number round (tapeWords g lent) (m .work) out) (λ k f. f)

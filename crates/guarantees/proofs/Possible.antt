@@ -34,7 +34,7 @@ use Rattle.guarantees.specs.Entries.{Lent, dealt, loose, Incoming, spoke
 use Rattle.guarantees.specs.Run.{Lending, Setting, Memory, Event, World, memoryOf, eventAt, stepped}
 use Rattle.guarantees.specs.Premises.{True, Keeps, Meets, AtFirst, InBoth, Compatible, AllCompatible}
 use Rattle.guarantees.specs.Maps.{sameBox}
-use Rattle.guarantees.specs.Secrecy.{Valid, byBox, worldOf, settingOf, events}
+use Rattle.guarantees.specs.Comparison.{Valid, byBox, worldOf, settingOf, events}
 use Rattle.guarantees.specs.Possible.{pairNumber, sharesOf, sharesAnew, plainSet, plainCommon, zeros, whole, again}
 use Rattle.guarantees.specs.Possible.{CutInMark, AnswersAt, RightSum, Possible}
 use Rattle.guarantees.proofs.Openings.{same-box}

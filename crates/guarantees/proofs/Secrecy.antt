@@ -15,11 +15,12 @@ use Rattle.guarantees.specs.Run.{Lending, Setting, Event, World, stepped
 use Rattle.guarantees.specs.Premises.{AtFirst, Meets, Compatible, AllCompatible}
 use Rattle.guarantees.specs.Maps.{openedAt, clip, jobShares, thereBy, backBy}
 use Rattle.guarantees.specs.View.{view}
-use Rattle.guarantees.specs.Secrecy.{TapeSet, byBox, Common, Loose, Matching, Valid, image, worldOf, settingOf, events}
-use Rattle.guarantees.specs.Secrecy.{Premises, Witness, Hidden, Paired, Secrecy}
+use Rattle.guarantees.specs.Comparison.{TapeSet, byBox, Common, Loose, Matching, Valid, image, worldOf, settingOf, events}
+use Rattle.guarantees.specs.Comparison.{Premises, Witness}
+use Rattle.guarantees.specs.Secrecy.{Hidden, Paired, Secrecy}
 use Rattle.guarantees.proofs.First.{first-again, skeleton-first, orders, follows-first, marked-first}
 use Rattle.guarantees.proofs.Joint.{Alike, Joint, views}
-use Rattle.guarantees.proofs.Books.{clip-y, bookOf}
+use Rattle.guarantees.proofs.Books.{reduced, bookOf}
 use Rattle.guarantees.proofs.Runs.{Both, both}
 use Rattle.guarantees.proofs.Pairs.{KeyAlike, sent-alike, answer-alike}
 use Rattle.guarantees.proofs.Views.{opened-same, opened-twins}
@@ -39,8 +40,7 @@ moves-at : (c : Common) (b : Box) (log : List Event) (shares shares′ : ℕ →
     Moves n (c .pair) number (sideOf b) (v .x) (v .y) (v′ .x) (v′ .y) (v .xo) (v .yo) (c .others number n)
     (λ tape. shifted v v′ tape (c .others number n)) (λ tape. shifted v′ v tape (c .others number n))
 moves-at c b log shares shares′ number n l =
-    moves n (c .pair) number (sideOf b) _ _ (c .others number n) (clip-y n (c .lendings (openedAt log (partner b) number n)) l) _ _ _ _
-    (clip-y n (shares (openedAt log b number n)) l) (clip-y n (shares′ (openedAt log b number n)) l)
+    moves n (c .pair) number (sideOf b) _ _ (c .others number n) (reduced n _ l) _ _ _ _ (reduced n _ l) (reduced n _ l)
 
 -- ---- both runs at first
 
@@ -78,16 +78,20 @@ others-same second own own′ others = refl
 abbrev SamePlaces : List Event → List Event → Type 0
 SamePlaces log log′ = (d : Box) (number n : ℕ) → openedAt log d number n ≡ openedAt log′ d number n
 
-module _ (c : Common) where
-  -- one key, its shares and its shift found by two such logs
-  key-alike : (b : Box) (log log₀ : List Event) → SamePlaces log₀ log → (shares shares′ : ℕ → Lending) (own : TapeSet) → Valid c b own
-      → (number n : ℕ) → listed n ≡ true
+module _ (c : Common) (shares shares′ : ℕ → Lending) where
+  -- one key: its exchange looks the same with a tape and the first shares as with the moved tape and the second
+  key-moved : (b : Box) (log : List Event) (own : TapeSet) → Valid c b own → (number n : ℕ) → listed n ≡ true
+      → KeyAlike b (byBox b own (c .others)) (byBox b (image (thereBy c b log shares shares′) own) (c .others))
+      (bookOf (byBox b shares (c .lendings)) log) (bookOf (byBox b shares′ (c .lendings)) log) number n
+  key-moved first log own v number n l = moves-at c first log shares shares′ number n l .alike (own number n) (v number n l)
+  key-moved second log own v number n l = moves-at c second log shares shares′ number n l .alike (own number n) (v number n l)
+
+  -- its shares and its map found by two logs
+  key-alike : (b : Box) (log log₀ : List Event) → SamePlaces log₀ log → (own : TapeSet) → Valid c b own → (number n : ℕ) → listed n ≡ true
       → KeyAlike b (byBox b own (c .others)) (byBox b (image (thereBy c b log₀ shares shares′) own) (c .others))
       (bookOf (byBox b shares (c .lendings)) log) (bookOf (byBox b shares′ (c .lendings)) log) number n
-  key-alike first log log₀ e shares shares′ own v number n l =
-      rw (e first number n, e second number n) (moves-at c first log shares shares′ number n l .alike (own number n) (v number n l))
-  key-alike second log log₀ e shares shares′ own v number n l =
-      rw (e first number n, e second number n) (moves-at c second log shares shares′ number n l .alike (own number n) (v number n l))
+  key-alike first log log₀ e own v number n l = rw (e first number n, e second number n) (key-moved first log own v number n l)
+  key-alike second log log₀ e own v number n l = rw (e first number n, e second number n) (key-moved second log own v number n l)
 
 module _ (c : Common) (b : Box) where
   moved-valid : (log : List Event) (shares shares′ : ℕ → Lending) (own : TapeSet) → Valid c b own
@@ -108,8 +112,8 @@ module _ (c : Common) (b : Box) where
       record {
         orders = orders c b own v;
         orders′ = orders c b own′ (moved-valid log₀ shares shares′ own v);
-        sent = λ d number n r l. sent-alike (byBox b own (c .others)) (byBox b own′ (c .others)) (bookOf (byBox b shares (c .lendings)) log) (bookOf (byBox b shares′ (c .lendings)) log) number n b (tape number n) (lent number n) (key-alike c b log log₀ e shares shares′ own v number n l) d r;
-        answer = λ number n l. answer-alike (byBox b own (c .others)) (byBox b own′ (c .others)) (bookOf (byBox b shares (c .lendings)) log) (bookOf (byBox b shares′ (c .lendings)) log) number n b (tape number n) (lent number n) (key-alike c b log log₀ e shares shares′ own v number n l);
+        sent = λ d number n r l. sent-alike (byBox b own (c .others)) (byBox b own′ (c .others)) (bookOf (byBox b shares (c .lendings)) log) (bookOf (byBox b shares′ (c .lendings)) log) number n b (tape number n) (lent number n) (key-alike c shares shares′ b log log₀ e own v number n l) d r;
+        answer = λ number n l. answer-alike (byBox b own (c .others)) (byBox b own′ (c .others)) (bookOf (byBox b shares (c .lendings)) log) (bookOf (byBox b shares′ (c .lendings)) log) number n b (tape number n) (lent number n) (key-alike c shares shares′ b log log₀ e own v number n l);
       }
 
   -- whatever valid tapes and words in work: two runs with the same shares that meet the premises open the same jobs

@@ -29,7 +29,8 @@ use Rattle.guarantees.proofs.Refusals.{OrderAlike, speak-same, hear-sam
 use Rattle.guarantees.proofs.Skeletons.{Fit, memories, next}
 use Rattle.guarantees.proofs.Covers.{spokeCount, spoke-said, uncover-spoke}
 use Rattle.guarantees.proofs.Fitting.{Fitting, fitting-next}
-use Rattle.guarantees.proofs.Fits.{InOrder, order-same, start-fit, compatible-back, true-too, true-back, keeps-too}
+use Rattle.guarantees.proofs.Jobs.{InOrder}
+use Rattle.guarantees.proofs.Fits.{order-same, start-fit, compatible-back, true-too, true-back, keeps-too}
 
 -- ---- refused alike before the last ground
 

@@ -10,7 +10,7 @@ use Rattle.rules.specs.Grounds.{hearGround}
 use Rattle.guarantees.specs.Boxes.{Box}
 use Rattle.guarantees.specs.Entries.{Incoming, spokenAt, other, Step, wake, start, speak, hear, drop, cut, cutStart, Entry}
 use Rattle.guarantees.specs.Run.{Lending, Setting, Event, replied, World, memoryOf, eventAt, tapeWords, incomingWords, stepped}
-use Rattle.guarantees.specs.Secrecy.{TapeSet, Common, Loose, Valid, worldOf, settingOf, Premises, Witness}
+use Rattle.guarantees.specs.Comparison.{TapeSet, Common, Loose, Valid, worldOf, settingOf, Premises, Witness}
 
 -- a message, if that is what is lent, was spoken under no larger width
 abbrev pub NotWider : List Event → ℕ → Incoming → Type 0

@@ -9,7 +9,8 @@ use Rattle.field.specs.Width.{listed}
 use Rattle.guarantees.specs.Boxes.{Box}
 use Rattle.guarantees.specs.Run.{Lending, Event}
 use Rattle.guarantees.specs.View.{view}
-use Rattle.guarantees.specs.Secrecy.{TapeSet, Common, Loose, Valid, image, events, Premises, Paired}
+use Rattle.guarantees.specs.Comparison.{TapeSet, Common, Loose, Valid, image, events, Premises}
+use Rattle.guarantees.specs.Secrecy.{Paired}
 
 -- with that valid set, which is `rest` from number `range` on, and these shares the list meets the premises and gives that view
 pub record Gives (c : Common) (b : Box) (shares shares′ : ℕ → Lending) (w : Loose) (range : ℕ) (rest : TapeSet) (seen : List Event)

@@ -3,6 +3,7 @@ pub mod Entries
 pub mod Run
 pub mod Premises
 pub mod View
+pub mod Comparison
 pub mod Secrecy
 pub mod Maps
 pub mod Counting

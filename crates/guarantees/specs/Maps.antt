@@ -10,7 +10,7 @@ use Rattle.protocol.specs.Shift.{shifted}
 use Rattle.rules.specs.Answers.{fresh, started, spoke, heard, share, dropped, refused}
 use Rattle.guarantees.specs.Boxes.{Box, first, second, sideOf, partner}
 use Rattle.guarantees.specs.Run.{Lending, Said, nothing, replied, Event}
-use Rattle.guarantees.specs.Secrecy.{Common, TapeMap}
+use Rattle.guarantees.specs.Comparison.{Common, TapeMap}
 
 -- ---- where in a log a job was opened
 

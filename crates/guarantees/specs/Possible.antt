@@ -15,7 +15,7 @@ use Rattle.rules.specs.declared.state.Phase.the-variants.{Asleep}
 use Rattle.guarantees.specs.Boxes.{Box, first, second, sideOf, partner}
 use Rattle.guarantees.specs.Entries.{dealt, spokenAt, Step, wake, start, speak, hear, cutStart, Entry}
 use Rattle.guarantees.specs.Run.{Lending, replied, Event, eventAt, tapeWords, run}
-use Rattle.guarantees.specs.Secrecy.{TapeSet, Valid, Common, Loose, worldOf, settingOf, events, Premises}
+use Rattle.guarantees.specs.Comparison.{TapeSet, Valid, Common, Loose, worldOf, settingOf, events, Premises}
 
 abbrev pub pairNumber : ℕ
 pairNumber = 5

@@ -10,7 +10,7 @@ use Rattle.rules.specs.Answers.{Reply, fresh, started, spoke, heard, share, dro
 use Rattle.rules.specs.Tally.{cutMarked}
 use Rattle.rules.specs.Modes.{asleepState}
 use Rattle.rules.specs.Grounds.{startGround}
-use Rattle.rules.specs.Calls.{wakeRule, startRule, speakRule, hearRule, dropRule}
+use Rattle.rules.specs.Calls.{Result, wakeRule, startRule, speakRule, hearRule, dropRule}
 use Rattle.rules.specs.declared.state.State.{State}
 use Rattle.guarantees.specs.Boxes.{Box, first, second}
 use Rattle.guarantees.specs.Entries.{Lent, dealt, loose, Incoming, spokenAt, other, Step, wake, start, speak, hear, drop, cut, cutStart, Entry}
@@ -90,6 +90,10 @@ spokenWords (share v) out = []
 spokenWords dropped out = []
 spokenWords (refused k) out = []
 
+-- after a start: the tally as it was left
+abbrev pub afterStart : Memory → Result → Memory
+afterStart m r = record { state = r .state; work = m .work; tally = r .buffer }
+
 -- after a cut: asleep, the tally as it is, any words in work, as many as the list says
 abbrev pub afterCut : Setting → ℕ → ℕ → Memory → List ℕ → Memory
 afterCut g place room m tally =
@@ -105,7 +109,7 @@ stepped g place w b (wake n side pair) =
 stepped g place w b (start number lent) =
     let m = memoryOf w b in
     let r = startRule (m .state) number (g .shares b place .x) (g .shares b place .y) (tapeWords g lent) (m .work) (m .tally) in
-    after w b (record { state = r .state; work = m .work; tally = r .buffer })
+    after w b (afterStart m r)
     (record { box = b; number = number; width = m .state .n; round = 0; said = replied (r .reply); spoken = []; incoming = [] })
 stepped g place w b (speak number round lent out) =
     let m = memoryOf w b in
