@@ -2,14 +2,14 @@
 use Rattle.guarantees.specs.Comparison.{worldOf, settingOf}
 use Rattle.guarantees.specs.AnyTapes.{AnyTapes}
 use Rattle.guarantees.proofs.Fitting.{fitting-first}
-use Rattle.guarantees.proofs.First.{first-again, skeleton-first, orders}
-use Rattle.guarantees.proofs.Steady.{lasts}
+use Rattle.guarantees.proofs.First.{first-again, low-first, orders}
+use Rattle.guarantees.proofs.Schedule.{lasts}
 
 pub any-tapes : AnyTapes
 any-tapes c b shares shares′ e narrow own valid w =
     let l =
     lasts (settingOf c b (e .own) shares (e .loose)) (settingOf c b own shares′ w) (c .pair) (orders c b (e .own) (e .valid)) (orders c b own valid)
     (c .entries) 0 (worldOf c (e .loose)) (worldOf c w)
-    (record { skeleton = skeleton-first c (e .loose) w; fits = fitting-first; fits′ = fitting-first })
+    (record { low = low-first c (e .loose) w; fits = fitting-first; fits′ = fitting-first })
     (e .premises .compatible) (e .premises .meets) narrow in
     (record { asleep = first-again c (e .loose) w (e .premises .asleep); meets = l .meets; compatible = l .compatible }, l .narrow)

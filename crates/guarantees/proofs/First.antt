@@ -13,42 +13,45 @@ use Rattle.rules.specs.Modes.{modeOf, isAsleep}
 use Rattle.rules.specs.declared.state.Phase.{Phase}
 use Rattle.rules.specs.declared.state.Phase.the-variants.{Asleep, Idle, Job}
 use Rattle.rules.specs.declared.state.State.{State}
-use Rattle.guarantees.specs.Boxes.{Box, first, second, sideOf}
+use Rattle.guarantees.specs.Boxes.{Box, box1, box2, sideOf}
+use Rattle.guarantees.specs.Keys.{Key}
+use Rattle.guarantees.specs.Outcomes.{kindOf}
 use Rattle.guarantees.specs.Run.{Lending, Setting, Event, quiet, World, memoryOf, eventAt}
 use Rattle.guarantees.specs.Premises.{AtFirst}
 use Rattle.guarantees.specs.Comparison.{TapeSet, byBox, Common, Loose, Valid, memoryAt, worldOf}
-use Rattle.guarantees.proofs.Twins.{TwinMemory, Skeleton, same}
+use Rattle.guarantees.proofs.LowEquivalence.{LowMemory, LowEquivalent, same}
 use Rattle.guarantees.proofs.Logs.{same-event}
-use Rattle.guarantees.proofs.Openings.{Unopened, Marked, Once}
-use Rattle.guarantees.proofs.Follows.{Phased, Holds, True-to, Follows}
+use Rattle.guarantees.proofs.Once.{Unopened, Marked, Once}
+use Rattle.guarantees.proofs.Invariant.{Phased, Holds, Conforms, Invariant}
 
-module _ (g : Setting) (book : Box → ℕ → ℕ → Lending) where
+module _ (g : Setting) (book : Box → Key → Lending) where
   asleep-phased : (b : Box) (s : State) (work : List ℕ) (p : Phase) → isAsleep p ≡ true → Phased g book b s work p
   asleep-phased b s work Asleep h = tt
   asleep-phased b s work Idle h = absurd (false≢true h)
   asleep-phased b s work (Job turn number x y) h = absurd (false≢true h)
 
-  pub follows-first : (w : World) → AtFirst w → Follows g book w
-  follows-first w at =
+  pub invariant-first : (w : World) → AtFirst w → Invariant g book w
+  invariant-first w at =
       record {
         each = each;
-        events = λ k. subst (λ (l : List Event). True-to g book (eventAt l k) (eventAt l k .said)) (sym (at .no-events)) refl;
+        events = λ k. subst (λ (l : List Event). Conforms g book (eventAt l k) (kindOf (eventAt l k .said))) (sym (at .no-events)) refl;
       }
     where
       each : (b : Box) → Holds g book b (memoryOf w b)
-      each first = record { holds = asleep-phased first (w .one .state) (w .one .work) (modeOf (w .one .state)) (at .first-asleep) }
-      each second = record { holds = asleep-phased second (w .two .state) (w .two .work) (modeOf (w .two .state)) (at .second-asleep) }
+      each b =
+          let m = memoryOf w b in
+          record { holds = asleep-phased b (m .state) (m .work) (modeOf (m .state)) (at .asleep b) }
 
 pub marked-first : (w : World) → AtFirst w → Marked w
 marked-first w at = record { unopened = λ b number f. subst (λ (l : List Event). Unopened l b number) (sym (at .no-events)) tt }
 
 pub once-first : (w : World) → AtFirst w → Once (w .log)
-once-first w at = λ c number n k less opening. absurd (omega (arith, less, ap length (at .no-events)))
+once-first w at = λ c key k less opening. absurd (omega (arith, less, ap length (at .no-events)))
 
 -- ---- two runs over one list
 
-twin-first : (c : Common) (w w′ : Loose) (b : Box) → TwinMemory (memoryAt c w b) (memoryAt c w′ b)
-twin-first c w w′ b =
+memory-first : (c : Common) (w w′ : Loose) (b : Box) → LowMemory (memoryAt c w b) (memoryAt c w′ b)
+memory-first c w w′ b =
     record {
       state = record { n = refl; side = refl; pair = refl; tally = refl; phase = same (c .states b .phase) };
       tally = refl;
@@ -57,18 +60,26 @@ twin-first c w w′ b =
 
 -- what work holds does not matter
 pub first-again : (c : Common) (w w′ : Loose) → AtFirst (worldOf c w) → AtFirst (worldOf c w′)
-first-again c w w′ at = record { first-asleep = at .first-asleep; second-asleep = at .second-asleep; no-events = refl }
+first-again c w w′ at = record { asleep = again; no-events = refl }
+  where
+    again : (b : Box) → isAsleep (modeOf (memoryOf (worldOf c w′) b .state)) ≡ true
+    again box1 = at .asleep box1
+    again box2 = at .asleep box2
 
-pub skeleton-first : (c : Common) (w w′ : Loose) → Skeleton (worldOf c w) (worldOf c w′)
-skeleton-first c w w′ =
-    record { one = twin-first c w w′ first; two = twin-first c w w′ second; places = refl; events = λ k. same-event quiet }
+pub low-first : (c : Common) (w w′ : Loose) → LowEquivalent (worldOf c w) (worldOf c w′)
+low-first c w w′ =
+    record { memories = each; places = refl; events = λ k. same-event quiet }
+  where
+    each : (b : Box) → LowMemory (memoryOf (worldOf c w) b) (memoryOf (worldOf c w′) b)
+    each box1 = memory-first c w w′ box1
+    each box2 = memory-first c w w′ box2
 
 -- ---- the orders of the dealt tapes
 
 pub orders : (c : Common) (b : Box) (own : TapeSet) → Valid c b own
     → (d : Box) (number n : ℕ) → listed n ≡ true → inOrder n (c .pair) (sideOf d) number (byBox b own (c .others) d number n) ≡ true
 unfolding other
-orders c first own v first number n l = v number n l .own-order
-orders c first own v second number n l = v number n l .others-order
-orders c second own v first number n l = v number n l .others-order
-orders c second own v second number n l = v number n l .own-order
+orders c box1 own v box1 number n l = v number n l .own-order
+orders c box1 own v box2 number n l = v number n l .others-order
+orders c box2 own v box1 number n l = v number n l .others-order
+orders c box2 own v box2 number n l = v number n l .own-order

@@ -17,14 +17,15 @@ use Rattle.rules.specs.declared.state.State.{State}
 use Rattle.rules.proofs.Chains.{decide}
 use Rattle.rules.proofs.Passed.{speak-passed}
 use Rattle.rules.proofs.Spoken.{spoken-front, message-fits}
-use Rattle.guarantees.specs.Boxes.{Box, first, second}
+use Rattle.guarantees.specs.Boxes.{Box, box1, box2}
 use Rattle.guarantees.specs.Entries.{Step, wake, start, speak, hear, drop, cut, cutStart}
 use Rattle.guarantees.specs.Run.{Setting, Memory, replied, Event, World, memoryOf, after, eventAt, tapeWords, spokenWords, stepped}
-use Rattle.guarantees.proofs.Covers.{isSpoke}
+use Rattle.guarantees.specs.Outcomes.{kindOf}
+use Rattle.guarantees.proofs.Outcomes.{isMessage}
 
 -- what was spoken fits every width from its own on; all else is no words
 abbrev pub FitsFrom : Event → Type 0
-FitsFrom e = (n : ℕ) → (isSpoke (e .said) ≡ true → e .width ≤ n) → wordsFit n (e .spoken) ≡ true
+FitsFrom e = (n : ℕ) → (isMessage (kindOf (e .said)) ≡ true → e .key .width ≤ n) → wordsFit n (e .spoken) ≡ true
 
 abbrev pub Fitting : List Event → Type 0
 Fitting log = (k : ℕ) → FitsFrom (eventAt log k)
@@ -42,8 +43,8 @@ fitting-more (d ∷ log) e old new zero = old zero
 fitting-more (d ∷ log) e old new (suc k) = fitting-more log e (λ i. old (suc i)) new k
 
 fitting-after : (w : World) (c : Box) (m : Memory) (e : Event) → Fitting (w .log) → FitsFrom e → Fitting (after w c m e .log)
-fitting-after w first m e old new = fitting-more (w .log) e old new
-fitting-after w second m e old new = fitting-more (w .log) e old new
+fitting-after w box1 m e old new = fitting-more (w .log) e old new
+fitting-after w box2 m e old new = fitting-more (w .log) e old new
 
 -- ---- speaking
 
@@ -57,10 +58,10 @@ wider m n words le fits =
 
 speak-fits : (s : State) (number round : ℕ) (tape work out : List ℕ)
     → let r = speakRule s number round tape work out in
-    (n : ℕ) → (isSpoke (replied (r .reply)) ≡ true → s .n ≤ n) → wordsFit n (spokenWords (r .reply) (r .buffer)) ≡ true
+    (n : ℕ) → (isMessage (kindOf (replied (r .reply))) ≡ true → s .n ≤ n) → wordsFit n (spokenWords (r .reply) (r .buffer)) ≡ true
 unfolding speakRule
 speak-fits s number round tape work out n =
-    decide (λ r. (isSpoke (replied (r .reply)) ≡ true → s .n ≤ n) → wordsFit n (spokenWords (r .reply) (r .buffer)) ≡ true)
+    decide (λ r. (isMessage (kindOf (replied (r .reply))) ≡ true → s .n ≤ n) → wordsFit n (spokenWords (r .reply) (r .buffer)) ≡ true)
     (speakGround s number round tape work out) s out _
     (λ zero-ground least.
     let p = speak-passed s number round tape work out zero-ground in

@@ -1,4 +1,4 @@
--- A job's exchange: what the two boxes of a key (tape number and width) hold after each round, and the laws that a run goes by.
+-- A job's exchange: what the two boxes hold after each round, and the laws that a run goes by.
 use Prim.Native.Nat.{ℕ, zero, suc, _≤_}
 use mathlib.Core.Path.{_≡_, refl, sym}
 use mathlib.Core.Bool.{true}
@@ -11,7 +11,8 @@ use Rattle.protocol.specs.Work.{workLength}
 use Rattle.protocol.specs.Rounds.{message, afterHearing, answerShare}
 use Rattle.protocol.specs.Exchange.{Both, exchanged, sentOwn, sentOthers, answerOwn, answerOthers}
 use Rattle.protocol.proofs.Lengths.{after-length}
-use Rattle.guarantees.specs.Boxes.{Box, first, second, sideOf, partner}
+use Rattle.guarantees.specs.Boxes.{Box, box1, box2, sideOf, otherBox}
+use Rattle.guarantees.specs.Keys.{Key}
 use Rattle.guarantees.specs.Run.{Lending, Setting}
 use Rattle.guarantees.specs.Jobs.{blank, partyAt, sentBy, answerBy}
 
@@ -20,42 +21,42 @@ abbrev pub InOrder : Setting → ℕ → Type 0
 InOrder g pair = (c : Box) (number n : ℕ) → listed n ≡ true → inOrder n pair (sideOf c) number (g .tapes c number n) ≡ true
 
 -- tapes by box, number and width, and the shares that opened each job
-module _ (tapes : Box → ℕ → ℕ → List ℕ) (book : Box → ℕ → ℕ → Lending) where
-  abbrev both : ℕ → ℕ → ℕ → Both
-  both number n r = exchanged (partyAt tapes book first number n) (partyAt tapes book second number n) (blank n) r
+module _ (tapes : Box → ℕ → ℕ → List ℕ) (book : Box → Key → Lending) where
+  abbrev both : Key → ℕ → Both
+  both key r = exchanged (partyAt tapes book box1 key) (partyAt tapes book box2 key) (blank (key .width)) r
 
   -- what box b holds after r rounds
-  abbrev pub holding : Box → ℕ → ℕ → ℕ → List ℕ
-  holding first number n r = both number n r .own
-  holding second number n r = both number n r .others
+  abbrev pub holding : Box → Key → ℕ → List ℕ
+  holding box1 key r = both key r .own
+  holding box2 key r = both key r .others
 
   -- ---- the laws that a run goes by
 
-  pub sent-is : (b : Box) (number n r : ℕ) → sentBy tapes book b number n (suc r) ≡ message (partyAt tapes book b number n) (holding b number n r) (suc r)
+  pub sent-is : (b : Box) (key : Key) (r : ℕ) → sentBy tapes book b key (suc r) ≡ message (partyAt tapes book b key) (holding b key r) (suc r)
   unfolding sentOwn sentOthers
-  sent-is first number n r = refl
-  sent-is second number n r = refl
+  sent-is box1 key r = refl
+  sent-is box2 key r = refl
 
-  pub holding-next : (b : Box) (number n r : ℕ)
-      → holding b number n (suc r)
-      ≡ afterHearing (partyAt tapes book b number n) (holding b number n r) (suc r) (sentBy tapes book (partner b) number n (suc r))
+  pub holding-next : (b : Box) (key : Key) (r : ℕ)
+      → holding b key (suc r)
+      ≡ afterHearing (partyAt tapes book b key) (holding b key r) (suc r) (sentBy tapes book (otherBox b) key (suc r))
   unfolding exchanged sentOwn sentOthers
-  holding-next first number n r = refl
-  holding-next second number n r = refl
+  holding-next box1 key r = refl
+  holding-next box2 key r = refl
 
-  pub answer-is : (b : Box) (number n : ℕ)
-      → answerBy tapes book b number n ≡ answerShare (partyAt tapes book b number n) (holding b number n 5) (sentBy tapes book (partner b) number n 6)
+  pub answer-is : (b : Box) (key : Key)
+      → answerBy tapes book b key ≡ answerShare (partyAt tapes book b key) (holding b key 5) (sentBy tapes book (otherBox b) key 6)
   unfolding answerOwn answerOthers sentOwn sentOthers
-  answer-is first number n = refl
-  answer-is second number n = refl
+  answer-is box1 key = refl
+  answer-is box2 key = refl
 
-  pub holding-room : (b : Box) (number n r : ℕ) → workLength n ≤ length (holding b number n r)
+  pub holding-room : (b : Box) (key : Key) (r : ℕ) → workLength (key .width) ≤ length (holding b key r)
   unfolding exchanged
-  holding-room first number n zero = le-of-eq (sym (length-replicate (workLength n) 0))
-  holding-room second number n zero = le-of-eq (sym (length-replicate (workLength n) 0))
-  holding-room first number n (suc r) =
-      rw (after-length (partyAt tapes book first number n) (holding first number n r) (message (partyAt tapes book second number n) (holding second number n r) (suc r)) (suc r))
-      (holding-room first number n r)
-  holding-room second number n (suc r) =
-      rw (after-length (partyAt tapes book second number n) (holding second number n r) (message (partyAt tapes book first number n) (holding first number n r) (suc r)) (suc r))
-      (holding-room second number n r)
+  holding-room box1 key zero = le-of-eq (sym (length-replicate (workLength (key .width)) 0))
+  holding-room box2 key zero = le-of-eq (sym (length-replicate (workLength (key .width)) 0))
+  holding-room box1 key (suc r) =
+      rw (after-length (partyAt tapes book box1 key) (holding box1 key r) (message (partyAt tapes book box2 key) (holding box2 key r) (suc r)) (suc r))
+      (holding-room box1 key r)
+  holding-room box2 key (suc r) =
+      rw (after-length (partyAt tapes book box2 key) (holding box2 key r) (message (partyAt tapes book box1 key) (holding box1 key r) (suc r)) (suc r))
+      (holding-room box2 key r)

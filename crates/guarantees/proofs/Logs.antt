@@ -4,8 +4,13 @@ use mathlib.Core.Path.{_≡_, refl}
 use mathlib.Core.List.{List, [], _∷_, _++_}
 use native.Mathlib.Omega.{arith}
 use lib.ListN.{length, length-append}
-use Rattle.guarantees.specs.Run.{Event, quiet, eventAt}
-use Rattle.guarantees.proofs.Twins.{SameEvent}
+use Rattle.guarantees.specs.Boxes.{Box, box1, box2}
+use Rattle.guarantees.specs.Run.{Memory, Event, World, after, quiet, eventAt}
+use Rattle.guarantees.proofs.LowEquivalence.{LowEvent}
+
+pub after-log : (w : World) (b : Box) (m : Memory) (e : Event) → after w b m e .log ≡ w .log ++ (e ∷ [])
+after-log w box1 m e = refl
+after-log w box2 m e = refl
 
 -- nothing is written there
 pub event-none : (log : List Event) (k : ℕ) → length log ≤ k → eventAt log k ≡ quiet
@@ -28,13 +33,13 @@ event-past log e k h = event-none (log ++ (e ∷ [])) k (simp length-append (ome
 pub log-length : (log : List Event) (e : Event) → length (log ++ (e ∷ [])) ≡ suc (length log)
 log-length log e = simp length-append (omega arith)
 
-pub same-event : (e : Event) → SameEvent e e
-same-event e = record { box = refl; number = refl; width = refl; round = refl; said = refl; long = refl }
+pub same-event : (e : Event) → LowEvent e e
+same-event e = record { box = refl; key = refl; round = refl; said = refl; long = refl }
 
 -- two logs that are the same, still so one event later
 pub events-more : (log log′ : List Event) {e e′ : Event} → length log ≡ length log′
-    → ((k : ℕ) → SameEvent (eventAt log k) (eventAt log′ k)) → SameEvent e e′
-    → (k : ℕ) → SameEvent (eventAt (log ++ (e ∷ [])) k) (eventAt (log′ ++ (e′ ∷ [])) k)
+    → ((k : ℕ) → LowEvent (eventAt log k) (eventAt log′ k)) → LowEvent e e′
+    → (k : ℕ) → LowEvent (eventAt (log ++ (e ∷ [])) k) (eventAt (log′ ++ (e′ ∷ [])) k)
 events-more [] [] places events more zero = more
 events-more [] [] places events more (suc k) = same-event quiet
 events-more [] (a′ ∷ log′) places events more k = absurd (omega arith)

@@ -9,7 +9,8 @@ use Rattle.protocol.specs.Work.{workLength}
 use Rattle.protocol.specs.Products.{Party}
 use Rattle.protocol.specs.Exchange.{Both, exchanged, sentOwn, sentOthers, answerOwn, answerOthers}
 use Rattle.protocol.specs.Pairing.{Roomy, LooksAlike}
-use Rattle.guarantees.specs.Boxes.{Box, first, second, sideOf, partner}
+use Rattle.guarantees.specs.Boxes.{Box, box1, box2, sideOf, otherBox}
+use Rattle.guarantees.specs.Keys.{Key}
 use Rattle.guarantees.specs.Run.{Lending}
 use Rattle.guarantees.specs.Jobs.{blank, partyAt, sentBy, answerBy}
 
@@ -37,40 +38,40 @@ answer-swap p q w = rw (exchanged-swap p q w 5, own-swap p q w 5)
 
 -- ---- alike under two tapes and two pairs of shares of box b
 
-abbrev pub KeyAlike : Box → (Box → ℕ → ℕ → List ℕ) → (Box → ℕ → ℕ → List ℕ) → (Box → ℕ → ℕ → Lending) → (Box → ℕ → ℕ → Lending) → ℕ → ℕ → Type 0
-KeyAlike b tapes tapes′ book book′ number n =
-    LooksAlike n (sideOf b) (book b number n .x) (book b number n .y) (book′ b number n .x) (book′ b number n .y)
-    (book (partner b) number n .x) (book (partner b) number n .y) (tapes (partner b) number n) (tapes b number n) (tapes′ b number n)
+abbrev pub KeyAlike : Box → (Box → ℕ → ℕ → List ℕ) → (Box → ℕ → ℕ → List ℕ) → (Box → Key → Lending) → (Box → Key → Lending) → Key → Type 0
+KeyAlike b tapes tapes′ book book′ key =
+    LooksAlike (key .width) (sideOf b) (book b key .x) (book b key .y) (book′ b key .x) (book′ b key .y)
+    (book (otherBox b) key .x) (book (otherBox b) key .y) (tapes (otherBox b) (key .number) (key .width)) (tapes b (key .number) (key .width)) (tapes′ b (key .number) (key .width))
 
 roomy : (n : ℕ) → Roomy n (blank n)
 roomy n = record { own = le-of-eq (sym (length-replicate (workLength n) 0)); others = le-of-eq (sym (length-replicate (workLength n) 0)) }
 
 -- the other box has the same tape and shares under both
-module _ (tapes tapes′ : Box → ℕ → ℕ → List ℕ) (book book′ : Box → ℕ → ℕ → Lending) (number n : ℕ) where
-  pub sent-alike : (b : Box) → tapes (partner b) number n ≡ tapes′ (partner b) number n → book (partner b) number n ≡ book′ (partner b) number n
-      → KeyAlike b tapes tapes′ book book′ number n
-      → (c : Box) (r : ℕ) → r < 6 → sentBy tapes book c number n (suc r) ≡ sentBy tapes′ book′ c number n (suc r)
+module _ (tapes tapes′ : Box → ℕ → ℕ → List ℕ) (book book′ : Box → Key → Lending) (key : Key) where
+  pub sent-alike : (b : Box) → tapes (otherBox b) (key .number) (key .width) ≡ tapes′ (otherBox b) (key .number) (key .width) → book (otherBox b) key ≡ book′ (otherBox b) key
+      → KeyAlike b tapes tapes′ book book′ key
+      → (c : Box) (r : ℕ) → r < 6 → sentBy tapes book c key (suc r) ≡ sentBy tapes′ book′ c key (suc r)
   unfolding other
-  sent-alike first te be k first r l = rw (← te, ← be) (k .mine (blank n) (blank n) (roomy n) (roomy n) r l)
-  sent-alike first te be k second r l = rw (← te, ← be) (k .theirs (blank n) (blank n) (roomy n) (roomy n) r l)
-  sent-alike second te be k first r l =
+  sent-alike box1 te be k box1 r l = rw (← te, ← be) (k .mine (blank (key .width)) (blank (key .width)) (roomy (key .width)) (roomy (key .width)) r l)
+  sent-alike box1 te be k box2 r l = rw (← te, ← be) (k .theirs (blank (key .width)) (blank (key .width)) (roomy (key .width)) (roomy (key .width)) r l)
+  sent-alike box2 te be k box1 r l =
       rw (← te, ← be)
-      (sym (others-swap (partyAt tapes book first number n) (partyAt tapes book second number n) (blank n) r)
-      ∙ k .theirs (blank n) (blank n) (roomy n) (roomy n) r l
-      ∙ others-swap (partyAt tapes book first number n) (partyAt tapes′ book′ second number n) (blank n) r)
-  sent-alike second te be k second r l =
+      (sym (others-swap (partyAt tapes book box1 key) (partyAt tapes book box2 key) (blank (key .width)) r)
+      ∙ k .theirs (blank (key .width)) (blank (key .width)) (roomy (key .width)) (roomy (key .width)) r l
+      ∙ others-swap (partyAt tapes book box1 key) (partyAt tapes′ book′ box2 key) (blank (key .width)) r)
+  sent-alike box2 te be k box2 r l =
       rw (← te, ← be)
-      (sym (own-swap (partyAt tapes book first number n) (partyAt tapes book second number n) (blank n) r)
-      ∙ k .mine (blank n) (blank n) (roomy n) (roomy n) r l
-      ∙ own-swap (partyAt tapes book first number n) (partyAt tapes′ book′ second number n) (blank n) r)
+      (sym (own-swap (partyAt tapes book box1 key) (partyAt tapes book box2 key) (blank (key .width)) r)
+      ∙ k .mine (blank (key .width)) (blank (key .width)) (roomy (key .width)) (roomy (key .width)) r l
+      ∙ own-swap (partyAt tapes book box1 key) (partyAt tapes′ book′ box2 key) (blank (key .width)) r)
 
-  pub answer-alike : (b : Box) → tapes (partner b) number n ≡ tapes′ (partner b) number n → book (partner b) number n ≡ book′ (partner b) number n
-      → KeyAlike b tapes tapes′ book book′ number n
-      → answerBy tapes book (partner b) number n ≡ answerBy tapes′ book′ (partner b) number n
+  pub answer-alike : (b : Box) → tapes (otherBox b) (key .number) (key .width) ≡ tapes′ (otherBox b) (key .number) (key .width) → book (otherBox b) key ≡ book′ (otherBox b) key
+      → KeyAlike b tapes tapes′ book book′ key
+      → answerBy tapes book (otherBox b) key ≡ answerBy tapes′ book′ (otherBox b) key
   unfolding other
-  answer-alike first te be k = rw (← te, ← be) (k .answer (blank n) (blank n) (roomy n) (roomy n))
-  answer-alike second te be k =
+  answer-alike box1 te be k = rw (← te, ← be) (k .answer (blank (key .width)) (blank (key .width)) (roomy (key .width)) (roomy (key .width)))
+  answer-alike box2 te be k =
       rw (← te, ← be)
-      (sym (answer-swap (partyAt tapes book first number n) (partyAt tapes book second number n) (blank n))
-      ∙ k .answer (blank n) (blank n) (roomy n) (roomy n)
-      ∙ answer-swap (partyAt tapes book first number n) (partyAt tapes′ book′ second number n) (blank n))
+      (sym (answer-swap (partyAt tapes book box1 key) (partyAt tapes book box2 key) (blank (key .width)))
+      ∙ k .answer (blank (key .width)) (blank (key .width)) (roomy (key .width)) (roomy (key .width))
+      ∙ answer-swap (partyAt tapes book box1 key) (partyAt tapes′ book′ box2 key) (blank (key .width)))

@@ -26,21 +26,34 @@ use Rattle.protocol.specs.Levels.{levelMatch, wrapShare}
 use Rattle.protocol.specs.Rounds.{squareWord, lowProducts, lowSum, levelProducts, wrapProducts, halfShare}
 use Rattle.protocol.specs.Rounds.{halfProduct, lastLeft, lastRight, lastProduct, answerShare, roundWords, message, afterHearing}
 use Rattle.rules.specs.Tally.{tallyFits, tapesOf, isFresh, marked, cutMarked, freshCount}
-use Rattle.rules.specs.Modes.{inRange, modeOf}
+use Rattle.rules.specs.Modes.{inRange, modeOf, isAsleep}
 use Rattle.rules.specs.Grounds.{wakeGround, startGround, speakGround, hearGround}
 use Rattle.rules.specs.Calls.{wakeRule, startRule, speakRule, hearRule}
-use Rattle.guarantees.specs.Boxes.{Box, first, second, partner}
+use Rattle.guarantees.specs.Boxes.{Box, box1, box2, otherBox}
+use Rattle.guarantees.specs.Keys.{Key, keyAt}
+use Rattle.guarantees.specs.Outcomes.{kindOf}
 use Rattle.guarantees.specs.Entries.{Lent, dealt, loose, Incoming, spokenAt, other, Step, wake, start, speak, hear, drop, cut, cutStart, Entry}
 use Rattle.guarantees.specs.Run.{Lending, Setting, Memory, Event, World, memoryOf, eventAt, stepped}
-use Rattle.guarantees.specs.Premises.{True, Keeps, Meets, AtFirst, InBoth, Compatible, AllCompatible}
+use Rattle.guarantees.specs.Premises.{TrueMessage, Keeps, Meets, AtFirst, InBoth, Compatible, AllCompatible}
 use Rattle.guarantees.specs.Maps.{sameBox}
 use Rattle.guarantees.specs.Comparison.{Valid, byBox, worldOf, settingOf, events}
 use Rattle.guarantees.specs.Possible.{pairNumber, sharesOf, sharesAnew, plainSet, plainCommon, zeros, whole, again}
 use Rattle.guarantees.specs.Possible.{CutInMark, AnswersAt, RightSum, Possible}
-use Rattle.guarantees.proofs.Openings.{same-box}
-use Rattle.guarantees.proofs.Covers.{isSpoke, spokeCount, spoke-said}
+use Rattle.guarantees.proofs.Once.{same-box}
+use Rattle.guarantees.proofs.Outcomes.{isMessage, message-of}
 
 -- ---- a computed test of the premises, for lists in which no entry is to be refused
+
+abbrev sameKey : Key → Key → Bool
+sameKey k k′ = eqb (k .number) (k′ .number) && eqb (k .width) (k′ .width)
+
+same-key : (k k′ : Key) → sameKey k k′ ≡ true → k ≡ k′
+same-key k k′ e =
+    rw (
+      eqb-true (k .number) (k′ .number) (and-left (eqb (k .number) (k′ .number)) (eqb (k .width) (k′ .width)) e),
+      eqb-true (k .width) (k′ .width) (and-right (eqb (k .number) (k′ .number)) (eqb (k .width) (k′ .width)) e),
+    )
+    refl
 
 -- the box's own dealt tape of that number and width
 abbrev ownTape : Box → ℕ → ℕ → Lent → Bool
@@ -58,35 +71,33 @@ own-tape b number n (dealt c k m) e =
     refl
 own-tape b number n (loose words) e = absurd (false≢true e)
 
--- the other box spoke it earlier, under that number, width and round
-abbrev aboutTest : Box → ℕ → ℕ → ℕ → Event → Bool
-aboutTest b number width round e =
-    sameBox (e .box) (partner b)
-    && (eqb (e .number) number && (eqb (e .width) width && (eqb (e .round) round && isSpoke (e .said))))
+-- the other box spoke it earlier, under that job and round
+abbrev aboutTest : Box → Key → ℕ → Event → Bool
+aboutTest b key round e =
+    sameBox (e .box) (otherBox b) && (sameKey (e .key) key && (eqb (e .round) round && isMessage (kindOf (e .said))))
 
-abbrev trueTest : List Event → Box → ℕ → ℕ → ℕ → Incoming → Bool
-trueTest log b number width round (spokenAt place) = ltb place (length log) && aboutTest b number width round (eventAt log place)
-trueTest log b number width round (other words) = false
+abbrev trueTest : List Event → Box → Key → ℕ → Incoming → Bool
+trueTest log b key round (spokenAt place) = ltb place (length log) && aboutTest b key round (eventAt log place)
+trueTest log b key round (other words) = false
 
-true-message : (log : List Event) (b : Box) (number width round : ℕ) (incoming : Incoming)
-    → trueTest log b number width round incoming ≡ true → True log b number width round incoming
-true-message log b number width round (other words) t = absurd (false≢true t)
-true-message log b number width round (spokenAt place) t =
+true-message : (log : List Event) (b : Box) (key : Key) (round : ℕ) (incoming : Incoming)
+    → trueTest log b key round incoming ≡ true → TrueMessage log b key round incoming
+true-message log b key round (other words) t = absurd (false≢true t)
+true-message log b key round (spokenAt place) t =
     let e = eventAt log place in
-    let about = and-right (ltb place (length log)) (aboutTest b number width round e) t in
-    let t1 = and-right (sameBox (e .box) (partner b)) _ about in
-    let t2 = and-right (eqb (e .number) number) _ t1 in
-    let t3 = and-right (eqb (e .width) width) _ t2 in
+    let about = and-right (ltb place (length log)) (aboutTest b key round e) t in
+    let t1 = and-right (sameBox (e .box) (otherBox b)) _ about in
+    let t2 = and-right (sameKey (e .key) key) _ t1 in
+    let said = message-of (e .said) (and-right (eqb (e .round) round) _ t2) in
     record {
       place = place;
       named = refl;
       earlier = ltb-true place (length log) (and-left (ltb place (length log)) _ t);
-      by = same-box (e .box) (partner b) (and-left (sameBox (e .box) (partner b)) _ about);
-      numbered = eqb-true (e .number) number (and-left (eqb (e .number) number) _ t1);
-      wide = eqb-true (e .width) width (and-left (eqb (e .width) width) _ t2);
-      rounded = eqb-true (e .round) round (and-left (eqb (e .round) round) _ t3);
-      count = spokeCount (e .said);
-      uttered = spoke-said (e .said) (and-right (eqb (e .round) round) _ t3);
+      by = same-box (e .box) (otherBox b) (and-left (sameBox (e .box) (otherBox b)) _ about);
+      under = same-key (e .key) key (and-left (sameKey (e .key) key) _ t1);
+      rounded = eqb-true (e .round) round (and-left (eqb (e .round) round) _ t2);
+      count = said .count;
+      uttered = said .is;
     }
 
 abbrev keepsTest : World → Box → Step → Bool
@@ -94,7 +105,7 @@ keepsTest w b (wake n side p) = true
 keepsTest w b (start number lent) = true
 keepsTest w b (speak number round lent out) = ownTape b number (memoryOf w b .state .n) lent
 keepsTest w b (hear number round lent incoming) =
-    ownTape b number (memoryOf w b .state .n) lent && trueTest (w .log) b number (memoryOf w b .state .n) round incoming
+    ownTape b number (memoryOf w b .state .n) lent && trueTest (w .log) b (keyAt (memoryOf w b .state) number) round incoming
 keepsTest w b drop = true
 keepsTest w b (cut room) = true
 keepsTest w b (cutStart number lent value room) = true
@@ -104,10 +115,10 @@ keeps-tested g w b (wake n side p) e = tt
 keeps-tested g w b (start number lent) e = tt
 keeps-tested g w b (speak number round lent out) e = λ _. own-tape b number (memoryOf w b .state .n) lent e
 keeps-tested g w b (hear number round lent incoming) e =
-    let n = memoryOf w b .state .n in
-    let own = ownTape b number n lent in
-    let said = trueTest (w .log) b number n round incoming in
-    λ _. (own-tape b number n lent (and-left own said e), true-message (w .log) b number n round incoming (and-right own said e))
+    let key = keyAt (memoryOf w b .state) number in
+    let own = ownTape b number (memoryOf w b .state .n) lent in
+    let said = trueTest (w .log) b key round incoming in
+    λ _. (own-tape b number (memoryOf w b .state .n) lent (and-left own said e), true-message (w .log) b key round incoming (and-right own said e))
 keeps-tested g w b drop e = tt
 keeps-tested g w b (cut room) e = tt
 keeps-tested g w b (cutStart number lent value room) e = tt
@@ -120,9 +131,9 @@ meets-tested : (g : Setting) (place : ℕ) (w : World) (es : List Entry) → mee
 meets-tested g place w [] t = tt
 meets-tested g place w (e ∷ es) t =
     let here = keepsTest w (e .box) (e .step) in
-    let next = stepped g place w (e .box) (e .step) in
-    let later = meetsTest g (suc place) next es in
-    (keeps-tested g w (e .box) (e .step) (and-left here later t), meets-tested g (suc place) next es (and-right here later t))
+    let step-consistent = stepped g place w (e .box) (e .step) in
+    let later = meetsTest g (suc place) step-consistent es in
+    (keeps-tested g w (e .box) (e .step) (and-left here later t), meets-tested g (suc place) step-consistent es (and-right here later t))
 
 -- ---- a computed test of the second shares: all in range
 
@@ -177,20 +188,24 @@ module _ (shares′ : Box → ℕ → Lending) (g : Setting) where
   all-tested place w [] t = tt
   all-tested place w (e ∷ es) t =
       let here = compatibleTest place w (e .box) (e .step) in
-      let next = stepped g place w (e .box) (e .step) in
-      let later = allTest (suc place) next es in
-      (compatible-tested place w (e .box) (e .step) (and-left here later t), all-tested (suc place) next es (and-right here later t))
+      let step-consistent = stepped g place w (e .box) (e .step) in
+      let later = allTest (suc place) step-consistent es in
+      (compatible-tested place w (e .box) (e .step) (and-left here later t), all-tested (suc place) step-consistent es (and-right here later t))
 
 -- ---- the two lists
 
 plain-valid : (entries : List Entry) (b : Box) → Valid (plainCommon entries b) b (plainSet b)
 unfolding otherSide
-plain-valid entries first number n width = plain-dealt n pairNumber number width
-plain-valid entries second number n width = matched-swap (plain-dealt n pairNumber number width)
+plain-valid entries box1 number n width = plain-dealt n pairNumber number width
+plain-valid entries box2 number n width = matched-swap (plain-dealt n pairNumber number width)
 
 at-first : (entries : List Entry) (b : Box) → AtFirst (worldOf (plainCommon entries b) zeros)
 unfolding listed inRange modeOf
-at-first entries b = record { first-asleep = refl; second-asleep = refl; no-events = refl }
+at-first entries b = record { asleep = asleep; no-events = refl }
+  where
+    asleep : (d : Box) → isAsleep (modeOf (memoryOf (worldOf (plainCommon entries b) zeros) d .state)) ≡ true
+    asleep box1 = refl
+    asleep box2 = refl
 
 abbrev plainSetting : List Entry → Box → Setting
 plainSetting entries b = settingOf (plainCommon entries b) b (plainSet b) (sharesOf b) zeros
@@ -201,46 +216,55 @@ plainWorld entries b = worldOf (plainCommon entries b) zeros
 -- what is computed of a list
 record ByRun (entries : List Entry) (place : ℕ) (b : Box) : Type 0 where
   meeting : meetsTest (plainSetting entries b) 0 (plainWorld entries b) entries ≡ true
-  ranging : allTest (byBox b sharesAnew (sharesOf (partner b))) (plainSetting entries b) 0 (plainWorld entries b) entries ≡ true
-  first-answers : AnswersAt (events (plainCommon entries b) b (plainSet b) (sharesOf b) zeros) place first 2
-  second-answers : AnswersAt (events (plainCommon entries b) b (plainSet b) (sharesOf b) zeros) (place + 1) second 6
+  ranging : allTest (byBox b sharesAnew (sharesOf (otherBox b))) (plainSetting entries b) 0 (plainWorld entries b) entries ≡ true
+  answer1 : AnswersAt (events (plainCommon entries b) b (plainSet b) (sharesOf b) zeros) place box1 2
+  answer2 : AnswersAt (events (plainCommon entries b) b (plainSet b) (sharesOf b) zeros) (place + 1) box2 6
 
-computed : (b : Box) → ByRun whole 26 b × ByRun again 28 b
+whole-run : (b : Box) → ByRun whole 26 b
 unfolding modulus listed isSide otherSide constantShare masked opened squareShare productShare section trailerFits bodyInRange inOrder plainTape
     rangeCode pointCode levelCode coefficient polynomial complement exclusive held
     openLeft openRight openings closed closing bitDifference squareClosing matchCount levelMatch wrapShare
     squareWord lowProducts lowSum levelProducts wrapProducts halfShare halfProduct lastLeft lastRight lastProduct
     answerShare roundWords message afterHearing
     tallyFits tapesOf isFresh marked cutMarked freshCount inRange modeOf
-    wakeGround startGround speakGround hearGround wakeRule startRule speakRule hearRule stepped whole again
-computed first = (
-  record {
-    meeting = refl;
-    ranging = refl;
-    first-answers = record { box = refl; number = refl; width = refl; said = refl };
-    second-answers = record { box = refl; number = refl; width = refl; said = refl };
-  },
-  record {
-    meeting = refl;
-    ranging = refl;
-    first-answers = record { box = refl; number = refl; width = refl; said = refl };
-    second-answers = record { box = refl; number = refl; width = refl; said = refl };
-  },
-)
-computed second = (
-  record {
-    meeting = refl;
-    ranging = refl;
-    first-answers = record { box = refl; number = refl; width = refl; said = refl };
-    second-answers = record { box = refl; number = refl; width = refl; said = refl };
-  },
-  record {
-    meeting = refl;
-    ranging = refl;
-    first-answers = record { box = refl; number = refl; width = refl; said = refl };
-    second-answers = record { box = refl; number = refl; width = refl; said = refl };
-  },
-)
+    wakeGround startGround speakGround hearGround wakeRule startRule speakRule hearRule stepped whole
+whole-run box1 =
+    record {
+      meeting = refl;
+      ranging = refl;
+      answer1 = record { box = refl; key = refl; said = refl };
+      answer2 = record { box = refl; key = refl; said = refl };
+    }
+whole-run box2 =
+    record {
+      meeting = refl;
+      ranging = refl;
+      answer1 = record { box = refl; key = refl; said = refl };
+      answer2 = record { box = refl; key = refl; said = refl };
+    }
+
+again-run : (b : Box) → ByRun again 28 b
+unfolding modulus listed isSide otherSide constantShare masked opened squareShare productShare section trailerFits bodyInRange inOrder plainTape
+    rangeCode pointCode levelCode coefficient polynomial complement exclusive held
+    openLeft openRight openings closed closing bitDifference squareClosing matchCount levelMatch wrapShare
+    squareWord lowProducts lowSum levelProducts wrapProducts halfShare halfProduct lastLeft lastRight lastProduct
+    answerShare roundWords message afterHearing
+    tallyFits tapesOf isFresh marked cutMarked freshCount inRange modeOf
+    wakeGround startGround speakGround hearGround wakeRule startRule speakRule hearRule stepped again
+again-run box1 =
+    record {
+      meeting = refl;
+      ranging = refl;
+      answer1 = record { box = refl; key = refl; said = refl };
+      answer2 = record { box = refl; key = refl; said = refl };
+    }
+again-run box2 =
+    record {
+      meeting = refl;
+      ranging = refl;
+      answer1 = record { box = refl; key = refl; said = refl };
+      answer2 = record { box = refl; key = refl; said = refl };
+    }
 
 from-run : (entries : List Entry) (place : ℕ) (b : Box) → ByRun entries place b → Possible entries place b
 from-run entries place b c =
@@ -249,17 +273,17 @@ from-run entries place b c =
       premises = record {
         asleep = at-first entries b;
         meets = meets-tested (plainSetting entries b) 0 (plainWorld entries b) entries (c .meeting);
-        compatible = all-tested (byBox b sharesAnew (sharesOf (partner b))) (plainSetting entries b) 0 (plainWorld entries b) entries (c .ranging);
+        compatible = all-tested (byBox b sharesAnew (sharesOf (otherBox b))) (plainSetting entries b) 0 (plainWorld entries b) entries (c .ranging);
       };
-      first-answers = c .first-answers;
-      second-answers = c .second-answers;
+      answer1 = c .answer1;
+      answer2 = c .answer2;
     }
 
 pub whole-possible : (b : Box) → Possible whole 26 b
-whole-possible b = from-run whole 26 b (computed b .0)
+whole-possible b = from-run whole 26 b (whole-run b)
 
 pub again-possible : (b : Box) → Possible again 28 b
-again-possible b = from-run again 28 b (computed b .1)
+again-possible b = from-run again 28 b (again-run b)
 
 pub right-sum : RightSum
 unfolding modulus

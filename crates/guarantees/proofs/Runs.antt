@@ -7,32 +7,32 @@ use Rattle.guarantees.specs.Boxes.{Box}
 use Rattle.guarantees.specs.Entries.{Entry}
 use Rattle.guarantees.specs.Run.{Setting, Event, World, stepped, run}
 use Rattle.guarantees.specs.Premises.{Meets, AllCompatible}
-use Rattle.guarantees.proofs.Openings.{Marked, marked-next, next-place}
+use Rattle.guarantees.proofs.Once.{Marked, marked-next, next-place}
 use Rattle.guarantees.proofs.Books.{bookOf, booked, booked-too}
-use Rattle.guarantees.proofs.Joint.{Alike, Joint, fit, joint-next}
-use Rattle.guarantees.proofs.Fits.{compatible-back, keeps-too}
+use Rattle.guarantees.proofs.Unwinding.{Alike, Related, same-ground, related-next}
+use Rattle.guarantees.proofs.SameGrounds.{compatible-back, keeps-too}
 
 module _ (b : Box) (g g′ : Setting) (pair : ℕ) (log : List Event) (a : Alike b g g′ pair (bookOf (g .shares) log) (bookOf (g′ .shares) log)) where
   pub record Both (es : List Entry) (place : ℕ) (w w′ : World) : Type 0 where
-    pub joint : Joint b g g′ pair (bookOf (g .shares) log) (bookOf (g′ .shares) log) (run g place w es) (run g′ place w′ es)
+    pub related : Related b g g′ pair (bookOf (g .shares) log) (bookOf (g′ .shares) log) (run g place w es) (run g′ place w′ es)
     pub meets : Meets g′ place w′ es
     pub compatible : AllCompatible (g .shares) g′ place w′ es
 
   pub both : (es : List Entry) (place : ℕ) (w w′ : World)
-      → Joint b g g′ pair (bookOf (g .shares) log) (bookOf (g′ .shares) log) w w′ → Marked w → length (w .log) ≡ place
+      → Related b g g′ pair (bookOf (g .shares) log) (bookOf (g′ .shares) log) w w′ → Marked w → length (w .log) ≡ place
       → run g place w es .log ≡ log → Meets g place w es → AllCompatible (g′ .shares) g place w es → Both es place w w′
-  both [] place w w′ j marked at end meets compatible = record { joint = j; meets = tt; compatible = tt }
+  both [] place w w′ j marked at end meets compatible = record { related = j; meets = tt; compatible = tt }
   both (e ∷ es) place w w′ j marked at end meets compatible =
-      let f = fit b g g′ pair _ _ a w w′ j place (e .box) (e .step) (compatible .0) in
+      let f = same-ground b g g′ pair _ _ a w w′ j place (e .box) (e .step) (compatible .0) in
       let rest =
       both es (suc place) (stepped g place w (e .box) (e .step)) (stepped g′ place w′ (e .box) (e .step))
-      (joint-next b g g′ pair _ _ a w w′ j place (e .box) (e .step) (meets .0) (compatible .0)
+      (related-next b g g′ pair _ _ a w w′ j place (e .box) (e .step) (meets .0) (compatible .0)
       (booked g log es place w (e .box) marked at (e .step) end)
-      (booked-too g log es place w (e .box) marked at g′ w′ (e .step) (j .skeleton) f end))
+      (booked-too g log es place w (e .box) marked at g′ w′ (e .step) (j .low) f end))
       (marked-next g place w (e .box) (e .step) marked)
       (next-place g place w (e .box) (e .step) ∙ ap suc at) end (meets .1) (compatible .1) in
       record {
-        joint = rest .joint;
-        meets = (keeps-too g g′ place w w′ (j .skeleton) (e .box) (e .step) f (meets .0), rest .meets);
-        compatible = (compatible-back g g′ place w w′ (e .box) (e .step) (j .skeleton) (compatible .0), rest .compatible);
+        related = rest .related;
+        meets = (keeps-too g g′ place w w′ (j .low) (e .box) (e .step) f (meets .0), rest .meets);
+        compatible = (compatible-back g g′ place w w′ (e .box) (e .step) (j .low) (compatible .0), rest .compatible);
       }

@@ -14,7 +14,7 @@ use Rattle.guarantees.specs.Comparison.{TapeSet, Common, Loose, Valid, w
 
 -- a message, if that is what is lent, was spoken under no larger width
 abbrev pub NotWider : List Event → ℕ → Incoming → Type 0
-NotWider log n (spokenAt place) = (count : ℕ) → eventAt log place .said ≡ replied (spoke count) → eventAt log place .width ≤ n
+NotWider log n (spokenAt place) = (count : ℕ) → eventAt log place .said ≡ replied (spoke count) → eventAt log place .key .width ≤ n
 NotWider log n (other words) = Unit {0}
 
 -- no hear that is refused with 13 is lent a message of a larger width. One that is not refused is lent a true message, of its own width

@@ -2,12 +2,12 @@
 use Prim.Native.Nat.{ℕ}
 
 pub data Box : Type 0 where
-  first second : Box
+  box1 box2 : Box
 
 abbrev pub sideOf : Box → ℕ
-sideOf first = 1
-sideOf second = 2
+sideOf box1 = 1
+sideOf box2 = 2
 
-abbrev pub partner : Box → Box
-partner first = second
-partner second = first
+abbrev pub otherBox : Box → Box
+otherBox box1 = box2
+otherBox box2 = box1

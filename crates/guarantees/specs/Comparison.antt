@@ -7,7 +7,7 @@ use Rattle.lists.specs.Tabulate.{tabulate}
 use Rattle.field.specs.Width.{listed}
 use Rattle.tape.specs.Dealt.{Matched}
 use Rattle.rules.specs.declared.state.State.{State}
-use Rattle.guarantees.specs.Boxes.{Box, first, second, sideOf}
+use Rattle.guarantees.specs.Boxes.{Box, box1, box2, sideOf}
 use Rattle.guarantees.specs.Entries.{Entry}
 use Rattle.guarantees.specs.Run.{Lending, Setting, Memory, Event, World, run}
 use Rattle.guarantees.specs.Premises.{AtFirst, Meets, AllCompatible}
@@ -18,10 +18,10 @@ TapeSet = ℕ → ℕ → List ℕ
 
 -- what box b has, and what the other has
 abbrev pub byBox : {A : Type 0} → Box → A → A → Box → A
-byBox first own others first = own
-byBox first own others second = others
-byBox second own others first = others
-byBox second own others second = own
+byBox box1 own others box1 = own
+byBox box1 own others box2 = others
+byBox box2 own others box1 = others
+byBox box2 own others box2 = own
 
 -- what stays the same in both runs: the list, the states and tallies at first, the length of work, the pair number, and the other box's
 -- tapes and shares
@@ -63,7 +63,7 @@ abbrev pub memoryAt : Common → Loose → Box → Memory
 memoryAt c w b = record { state = c .states b; work = tabulate (c .rooms b) (w .works b); tally = c .tallies b }
 
 abbrev pub worldOf : Common → Loose → World
-worldOf c w = record { one = memoryAt c w first; two = memoryAt c w second; log = [] }
+worldOf c w = record { memory1 = memoryAt c w box1; memory2 = memoryAt c w box2; log = [] }
 
 -- box b has these tapes and shares
 abbrev pub settingOf : Common → Box → TapeSet → (ℕ → Lending) → Loose → Setting

@@ -1,10 +1,12 @@
 pub mod Boxes
+pub mod Keys
 pub mod Entries
 pub mod Run
 pub mod Premises
 pub mod View
 pub mod Comparison
 pub mod Secrecy
+pub mod Outcomes
 pub mod Maps
 pub mod Counting
 pub mod AnyTapes

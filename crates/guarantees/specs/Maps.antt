@@ -7,37 +7,31 @@ use lib.Dec.{eqb}
 use Rattle.field.specs.Width.{modulus}
 use Rattle.protocol.specs.Change.{Shares, sharesOf}
 use Rattle.protocol.specs.Shift.{shifted}
-use Rattle.rules.specs.Answers.{fresh, started, spoke, heard, share, dropped, refused}
-use Rattle.guarantees.specs.Boxes.{Box, first, second, sideOf, partner}
-use Rattle.guarantees.specs.Run.{Lending, Said, nothing, replied, Event}
+use Rattle.guarantees.specs.Boxes.{Box, box1, box2, sideOf, otherBox}
+use Rattle.guarantees.specs.Keys.{Key}
+use Rattle.guarantees.specs.Run.{Lending, Event}
+use Rattle.guarantees.specs.Outcomes.{kindOf, isOpening}
 use Rattle.guarantees.specs.Comparison.{Common, TapeMap}
 
 -- ---- where in a log a job was opened
 
 abbrev pub sameBox : Box → Box → Bool
-sameBox first first = true
-sameBox first second = false
-sameBox second first = false
-sameBox second second = true
-
-abbrev pub isStarted : Said → Bool
-isStarted nothing = false
-isStarted (replied (fresh k)) = false
-isStarted (replied started) = true
-isStarted (replied (spoke k)) = false
-isStarted (replied heard) = false
-isStarted (replied (share v)) = false
-isStarted (replied dropped) = false
-isStarted (replied (refused k)) = false
+sameBox box1 box1 = true
+sameBox box1 box2 = false
+sameBox box2 box1 = false
+sameBox box2 box2 = true
 
 -- a start of that box with that number that was not refused
 abbrev pub opens : Box → ℕ → Event → Bool
-opens b number e = sameBox b (e .box) && eqb number (e .number) && isStarted (e .said)
+opens b number e = sameBox b (e .box) && eqb number (e .key .number) && isOpening (kindOf (e .said))
+
+abbrev pub opensJob : Box → Key → Event → Bool
+opensJob b key e = opens b (key .number) e && eqb (key .width) (e .key .width)
 
 -- the place of the job's opening, or the log's length where there is none
-abbrev pub openedAt : List Event → Box → ℕ → ℕ → ℕ
-openedAt [] b number n = 0
-openedAt (e ∷ es) b number n = cond (opens b number e && eqb n (e .width)) 0 (suc (openedAt es b number n))
+abbrev pub openedAt : List Event → Box → Key → ℕ
+openedAt [] b key = 0
+openedAt (e ∷ es) b key = cond (opensJob b key e) 0 (suc (openedAt es b key))
 
 -- ---- the maps
 
@@ -45,16 +39,17 @@ openedAt (e ∷ es) b number n = cond (opens b number e && eqb n (e .width)) 0 (
 abbrev pub clip : ℕ → Lending → Lending
 clip n v = record { x = v .x % modulus n; y = v .y % modulus n }
 
--- box b's and the other box's shares of the job of a number and width
-abbrev pub jobShares : Common → Box → List Event → (ℕ → Lending) → ℕ → ℕ → Shares
-jobShares c b log shares number n =
-    let own = clip n (shares (openedAt log b number n)) in
-    let others = clip n (c .lendings (openedAt log (partner b) number n)) in
-    sharesOf n (sideOf b) (own .x) (own .y) (others .x) (others .y)
+-- box b's and the other box's shares of a job
+abbrev pub jobShares : Common → Box → List Event → (ℕ → Lending) → Key → Shares
+jobShares c b log shares key =
+    let own = clip (key .width) (shares (openedAt log b key)) in
+    let others = clip (key .width) (c .lendings (openedAt log (otherBox b) key)) in
+    sharesOf (key .width) (sideOf b) (own .x) (own .y) (others .x) (others .y)
 
 abbrev pub moved : Common → Box → List Event → (ℕ → Lending) → (ℕ → Lending) → TapeMap
 moved c b log shares shares′ number n tape =
-    shifted (jobShares c b log shares number n) (jobShares c b log shares′ number n) tape (c .others number n)
+    let key : Key = record { number = number; width = n } in
+    shifted (jobShares c b log shares key) (jobShares c b log shares′ key) tape (c .others number n)
 
 -- from the first shares to the second, and from the second to the first
 abbrev pub thereBy : Common → Box → List Event → (ℕ → Lending) → (ℕ → Lending) → TapeMap

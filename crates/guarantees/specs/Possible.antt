@@ -12,7 +12,8 @@ use Rattle.protocol.specs.Rounds.{roundWords}
 use Rattle.rules.specs.Answers.{share}
 use Rattle.rules.specs.Grounds.{startGround}
 use Rattle.rules.specs.declared.state.Phase.the-variants.{Asleep}
-use Rattle.guarantees.specs.Boxes.{Box, first, second, sideOf, partner}
+use Rattle.guarantees.specs.Boxes.{Box, box1, box2, sideOf, otherBox}
+use Rattle.guarantees.specs.Keys.{Key}
 use Rattle.guarantees.specs.Entries.{dealt, spokenAt, Step, wake, start, speak, hear, cutStart, Entry}
 use Rattle.guarantees.specs.Run.{Lending, replied, Event, eventAt, tapeWords, run}
 use Rattle.guarantees.specs.Comparison.{TapeSet, Valid, Common, Loose, worldOf, settingOf, events, Premises}
@@ -22,8 +23,8 @@ pairNumber = 5
 
 -- x = 5 + 5 and y = 1 + 3, that is 3 and 4 modulo 7
 abbrev pub sharesOf : Box → ℕ → Lending
-sharesOf first place = record { x = 5; y = 1 }
-sharesOf second place = record { x = 5; y = 3 }
+sharesOf box1 place = record { x = 5; y = 1 }
+sharesOf box2 place = record { x = 5; y = 3 }
 
 -- the second shares of the box that is to stay hidden
 abbrev pub sharesAnew : ℕ → Lending
@@ -41,8 +42,8 @@ plainCommon entries b =
       tallies = λ c. 255 ∷ 255 ∷ [];
       rooms = λ c. workLength 3;
       pair = pairNumber;
-      others = plainSet (partner b);
-      lendings = sharesOf (partner b);
+      others = plainSet (otherBox b);
+      lendings = sharesOf (otherBox b);
     }
 
 abbrev pub zeros : Loose
@@ -52,6 +53,10 @@ infixl 10 _does_
 abbrev pub _does_ : Box → Step → Entry
 b does s = record { box = b; step = s }
 
+-- the job on tape 0
+abbrev pub tape0 : Key
+tape0 = record { number = 0; width = 3 }
+
 abbrev pub wakes : Box → Entry
 wakes b = b does wake 3 (sideOf b) pairNumber
 
@@ -59,17 +64,17 @@ wakes b = b does wake 3 (sideOf b) pairNumber
 abbrev pub roundFrom : ℕ → ℕ → List Entry
 roundFrom place round =
     let out : List ℕ = replicate (roundWords 3 round) 0 in
-    (first does speak 0 round (dealt first 0 3) out)
-    ∷ (second does speak 0 round (dealt second 0 3) out)
-    ∷ (first does hear 0 round (dealt first 0 3) (spokenAt (place + 1)))
-    ∷ (second does hear 0 round (dealt second 0 3) (spokenAt place))
+    (box1 does speak 0 round (dealt box1 0 3) out)
+    ∷ (box2 does speak 0 round (dealt box2 0 3) out)
+    ∷ (box1 does hear 0 round (dealt box1 0 3) (spokenAt (place + 1)))
+    ∷ (box2 does hear 0 round (dealt box2 0 3) (spokenAt place))
     ∷ []
 
 -- a whole job on tape 0, from a place on
 abbrev pub jobFrom : ℕ → List Entry
 jobFrom place =
-    (first does start 0 (dealt first 0 3))
-    ∷ (second does start 0 (dealt second 0 3))
+    (box1 does start 0 (dealt box1 0 3))
+    ∷ (box2 does start 0 (dealt box2 0 3))
     ∷ roundFrom (place + 2) 1
     ++ roundFrom (place + 6) 2
     ++ roundFrom (place + 10) 3
@@ -78,25 +83,24 @@ jobFrom place =
     ++ roundFrom (place + 22) 6
 
 unfoldable pub whole : List Entry
-whole = wakes first ∷ wakes second ∷ jobFrom 2
+whole = wakes box1 ∷ wakes box2 ∷ jobFrom 2
 
 -- at first the power fails in box 1's mark, which leaves FF there, and a word more in work; the later job is on that very tape
 unfoldable pub again : List Entry
-again = wakes first ∷ wakes second ∷ (first does cutStart 0 (dealt first 0 3) 255 (workLength 3 + 1)) ∷ wakes first ∷ jobFrom 4
+again = wakes box1 ∷ wakes box2 ∷ (box1 does cutStart 0 (dealt box1 0 3) 255 (workLength 3 + 1)) ∷ wakes box1 ∷ jobFrom 4
 
 -- the box answers at that place, on tape 0, with that share
 pub record AnswersAt (log : List Event) (place : ℕ) (b : Box) (v : ℕ) : Type 0 where
   pub box : eventAt log place .box ≡ b
-  pub number : eventAt log place .number ≡ 0
-  pub width : eventAt log place .width ≡ 3
+  pub key : eventAt log place .key ≡ tape0
   pub said : eventAt log place .said ≡ replied (share v)
 
 -- whichever box is to stay hidden: the list meets the premises, and both boxes answer with their last hears, from that place on
 pub record Possible (entries : List Entry) (place : ℕ) (b : Box) : Type 0 where
   pub valid : Valid (plainCommon entries b) b (plainSet b)
   pub premises : Premises (plainCommon entries b) b (sharesOf b) sharesAnew (plainSet b) zeros
-  pub first-answers : AnswersAt (events (plainCommon entries b) b (plainSet b) (sharesOf b) zeros) place first 2
-  pub second-answers : AnswersAt (events (plainCommon entries b) b (plainSet b) (sharesOf b) zeros) (place + 1) second 6
+  pub answer1 : AnswersAt (events (plainCommon entries b) b (plainSet b) (sharesOf b) zeros) place box1 2
+  pub answer2 : AnswersAt (events (plainCommon entries b) b (plainSet b) (sharesOf b) zeros) (place + 1) box2 6
 
 -- the sum of the two answers is the bit of x < y
 abbrev pub RightSum : Type 0
@@ -105,7 +109,7 @@ RightSum = (2 + 6) % modulus 3 ≡ indicator (ltb ((5 + 5) % modulus 3) ((1 + 3)
 -- in the second list the power did fail in a mark: that start had passed its checks
 abbrev pub CutInMark : Type 0
 CutInMark =
-    let c = plainCommon again first in
-    let g = settingOf c first (plainSet first) (sharesOf first) zeros in
-    let m = run g 0 (worldOf c zeros) (wakes first ∷ wakes second ∷ []) .one in
-    startGround (m .state) 0 (g .shares first 2 .x) (g .shares first 2 .y) (tapeWords g (dealt first 0 3)) (m .work) (m .tally) ≡ 0
+    let c = plainCommon again box1 in
+    let g = settingOf c box1 (plainSet box1) (sharesOf box1) zeros in
+    let m = run g 0 (worldOf c zeros) (wakes box1 ∷ wakes box2 ∷ []) .memory1 in
+    startGround (m .state) 0 (g .shares box1 2 .x) (g .shares box1 2 .y) (tapeWords g (dealt box1 0 3)) (m .work) (m .tally) ≡ 0

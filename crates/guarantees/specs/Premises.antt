@@ -10,18 +10,18 @@ use Rattle.tape.specs.Dealt.{Matched}
 use Rattle.rules.specs.Answers.{spoke}
 use Rattle.rules.specs.Modes.{modeOf, isAsleep}
 use Rattle.rules.specs.Grounds.{speakGround, hearGround}
-use Rattle.guarantees.specs.Boxes.{Box, sideOf, partner}
+use Rattle.guarantees.specs.Boxes.{Box, sideOf, otherBox}
+use Rattle.guarantees.specs.Keys.{Key, keyAt}
 use Rattle.guarantees.specs.Entries.{dealt, Incoming, spokenAt, Step, wake, start, speak, hear, drop, cut, cutStart, Entry}
 use Rattle.guarantees.specs.Run.{Lending, Setting, Memory, Event, replied, World, memoryOf, eventAt, tapeWords, incomingWords, stepped}
 
--- a message is true: it was spoken at an earlier place of the list by the other box, under the same number, width and round
-pub record True (log : List Event) (b : Box) (number width round : ℕ) (incoming : Incoming) : Type 0 where
+-- a message is true: it was spoken at an earlier place of the list by the other box, under the same job and round
+pub record TrueMessage (log : List Event) (b : Box) (key : Key) (round : ℕ) (incoming : Incoming) : Type 0 where
   pub place : ℕ
   pub named : incoming ≡ spokenAt place
   pub earlier : place < length log
-  pub by : eventAt log place .box ≡ partner b
-  pub numbered : eventAt log place .number ≡ number
-  pub wide : eventAt log place .width ≡ width
+  pub by : eventAt log place .box ≡ otherBox b
+  pub under : eventAt log place .key ≡ key
   pub rounded : eventAt log place .round ≡ round
   pub count : ℕ
   pub uttered : eventAt log place .said ≡ replied (spoke count)
@@ -36,7 +36,7 @@ Keeps g w b (speak number round lent out) =
     → lent ≡ dealt b number (memoryOf w b .state .n)
 Keeps g w b (hear number round lent incoming) =
     hearGround (memoryOf w b .state) number round (tapeWords g lent) (memoryOf w b .work) (incomingWords (w .log) incoming) ≡ 0
-    → (lent ≡ dealt b number (memoryOf w b .state .n)) × True (w .log) b number (memoryOf w b .state .n) round incoming
+    → (lent ≡ dealt b number (memoryOf w b .state .n)) × TrueMessage (w .log) b (keyAt (memoryOf w b .state) number) round incoming
 Keeps g w b drop = Unit {0}
 Keeps g w b (cut room) = Unit {0}
 Keeps g w b (cutStart number lent value room) = Unit {0}
@@ -48,14 +48,13 @@ Meets g place w (e ∷ es) = Keeps g w (e .box) (e .step) × Meets g (suc place)
 
 -- at first both boxes are asleep
 pub record AtFirst (w : World) : Type 0 where
-  pub first-asleep : isAsleep (modeOf (w .one .state)) ≡ true
-  pub second-asleep : isAsleep (modeOf (w .two .state)) ≡ true
+  pub asleep : (b : Box) → isAsleep (modeOf (memoryOf w b .state)) ≡ true
   pub no-events : w .log ≡ []
 
 -- every dealt pair of tapes is dealt by the rules, one pair for each number and width
 abbrev pub AllDealt : (Box → ℕ → ℕ → List ℕ) → Box → ℕ → Type 0
 AllDealt tapes b pair =
-    (number n : ℕ) → listed n ≡ true → Matched n pair number (sideOf b) (tapes b number n) (tapes (partner b) number n)
+    (number n : ℕ) → listed n ≡ true → Matched n pair number (sideOf b) (tapes b number n) (tapes (otherBox b) number n)
 
 -- a share under two tables: the same, or in range in both, for its box's width or where its box is asleep
 abbrev pub InBoth : Memory → ℕ → ℕ → Type 0

@@ -8,11 +8,12 @@ use Rattle.lists.specs.Tabulate.{tabulate}
 use Rattle.field.specs.Width.{listed}
 use Rattle.rules.specs.Answers.{Reply, fresh, started, spoke, heard, share, dropped, refused}
 use Rattle.rules.specs.Tally.{cutMarked}
-use Rattle.rules.specs.Modes.{asleepState}
+use Rattle.rules.specs.Modes.{modeOf, inJob, asleepState}
 use Rattle.rules.specs.Grounds.{startGround}
 use Rattle.rules.specs.Calls.{Result, wakeRule, startRule, speakRule, hearRule, dropRule}
 use Rattle.rules.specs.declared.state.State.{State}
-use Rattle.guarantees.specs.Boxes.{Box, first, second}
+use Rattle.guarantees.specs.Boxes.{Box, box1, box2}
+use Rattle.guarantees.specs.Keys.{Key, keyAt, openKey}
 use Rattle.guarantees.specs.Entries.{Lent, dealt, loose, Incoming, spokenAt, other, Step, wake, start, speak, hear, drop, cut, cutStart, Entry}
 
 -- the two shares lent at a start
@@ -33,37 +34,37 @@ pub record Memory : Type 0 where
   pub work : List ℕ
   pub tally : List ℕ
 
--- what an entry came to: a cut says nothing
+-- what an entry came to: a reply, or a cut, which says nothing and may have closed a job
 pub data Said : Type 0 where
   nothing : Said
+  lost : Said
   replied : Reply → Said
 
--- one for each entry passed: the box, the tape number, width and round that it was about, what was said, the words spoken and heard
+-- one for each entry passed: the box, the job and round that it was about, what was said, the words spoken and heard
 pub record Event : Type 0 where
   pub box : Box
-  pub number : ℕ
-  pub width : ℕ
+  pub key : Key
   pub round : ℕ
   pub said : Said
   pub spoken : List ℕ
   pub incoming : List ℕ
 
 pub record World : Type 0 where
-  pub one : Memory
-  pub two : Memory
+  pub memory1 : Memory
+  pub memory2 : Memory
   pub log : List Event
 
 abbrev pub memoryOf : World → Box → Memory
-memoryOf w first = w .one
-memoryOf w second = w .two
+memoryOf w box1 = w .memory1
+memoryOf w box2 = w .memory2
 
 -- one box's memory and the log go on, the other box's memory stays
 abbrev pub after : World → Box → Memory → Event → World
-after w first m e = record { one = m; two = w .two; log = w .log ++ (e ∷ []) }
-after w second m e = record { one = w .one; two = m; log = w .log ++ (e ∷ []) }
+after w box1 m e = record { memory1 = m; memory2 = w .memory2; log = w .log ++ (e ∷ []) }
+after w box2 m e = record { memory1 = w .memory1; memory2 = m; log = w .log ++ (e ∷ []) }
 
 abbrev pub quiet : Event
-quiet = record { box = first; number = 0; width = 0; round = 0; said = nothing; spoken = []; incoming = [] }
+quiet = record { box = box1; key = record { number = 0; width = 0 }; round = 0; said = nothing; spoken = []; incoming = [] }
 
 -- the place k of the log
 abbrev pub eventAt : List Event → ℕ → Event
@@ -90,6 +91,10 @@ spokenWords (share v) out = []
 spokenWords dropped out = []
 spokenWords (refused k) out = []
 
+-- a cut says nothing; where a job was open it is lost
+abbrev pub cutSaid : State → Said
+cutSaid s = cond (inJob (modeOf s)) lost nothing
+
 -- after a start: the tally as it was left
 abbrev pub afterStart : Memory → Result → Memory
 afterStart m r = record { state = r .state; work = m .work; tally = r .buffer }
@@ -105,20 +110,19 @@ stepped g place w b (wake n side pair) =
     let m = memoryOf w b in
     let r = wakeRule (m .state) n side pair (m .tally) in
     after w b (record { state = r .state; work = m .work; tally = m .tally })
-    (record { box = b; number = 0; width = n; round = 0; said = replied (r .reply); spoken = []; incoming = [] })
+    (record { box = b; key = record { number = 0; width = n }; round = 0; said = replied (r .reply); spoken = []; incoming = [] })
 stepped g place w b (start number lent) =
     let m = memoryOf w b in
     let r = startRule (m .state) number (g .shares b place .x) (g .shares b place .y) (tapeWords g lent) (m .work) (m .tally) in
     after w b (afterStart m r)
-    (record { box = b; number = number; width = m .state .n; round = 0; said = replied (r .reply); spoken = []; incoming = [] })
+    (record { box = b; key = keyAt (m .state) number; round = 0; said = replied (r .reply); spoken = []; incoming = [] })
 stepped g place w b (speak number round lent out) =
     let m = memoryOf w b in
     let r = speakRule (m .state) number round (tapeWords g lent) (m .work) out in
     after w b (record { state = r .state; work = m .work; tally = m .tally })
     (record {
       box = b;
-      number = number;
-      width = m .state .n;
+      key = keyAt (m .state) number;
       round = round;
       said = replied (r .reply);
       spoken = spokenWords (r .reply) (r .buffer);
@@ -129,21 +133,21 @@ stepped g place w b (hear number round lent incoming) =
     let words = incomingWords (w .log) incoming in
     let r = hearRule (m .state) number round (tapeWords g lent) (m .work) words in
     after w b (record { state = r .state; work = r .buffer; tally = m .tally })
-    (record { box = b; number = number; width = m .state .n; round = round; said = replied (r .reply); spoken = []; incoming = words })
+    (record { box = b; key = keyAt (m .state) number; round = round; said = replied (r .reply); spoken = []; incoming = words })
 stepped g place w b drop =
     let m = memoryOf w b in
     let r = dropRule (m .state) in
     after w b (record { state = r .state; work = m .work; tally = m .tally })
-    (record { box = b; number = 0; width = m .state .n; round = 0; said = replied (r .reply); spoken = []; incoming = [] })
+    (record { box = b; key = openKey (m .state); round = 0; said = replied (r .reply); spoken = []; incoming = [] })
 stepped g place w b (cut room) =
     let m = memoryOf w b in
     after w b (afterCut g place room m (m .tally))
-    (record { box = b; number = 0; width = m .state .n; round = 0; said = nothing; spoken = []; incoming = [] })
+    (record { box = b; key = openKey (m .state); round = 0; said = cutSaid (m .state); spoken = []; incoming = [] })
 stepped g place w b (cutStart number lent value room) =
     let m = memoryOf w b in
     let k = startGround (m .state) number (g .shares b place .x) (g .shares b place .y) (tapeWords g lent) (m .work) (m .tally) in
     after w b (afterCut g place room m (cond (eqb k 0) (cutMarked (m .tally) number value) (m .tally)))
-    (record { box = b; number = number; width = m .state .n; round = 0; said = nothing; spoken = []; incoming = [] })
+    (record { box = b; key = openKey (m .state); round = 0; said = cutSaid (m .state); spoken = []; incoming = [] })
 
 -- the entries from a place on
 abbrev pub run : Setting → ℕ → World → List Entry → World

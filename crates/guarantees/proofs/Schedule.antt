@@ -1,5 +1,5 @@
--- Two runs over one list come to the same places, whatever valid tapes they use, where both meet the premises, or where the first does and no
--- hear is lent a message of a larger width. The second then meets them too.
+-- The same schedule of jobs: two runs over one list open the same jobs, whatever valid tapes they use, where both meet the premises, or where
+-- the first does and no hear is lent a message of a larger width. The second then meets them too.
 use Prim.Native.Nat.{ℕ, suc}
 use mathlib.Core.Path.{_≡_, refl, sym, ap, _∙_}
 use mathlib.Core.Bool.{Bool, true, false, not, _||_, cond, true≢false}
@@ -16,21 +16,22 @@ use Rattle.rules.specs.Grounds.{Ground, _when_, firstOf, wordsFit, hearGround}
 use Rattle.rules.specs.declared.state.Turn.the-variants.{Hear}
 use Rattle.rules.specs.declared.state.State.{State}
 use Rattle.guarantees.specs.Boxes.{Box}
+use Rattle.guarantees.specs.Keys.{Key, keyAt}
 use Rattle.guarantees.specs.Entries.{Incoming, spokenAt, other, Step, wake, start, speak, hear, drop, cut, cutStart, Entry}
 use Rattle.guarantees.specs.Run.{Setting, Memory, Event, World, memoryOf, eventAt, tapeWords, incomingWords, stepped, run}
 use Rattle.guarantees.specs.View.{covered}
-use Rattle.guarantees.specs.Premises.{True, Keeps, Meets, Compatible, AllCompatible}
+use Rattle.guarantees.specs.Premises.{TrueMessage, Keeps, Meets, Compatible, AllCompatible}
 use Rattle.guarantees.specs.AnyTapes.{NotWider, Narrow, AllNarrow}
-use Rattle.guarantees.proofs.Twins.{Twin, Skeleton}
+use Rattle.guarantees.proofs.LowEquivalence.{LowState, LowEquivalent}
 use Rattle.rules.proofs.Chains.{Numbered, first-none, both-none}
 use Rattle.rules.proofs.Passed.{hear-passed}
-use Rattle.guarantees.proofs.Turns.{asleep-same, job-same, due-same}
+use Rattle.guarantees.proofs.LowModes.{asleep-same, job-same, due-same}
 use Rattle.guarantees.proofs.Refusals.{OrderAlike, speak-same, hear-same}
-use Rattle.guarantees.proofs.Skeletons.{Fit, memories, next}
-use Rattle.guarantees.proofs.Covers.{spokeCount, spoke-said, uncover-spoke}
+use Rattle.guarantees.proofs.StepConsistency.{SameGround, step-consistent}
+use Rattle.guarantees.proofs.Outcomes.{message-of, uncover-message}
 use Rattle.guarantees.proofs.Fitting.{Fitting, fitting-next}
 use Rattle.guarantees.proofs.Jobs.{InOrder}
-use Rattle.guarantees.proofs.Fits.{order-same, start-fit, compatible-back, true-too, true-back, keeps-too}
+use Rattle.guarantees.proofs.SameGrounds.{order-same, start-ground, compatible-back, key-same, true-too, true-back, keeps-too}
 
 -- ---- refused alike before the last ground
 
@@ -44,7 +45,7 @@ last-free (g ∷ gs) number t some = skip (g .holds) (g .number) _ _ (last-free 
     skip true k u v rest nonzero = refl
     skip false k u v rest nonzero = rest nonzero
 
-module _ {s s′ : State} (number round : ℕ) (tape tape′ work work′ incoming incoming′ : List ℕ) (t : Twin s s′)
+module _ {s s′ : State} (number round : ℕ) (tape tape′ work work′ incoming incoming′ : List ℕ) (t : LowState s s′)
     (room : length work ≡ length work′) (order : OrderAlike s number tape tape′) (long : length incoming ≡ length incoming′) where
   abbrev early : List Ground
   early =
@@ -104,19 +105,19 @@ module _ {s s′ : State} (number round : ℕ) (tape tape′ work work′ incomi
 -- ---- two runs
 
 module _ (g g′ : Setting) (pair : ℕ) (orders : InOrder g pair) (orders′ : InOrder g′ pair) where
-  pub record Steady (w w′ : World) : Type 0 where
-    pub skeleton : Skeleton w w′
+  pub record Comparable (w w′ : World) : Type 0 where
+    pub low : LowEquivalent w w′
     pub fits : Fitting (w .log)
     pub fits′ : Fitting (w′ .log)
 
   -- a true message fits
-  true-fits : (log : List Event) → Fitting log → (c : Box) (number n round : ℕ) (incoming : Incoming) → True log c number n round incoming
-      → wordsFit n (incomingWords log incoming) ≡ true
-  true-fits log fits c number n round incoming t =
-      rw (t .named) (fits (t .place) n (λ told. le-of-eq (t .wide)))
+  true-fits : (log : List Event) → Fitting log → (c : Box) (key : Key) (round : ℕ) (incoming : Incoming) → TrueMessage log c key round incoming
+      → wordsFit (key .width) (incomingWords log incoming) ≡ true
+  true-fits log fits c key round incoming t =
+      rw (t .named) (fits (t .place) (key .width) (λ told. le-of-eq (ap (λ (k : Key). k .width) (t .under))))
 
   -- both runs heard as many words
-  long-same : (w w′ : World) → Skeleton w w′ → (incoming : Incoming)
+  long-same : (w w′ : World) → LowEquivalent w w′ → (incoming : Incoming)
       → length (incomingWords (w .log) incoming) ≡ length (incomingWords (w′ .log) incoming)
   long-same w w′ k (spokenAt place) = k .events place .long
   long-same w w′ k (other words) = refl
@@ -133,56 +134,56 @@ module _ (g g′ : Setting) (pair : ℕ) (orders : InOrder g pair) (orders′ : 
   Below w w′ c (cut room) = Unit {0}
   Below w w′ c (cutStart number lent value room) = Unit {0}
 
-  fit : (place : ℕ) (w w′ : World) (c : Box) (step : Step) → Steady w w′ → Compatible (g′ .shares) g place w c step
-      → Keeps g w c step → Below w w′ c step → Fit g g′ place w w′ c step
-  fit place w w′ c (wake n side p) j h keeps below = tt
-  fit place w w′ c (start number lent) j h keeps below = start-fit g g′ pair orders orders′ w w′ (j .skeleton) place c number lent (h .0) (h .1)
-  fit place w w′ c (speak number round lent out) j h keeps below =
+  same-ground : (place : ℕ) (w w′ : World) (c : Box) (step : Step) → Comparable w w′ → Compatible (g′ .shares) g place w c step
+      → Keeps g w c step → Below w w′ c step → SameGround g g′ place w w′ c step
+  same-ground place w w′ c (wake n side p) j h keeps below = tt
+  same-ground place w w′ c (start number lent) j h keeps below = start-ground g g′ pair orders orders′ w w′ (j .low) place c number lent (h .0) (h .1)
+  same-ground place w w′ c (speak number round lent out) j h keeps below =
       let s = memoryOf w c .state in
-      let t = memories c (j .skeleton) in
+      let t = j .low .memories c in
       speak-same number round _ _ _ _ out (t .state) (t .room) (order-same g g′ pair orders orders′ (s .n) (s .pair) (s .side) number lent)
-  fit place w w′ c (hear number round lent incoming) j h keeps below =
+  same-ground place w w′ c (hear number round lent incoming) j h keeps below =
       let s = memoryOf w c .state in
-      let t = memories c (j .skeleton) in
+      let t = j .low .memories c in
       hear-alike number round _ _ _ _ _ _ (t .state) (t .room) (order-same g g′ pair orders orders′ (s .n) (s .pair) (s .side) number lent)
-      (long-same w w′ (j .skeleton) incoming)
-      (λ taken. true-fits (w′ .log) (j .fits′) c number (s .n) round incoming (true-too w w′ (j .skeleton) c number _ _ round incoming refl (keeps taken .1)))
+      (long-same w w′ (j .low) incoming)
+      (λ taken. true-fits (w′ .log) (j .fits′) c (keyAt s number) round incoming (true-too w w′ (j .low) c _ _ round incoming refl (keeps taken .1)))
       below
-  fit place w w′ c drop j h keeps below = tt
-  fit place w w′ c (cut room) j h keeps below = tt
-  fit place w w′ c (cutStart number lent value room) j h keeps below =
-      start-fit g g′ pair orders orders′ w w′ (j .skeleton) place c number lent (h .0) (h .1)
+  same-ground place w w′ c drop j h keeps below = tt
+  same-ground place w w′ c (cut room) j h keeps below = tt
+  same-ground place w w′ c (cutStart number lent value room) j h keeps below =
+      start-ground g g′ pair orders orders′ w w′ (j .low) place c number lent (h .0) (h .1)
 
-  steady-next : (place : ℕ) (w w′ : World) (c : Box) (step : Step) → Steady w w′ → Fit g g′ place w w′ c step
-      → Steady (stepped g place w c step) (stepped g′ place w′ c step)
-  steady-next place w w′ c step j f =
+  comparable-next : (place : ℕ) (w w′ : World) (c : Box) (step : Step) → Comparable w w′ → SameGround g g′ place w w′ c step
+      → Comparable (stepped g place w c step) (stepped g′ place w′ c step)
+  comparable-next place w w′ c step j f =
       record {
-        skeleton = next g g′ place w w′ c step (j .skeleton) f;
+        low = step-consistent g g′ place w w′ c step (j .low) f;
         fits = fitting-next g place w c step (j .fits);
         fits′ = fitting-next g′ place w′ c step (j .fits′);
       }
 
   -- ---- both runs meet the premises
 
-  true-below : (place : ℕ) (w w′ : World) (c : Box) (step : Step) → Steady w w′ → Keeps g′ w′ c step → Below w w′ c step
+  true-below : (place : ℕ) (w w′ : World) (c : Box) (step : Step) → Comparable w w′ → Keeps g′ w′ c step → Below w w′ c step
   true-below place w w′ c (wake n side p) j keeps = tt
   true-below place w w′ c (start number lent) j keeps = tt
   true-below place w w′ c (speak number round lent out) j keeps = tt
   true-below place w w′ c (hear number round lent incoming) j keeps =
       λ taken.
-      true-fits (w .log) (j .fits) c number (memoryOf w c .state .n) round incoming
-      (true-back w w′ (j .skeleton) c number _ _ round incoming (memories c (j .skeleton) .state .n) (keeps taken .1))
+      true-fits (w .log) (j .fits) c (keyAt (memoryOf w c .state) number) round incoming
+      (true-back w w′ (j .low) c _ _ round incoming (key-same (j .low) c number) (keeps taken .1))
   true-below place w w′ c drop j keeps = tt
   true-below place w w′ c (cut room) j keeps = tt
   true-below place w w′ c (cutStart number lent value room) j keeps = tt
 
-  pub steady : (es : List Entry) (place : ℕ) (w w′ : World) → Steady w w′ → AllCompatible (g′ .shares) g place w es
-      → Meets g place w es → Meets g′ place w′ es → Skeleton (run g place w es) (run g′ place w′ es)
-  steady [] place w w′ j compatible meets meets′ = j .skeleton
-  steady (e ∷ es) place w w′ j compatible meets meets′ =
-      steady es (suc place) _ _
-      (steady-next place w w′ (e .box) (e .step) j
-      (fit place w w′ (e .box) (e .step) j (compatible .0) (meets .0) (true-below place w w′ (e .box) (e .step) j (meets′ .0))))
+  pub same-schedule : (es : List Entry) (place : ℕ) (w w′ : World) → Comparable w w′ → AllCompatible (g′ .shares) g place w es
+      → Meets g place w es → Meets g′ place w′ es → LowEquivalent (run g place w es) (run g′ place w′ es)
+  same-schedule [] place w w′ j compatible meets meets′ = j .low
+  same-schedule (e ∷ es) place w w′ j compatible meets meets′ =
+      same-schedule es (suc place) _ _
+      (comparable-next place w w′ (e .box) (e .step) j
+      (same-ground place w w′ (e .box) (e .step) j (compatible .0) (meets .0) (true-below place w w′ (e .box) (e .step) j (meets′ .0))))
       (compatible .1) (meets .1) (meets′ .1)
 
   -- ---- the first does, and no message is of a larger width
@@ -190,10 +191,13 @@ module _ (g g′ : Setting) (pair : ℕ) (orders : InOrder g pair) (orders′ : 
   -- spoken under no larger width, a message fits
   narrow-fits : (log : List Event) → Fitting log → (n place : ℕ) → NotWider log n (spokenAt place) → wordsFit n (eventAt log place .spoken) ≡ true
   narrow-fits log fits n place least =
-      fits place n (λ told. least (spokeCount (eventAt log place .said)) (spoke-said (eventAt log place .said) told))
+      fits place n
+      (λ told.
+      let m = message-of (eventAt log place .said) told in
+      least (m .count) (m .is))
 
   -- so a hear is refused with 13 for other words only, which are the same in both runs
-  narrow-below : (w w′ : World) (c : Box) (step : Step) → Steady w w′ → Narrow g w c step → Below w w′ c step
+  narrow-below : (w w′ : World) (c : Box) (step : Step) → Comparable w w′ → Narrow g w c step → Below w w′ c step
   narrow-below w w′ c (wake n side p) j narrow = tt
   narrow-below w w′ c (start number lent) j narrow = tt
   narrow-below w w′ c (speak number round lent out) j narrow = tt
@@ -210,19 +214,19 @@ module _ (g g′ : Setting) (pair : ℕ) (orders : InOrder g pair) (orders′ : 
           → wordsFit (m .state .n) words ≡ true
       go true fits taken = fits
       go false unfit taken =
-          let t = memories c (j .skeleton) in
+          let t = j .low .memories c in
           narrow-fits (w .log) (j .fits) (m .state .n) place
           (narrow
           (hear-thirteen number round _ _ _ _ words _ (t .state) (t .room)
           (order-same g g′ pair orders orders′ (m .state .n) (m .state .pair) (m .state .side) number lent)
-          (j .skeleton .events place .long) taken unfit))
+          (j .low .events place .long) taken unfit))
   narrow-below w w′ c (hear number round lent (other words)) j narrow =
-      λ taken. rw (memories c (j .skeleton) .state .n) (hear-passed (memoryOf w′ c .state) number round _ _ words taken .words)
+      λ taken. rw (j .low .memories c .state .n) (hear-passed (memoryOf w′ c .state) number round _ _ words taken .words)
   narrow-below w w′ c drop j narrow = tt
   narrow-below w w′ c (cut room) j narrow = tt
   narrow-below w w′ c (cutStart number lent value room) j narrow = tt
 
-  narrow-too : (place : ℕ) (w w′ : World) (c : Box) (step : Step) → Skeleton w w′ → Fit g g′ place w w′ c step → Narrow g w c step
+  narrow-too : (place : ℕ) (w w′ : World) (c : Box) (step : Step) → LowEquivalent w w′ → SameGround g g′ place w w′ c step → Narrow g w c step
       → Narrow g′ w′ c step
   narrow-too place w w′ c (wake n side p) k f narrow = tt
   narrow-too place w w′ c (start number lent) k f narrow = tt
@@ -230,7 +234,7 @@ module _ (g g′ : Setting) (pair : ℕ) (orders : InOrder g pair) (orders′ : 
   narrow-too place w w′ c (hear number round lent (spokenAt from)) k f narrow =
       λ ground count said.
       let se = k .events from in
-      rw (← se .width, ← memories c k .state .n) (narrow (f ∙ ground) count (uncover-spoke _ count (se .said ∙ ap covered said)))
+      rw (← se .key, ← k .memories c .state .n) (narrow (f ∙ ground) count (uncover-message _ count (se .said ∙ ap covered said)))
   narrow-too place w w′ c (hear number round lent (other words)) k f narrow = λ ground. tt
   narrow-too place w w′ c drop k f narrow = tt
   narrow-too place w w′ c (cut room) k f narrow = tt
@@ -242,14 +246,14 @@ module _ (g g′ : Setting) (pair : ℕ) (orders : InOrder g pair) (orders′ : 
     pub compatible : AllCompatible (g .shares) g′ place w′ es
     pub narrow : AllNarrow g′ place w′ es
 
-  pub lasts : (es : List Entry) (place : ℕ) (w w′ : World) → Steady w w′ → AllCompatible (g′ .shares) g place w es
+  pub lasts : (es : List Entry) (place : ℕ) (w w′ : World) → Comparable w w′ → AllCompatible (g′ .shares) g place w es
       → Meets g place w es → AllNarrow g place w es → Lasts es place w′
   lasts [] place w w′ j compatible meets narrow = record { meets = tt; compatible = tt; narrow = tt }
   lasts (e ∷ es) place w w′ j compatible meets narrow =
-      let f = fit place w w′ (e .box) (e .step) j (compatible .0) (meets .0) (narrow-below w w′ (e .box) (e .step) j (narrow .0)) in
-      let rest = lasts es (suc place) _ _ (steady-next place w w′ (e .box) (e .step) j f) (compatible .1) (meets .1) (narrow .1) in
+      let f = same-ground place w w′ (e .box) (e .step) j (compatible .0) (meets .0) (narrow-below w w′ (e .box) (e .step) j (narrow .0)) in
+      let rest = lasts es (suc place) _ _ (comparable-next place w w′ (e .box) (e .step) j f) (compatible .1) (meets .1) (narrow .1) in
       record {
-        meets = (keeps-too g g′ place w w′ (j .skeleton) (e .box) (e .step) f (meets .0), rest .meets);
-        compatible = (compatible-back g g′ place w w′ (e .box) (e .step) (j .skeleton) (compatible .0), rest .compatible);
-        narrow = (narrow-too place w w′ (e .box) (e .step) (j .skeleton) f (narrow .0), rest .narrow);
+        meets = (keeps-too g g′ place w w′ (j .low) (e .box) (e .step) f (meets .0), rest .meets);
+        compatible = (compatible-back g g′ place w w′ (e .box) (e .step) (j .low) (compatible .0), rest .compatible);
+        narrow = (narrow-too place w w′ (e .box) (e .step) (j .low) f (narrow .0), rest .narrow);
       }

@@ -15,13 +15,16 @@ use Rattle.rules.specs.declared.state.State.{State}
 use Rattle.protocol.specs.Rounds.{answerShare}
 use Rattle.rules.specs.Calls.{Result, partyOf, wakeRule, startRule, speakRule, hearRule, dropRule}
 use Rattle.rules.proofs.Marks.{marked-spent, marked-other, cut-other}
-use Rattle.guarantees.specs.Boxes.{Box, first, second}
+use Rattle.guarantees.specs.Boxes.{Box, box1, box2}
+use Rattle.guarantees.specs.Keys.{Key, keyAt}
 use Rattle.guarantees.specs.Entries.{Lent, Step, wake, start, speak, hear, drop, cut, cutStart, Entry}
 use Rattle.guarantees.specs.Run.{Setting, Memory, replied, Event, World, memoryOf, after, afterStart, eventAt, tapeWords, incomingWords, stepped, run}
-use Rattle.guarantees.specs.Maps.{sameBox, isStarted, opens, openedAt}
+use Rattle.guarantees.specs.Maps.{sameBox, opens, opensJob, openedAt}
+use Rattle.guarantees.specs.Outcomes.{kindOf, isOpening}
 use Rattle.rules.proofs.Chains.{decide}
 use Rattle.rules.proofs.Passed.{start-passed}
-use Rattle.guarantees.proofs.Logs.{log-length, event-before, event-end}
+use Rattle.guarantees.proofs.Outcomes.{cut-plain}
+use Rattle.guarantees.proofs.Logs.{after-log, log-length, event-before, event-end}
 
 -- no event of the log opened a job of this box under a number that is fresh
 abbrev pub Unopened : List Event → Box → ℕ → Type 0
@@ -38,87 +41,83 @@ unopened-more (d ∷ log) e b number u h = (u .0, unopened-more log e b number (
 
 -- ---- where a job was opened
 
-at-end : (log : List Event) (e : Event) (more : List Event) (b : Box) (number n : ℕ) → Unopened log b number
-    → opens b number e && eqb n (e .width) ≡ true → openedAt (log ++ (e ∷ more)) b number n ≡ length log
-at-end [] e more b number n u h = rw h
-at-end (d ∷ log) e more b number n u h =
-    rw (u .0) (ap suc (at-end log e more b number n (u .1) h))
+at-end : (log : List Event) (e : Event) (more : List Event) (b : Box) (key : Key) → Unopened log b (key .number)
+    → opensJob b key e ≡ true → openedAt (log ++ (e ∷ more)) b key ≡ length log
+at-end [] e more b key u h = rw h
+at-end (d ∷ log) e more b key u h = rw (u .0) (ap suc (at-end log e more b key (u .1) h))
 
 -- the log only grows
 pub record Grown (log log′ : List Event) : Type 0 where
   pub more : List Event
   pub is : log′ ≡ log ++ more
 
-after-log : (w : World) (b : Box) (m : Memory) (e : Event) → after w b m e .log ≡ w .log ++ (e ∷ [])
-after-log w first m e = refl
-after-log w second m e = refl
-
 -- ---- the marks over one entry
 
 -- an event of the other box opens nothing here
 elsewhere : (b c : Box) (number : ℕ) (e : Event) → sameBox b c ≡ false → e .box ≡ c → opens b number e ≡ false
-elsewhere b c number e differ at = ap (λ (d : Box). sameBox b d && eqb number (e .number) && isStarted (e .said)) at ∙ rw differ
+elsewhere b c number e differ at = ap (λ (d : Box). sameBox b d && eqb number (e .key .number) && isOpening (kindOf (e .said))) at ∙ rw differ
 
 -- an entry at box c that leaves a tally there, with an event of that box
 marked-after : (w : World) (c : Box) (m : Memory) (e : Event) → Marked w → e .box ≡ c
     → ((number : ℕ) → isFresh (m .tally) number ≡ true → (isFresh (memoryOf w c .tally) number ≡ true) × (opens c number e ≡ false))
     → Marked (after w c m e)
-marked-after w first m e h at keeps = record { unopened = go }
+marked-after w box1 m e h at keeps = record { unopened = go }
   where
-    go : (b : Box) (number : ℕ) → isFresh (memoryOf (after w first m e) b .tally) number ≡ true → Unopened (w .log ++ (e ∷ [])) b number
-    go first number f = unopened-more (w .log) e first number (h .unopened first number (keeps number f .0)) (keeps number f .1)
-    go second number f = unopened-more (w .log) e second number (h .unopened second number f) (elsewhere second first number e refl at)
-marked-after w second m e h at keeps = record { unopened = go }
+    go : (b : Box) (number : ℕ) → isFresh (memoryOf (after w box1 m e) b .tally) number ≡ true → Unopened (w .log ++ (e ∷ [])) b number
+    go box1 number f = unopened-more (w .log) e box1 number (h .unopened box1 number (keeps number f .0)) (keeps number f .1)
+    go box2 number f = unopened-more (w .log) e box2 number (h .unopened box2 number f) (elsewhere box2 box1 number e refl at)
+marked-after w box2 m e h at keeps = record { unopened = go }
   where
-    go : (b : Box) (number : ℕ) → isFresh (memoryOf (after w second m e) b .tally) number ≡ true → Unopened (w .log ++ (e ∷ [])) b number
-    go first number f = unopened-more (w .log) e first number (h .unopened first number f) (elsewhere first second number e refl at)
-    go second number f = unopened-more (w .log) e second number (h .unopened second number (keeps number f .0)) (keeps number f .1)
+    go : (b : Box) (number : ℕ) → isFresh (memoryOf (after w box2 m e) b .tally) number ≡ true → Unopened (w .log ++ (e ∷ [])) b number
+    go box1 number f = unopened-more (w .log) e box1 number (h .unopened box1 number f) (elsewhere box1 box2 number e refl at)
+    go box2 number f = unopened-more (w .log) e box2 number (h .unopened box2 number (keeps number f .0)) (keeps number f .1)
 
 -- an event that is no opening
-not-opening : (b : Box) (number : ℕ) (e : Event) → isStarted (e .said) ≡ false → opens b number e ≡ false
-not-opening b number e h = and-false (sameBox b (e .box) && eqb number (e .number)) h
+not-opening : (b : Box) (number : ℕ) (e : Event) → isOpening (kindOf (e .said)) ≡ false → opens b number e ≡ false
+not-opening b number e h = and-false (sameBox b (e .box) && eqb number (e .key .number)) h
 
 -- which calls open a job
-wake-opens : (s : State) (n side p : ℕ) (tally : List ℕ) → isStarted (replied (wakeRule s n side p tally .reply)) ≡ false
+wake-opens : (s : State) (n side p : ℕ) (tally : List ℕ) → isOpening (kindOf (replied (wakeRule s n side p tally .reply))) ≡ false
 unfolding wakeRule
-wake-opens s n side p tally = decide (λ r. isStarted (replied (r .reply)) ≡ false) (wakeGround s n side tally) s tally _ (λ z. refl) refl
+wake-opens s n side p tally = decide (λ r. isOpening (kindOf (replied (r .reply))) ≡ false) (wakeGround s n side tally) s tally _ (λ z. refl) refl
 
-speak-opens : (s : State) (number round : ℕ) (tape work out : List ℕ) → isStarted (replied (speakRule s number round tape work out .reply)) ≡ false
+speak-opens : (s : State) (number round : ℕ) (tape work out : List ℕ) → isOpening (kindOf (replied (speakRule s number round tape work out .reply))) ≡ false
 unfolding speakRule
 speak-opens s number round tape work out =
-    decide (λ r. isStarted (replied (r .reply)) ≡ false) (speakGround s number round tape work out) s out _ (λ z. refl) refl
+    decide (λ r. isOpening (kindOf (replied (r .reply))) ≡ false) (speakGround s number round tape work out) s out _ (λ z. refl) refl
 
-hear-opens : (s : State) (number round : ℕ) (tape work words : List ℕ) → isStarted (replied (hearRule s number round tape work words .reply)) ≡ false
+hear-opens : (s : State) (number round : ℕ) (tape work words : List ℕ) → isOpening (kindOf (replied (hearRule s number round tape work words .reply))) ≡ false
 unfolding hearRule
 hear-opens s number round tape work words =
-    decide (λ r. isStarted (replied (r .reply)) ≡ false) (hearGround s number round tape work words) s work _
+    decide (λ r. isOpening (kindOf (replied (r .reply))) ≡ false) (hearGround s number round tape work words) s work _
     (λ z. last (eqb round 6) (answerShare (partyOf s tape) work words) _ _ _) refl
   where
     last : (t : Bool) (v : ℕ) (s1 s2 : State) (buffer : List ℕ)
-        → isStarted
+        → isOpening
+        (kindOf
         (replied
-        (cond {A = Result} t (record { reply = share v; state = s1; buffer = buffer }) (record { reply = heard; state = s2; buffer = buffer }) .reply))
+        (cond {A = Result} t (record { reply = share v; state = s1; buffer = buffer }) (record { reply = heard; state = s2; buffer = buffer }) .reply)))
         ≡ false
     last true v s1 s2 buffer = refl
     last false v s1 s2 buffer = refl
 
-drop-opens : (s : State) → isStarted (replied (dropRule s .reply)) ≡ false
+drop-opens : (s : State) → isOpening (kindOf (replied (dropRule s .reply))) ≡ false
 unfolding dropRule
-drop-opens s = decide (λ r. isStarted (replied (r .reply)) ≡ false) (dropGround s) s [] _ (λ z. refl) refl
+drop-opens s = decide (λ r. isOpening (kindOf (replied (r .reply))) ≡ false) (dropGround s) s [] _ (λ z. refl) refl
 
 -- a start marks the number that it opens
 start-marks : (m : Memory) (number x y : ℕ) (tape : List ℕ) (b : Box) (k : ℕ)
     → let r = startRule (m .state) number x y tape (m .work) (m .tally) in
     isFresh (afterStart m r .tally) k ≡ true
     → (isFresh (m .tally) k ≡ true)
-    × (opens b k (record { box = b; number = number; width = m .state .n; round = 0; said = replied (r .reply); spoken = []; incoming = [] }) ≡ false)
+    × (opens b k (record { box = b; key = keyAt (m .state) number; round = 0; said = replied (r .reply); spoken = []; incoming = [] }) ≡ false)
 unfolding startRule
 start-marks m number x y tape b k =
     decide
     (λ r.
     isFresh (afterStart m r .tally) k ≡ true
     → (isFresh (m .tally) k ≡ true)
-    × (opens b k (record { box = b; number = number; width = m .state .n; round = 0; said = replied (r .reply); spoken = []; incoming = [] }) ≡ false))
+    × (opens b k (record { box = b; key = keyAt (m .state) number; round = 0; said = replied (r .reply); spoken = []; incoming = [] }) ≡ false))
     (startGround (m .state) number x y tape (m .work) (m .tally)) (m .state) (m .tally) _
     (λ zero-ground f. opened (start-passed (m .state) number x y tape (m .work) (m .tally) zero-ground .numbered) (eqb k number) refl f)
     (λ f. (
@@ -126,8 +125,7 @@ start-marks m number x y tape b k =
       not-opening b k
           (record {
             box = b;
-            number = number;
-            width = m .state .n;
+            key = keyAt (m .state) number;
             round = 0;
             said = replied (refused (startGround (m .state) number x y tape (m .work) (m .tally)));
             spoken = [];
@@ -138,7 +136,7 @@ start-marks m number x y tape b k =
   where
     opened : number < tapesOf (length (m .tally)) → (t : Bool) → eqb k number ≡ t → isFresh (marked (m .tally) number) k ≡ true
         → (isFresh (m .tally) k ≡ true)
-        × (opens b k (record { box = b; number = number; width = m .state .n; round = 0; said = replied started; spoken = []; incoming = [] }) ≡ false)
+        × (opens b k (record { box = b; key = keyAt (m .state) number; round = 0; said = replied started; spoken = []; incoming = [] }) ≡ false)
     opened less true q f =
         absurd (true≢false (sym f ∙ ap (isFresh (marked (m .tally) number)) (eqb-true k number q) ∙ marked-spent (m .tally) number less))
     opened less false q f =
@@ -149,7 +147,7 @@ start-marks m number x y tape b k =
         dull false = refl
 
 -- an entry that opens nothing and frees nothing
-dull-after : (w : World) (c : Box) (m : Memory) (e : Event) → Marked w → e .box ≡ c → isStarted (e .said) ≡ false
+dull-after : (w : World) (c : Box) (m : Memory) (e : Event) → Marked w → e .box ≡ c → isOpening (kindOf (e .said)) ≡ false
     → ((number : ℕ) → isFresh (m .tally) number ≡ true → isFresh (memoryOf w c .tally) number ≡ true) → Marked (after w c m e)
 dull-after w c m e h at dull keeps = marked-after w c m e h at (λ number f. (keeps number f, not-opening c number e dull))
 
@@ -184,10 +182,10 @@ marked-next g place w b (hear number round lent incoming) h =
     let m = memoryOf w b in
     dull-after w b _ _ h refl (hear-opens (m .state) number round (tapeWords g lent) (m .work) (incomingWords (w .log) incoming)) (λ k f. f)
 marked-next g place w b drop h = dull-after w b _ _ h refl (drop-opens (memoryOf w b .state)) (λ k f. f)
-marked-next g place w b (cut room) h = dull-after w b _ _ h refl refl (λ k f. f)
+marked-next g place w b (cut room) h = dull-after w b _ _ h refl (ap isOpening (cut-plain (memoryOf w b .state))) (λ k f. f)
 marked-next g place w b (cutStart number lent value room) h =
     let m = memoryOf w b in
-    dull-after w b _ _ h refl refl
+    dull-after w b _ _ h refl (ap isOpening (cut-plain (m .state)))
     (cut-keeps (m .state) number (g .shares b place .x) (g .shares b place .y) (tapeWords g lent) (m .work) (m .tally) value)
 
 -- ---- the log over a run
@@ -198,7 +196,7 @@ pub record OneMore (w : World) (log′ : List Event) : Type 0 where
   pub is : log′ ≡ w .log ++ (event ∷ [])
   pub fresh : (c : Box) (number : ℕ) → opens c number event ≡ true → isFresh (memoryOf w c .tally) number ≡ true
 
-dull-more : (w : World) (b : Box) (m : Memory) (e : Event) → isStarted (e .said) ≡ false → OneMore w (after w b m e .log)
+dull-more : (w : World) (b : Box) (m : Memory) (e : Event) → isOpening (kindOf (e .said)) ≡ false → OneMore w (after w b m e .log)
 dull-more w b m e dull =
     record {
       event = e;
@@ -207,16 +205,16 @@ dull-more w b m e dull =
     }
 
 pub same-box : (b c : Box) → sameBox b c ≡ true → b ≡ c
-same-box first first e = refl
-same-box first second e = absurd (false≢true e)
-same-box second first e = absurd (false≢true e)
-same-box second second e = refl
+same-box box1 box1 e = refl
+same-box box1 box2 e = absurd (false≢true e)
+same-box box2 box1 e = absurd (false≢true e)
+same-box box2 box2 e = refl
 
 start-fresh : (s : State) (number x y : ℕ) (tape work tally : List ℕ)
-    → isStarted (replied (startRule s number x y tape work tally .reply)) ≡ true → isFresh tally number ≡ true
+    → isOpening (kindOf (replied (startRule s number x y tape work tally .reply))) ≡ true → isFresh tally number ≡ true
 unfolding startRule
 start-fresh s number x y tape work tally =
-    decide (λ r. isStarted (replied (r .reply)) ≡ true → isFresh tally number ≡ true) (startGround s number x y tape work tally) s tally _
+    decide (λ r. isOpening (kindOf (replied (r .reply))) ≡ true → isFresh tally number ≡ true) (startGround s number x y tape work tally) s tally _
     (λ zero-ground h. start-passed s number x y tape work tally zero-ground .fresh) (λ h. absurd (false≢true h))
 
 -- an opening is of its own box and number
@@ -245,8 +243,8 @@ one-more g place w b (speak number round lent out) =
 one-more g place w b (hear number round lent incoming) =
     dull-more w b _ _ (hear-opens (memoryOf w b .state) number round (tapeWords g lent) (memoryOf w b .work) (incomingWords (w .log) incoming))
 one-more g place w b drop = dull-more w b _ _ (drop-opens (memoryOf w b .state))
-one-more g place w b (cut room) = dull-more w b _ _ refl
-one-more g place w b (cutStart number lent value room) = dull-more w b _ _ refl
+one-more g place w b (cut room) = dull-more w b _ _ (ap isOpening (cut-plain (memoryOf w b .state)))
+one-more g place w b (cutStart number lent value room) = dull-more w b _ _ (ap isOpening (cut-plain (memoryOf w b .state)))
 
 pub next-place : (g : Setting) (place : ℕ) (w : World) (b : Box) (step : Step) → length (stepped g place w b step .log) ≡ suc (length (w .log))
 next-place g place w b step =
@@ -264,8 +262,8 @@ run-grows g place w (e ∷ es) =
     }
 
 pub same-self : (b : Box) → sameBox b b ≡ true
-same-self first = refl
-same-self second = refl
+same-self box1 = refl
+same-self box2 = refl
 
 started-said : (s : State) (number x y : ℕ) (tape work tally : List ℕ) → startGround s number x y tape work tally ≡ 0
     → startRule s number x y tape work tally .reply ≡ started
@@ -276,14 +274,14 @@ started-said s number x y tape work tally ground = rw ground refl
 pub found : (g : Setting) (place : ℕ) (w : World) (b : Box) (number : ℕ) (lent : Lent) (es : List Entry) → Marked w
     → startGround (memoryOf w b .state) number (g .shares b place .x) (g .shares b place .y) (tapeWords g lent) (memoryOf w b .work) (memoryOf w b .tally)
     ≡ 0
-    → openedAt (run g (suc place) (stepped g place w b (start number lent)) es .log) b number (memoryOf w b .state .n) ≡ length (w .log)
+    → openedAt (run g (suc place) (stepped g place w b (start number lent)) es .log) b (keyAt (memoryOf w b .state) number) ≡ length (w .log)
 unfolding stepped
 found g place w b number lent es h ground =
     let m = memoryOf w b in
     let rest = run-grows g (suc place) (stepped g place w b (start number lent)) es in
-    ap (λ (l : List Event). openedAt l b number (m .state .n))
+    ap (λ (l : List Event). openedAt l b (keyAt (m .state) number))
     (rest .is ∙ ap (λ (l : List Event). l ++ rest .more) (after-log w b _ _) ∙ append-assoc (w .log) _ (rest .more))
-    ∙ at-end (w .log) _ (rest .more) b number (m .state .n)
+    ∙ at-end (w .log) _ (rest .more) b (keyAt (m .state) number)
     (h .unopened b number (start-passed (m .state) number _ _ _ _ _ ground .fresh))
     (rw (
       started-said (m .state) number (g .shares b place .x) (g .shares b place .y) (tapeWords g lent) (m .work) (m .tally) ground,
@@ -298,22 +296,21 @@ found g place w b number lent es h ground =
 -- each opening stands where the job's place is found
 abbrev pub Once : List Event → Type 0
 Once log =
-    (c : Box) (number n k : ℕ) → k < length log → opens c number (eventAt log k) && eqb n (eventAt log k .width) ≡ true
-    → openedAt log c number n ≡ k
+    (c : Box) (key : Key) (k : ℕ) → k < length log → opensJob c key (eventAt log k) ≡ true → openedAt log c key ≡ k
 
 kept-by : (t : Bool) (here there : ℕ) (length : ℕ) → (there < length → here ≡ there)
     → cond t 0 (suc there) < suc length → cond t 0 (suc here) ≡ cond t 0 (suc there)
 kept-by true here there length rest less = refl
 kept-by false here there length rest less = ap suc (rest (omega (arith, less)))
 
-opened-kept : (log more : List Event) (c : Box) (number n : ℕ) → openedAt log c number n < length log
-    → openedAt (log ++ more) c number n ≡ openedAt log c number n
-opened-kept [] more c number n less = absurd (omega (arith, less))
-opened-kept (e ∷ log) more c number n less =
-    kept-by (opens c number e && eqb n (e .width)) _ _ (length log) (opened-kept log more c number n) less
+opened-kept : (log more : List Event) (c : Box) (key : Key) → openedAt log c key < length log
+    → openedAt (log ++ more) c key ≡ openedAt log c key
+opened-kept [] more c key less = absurd (omega (arith, less))
+opened-kept (e ∷ log) more c key less =
+    kept-by (opensJob c key e) _ _ (length log) (opened-kept log more c key) less
 
 pub once-next : (w : World) (log′ : List Event) → Marked w → OneMore w log′ → Once (w .log) → Once log′
-once-next w log′ marked one once c number n k less opening = go (ltb k (length (w .log))) refl
+once-next w log′ marked one once c key k less opening = go (ltb k (length (w .log))) refl
   where
     e : Event
     e = one .event
@@ -321,25 +318,25 @@ once-next w log′ marked one once c number n k less opening = go (ltb k (length
     grown : List Event
     grown = w .log ++ (e ∷ [])
 
-    there : opens c number (eventAt grown k) && eqb n (eventAt grown k .width) ≡ true
-    there = subst (λ (l : List Event). opens c number (eventAt l k) && eqb n (eventAt l k .width) ≡ true) (one .is) opening
+    there : opensJob c key (eventAt grown k) ≡ true
+    there = subst (λ (l : List Event). opensJob c key (eventAt l k) ≡ true) (one .is) opening
 
-    found-there : openedAt grown c number n ≡ k → openedAt log′ c number n ≡ k
-    found-there q = ap (λ (l : List Event). openedAt l c number n) (one .is) ∙ q
+    found-there : openedAt grown c key ≡ k → openedAt log′ c key ≡ k
+    found-there q = ap (λ (l : List Event). openedAt l c key) (one .is) ∙ q
 
-    go : (t : Bool) → ltb k (length (w .log)) ≡ t → openedAt log′ c number n ≡ k
+    go : (t : Bool) → ltb k (length (w .log)) ≡ t → openedAt log′ c key ≡ k
     go true q =
         let before = ltb-true k (length (w .log)) q in
         let old =
-        once c number n k before
-        (subst (λ (d : Event). opens c number d && eqb n (d .width) ≡ true) (event-before (w .log) e k before) there) in
-        found-there (opened-kept (w .log) (e ∷ []) c number n (rw old before) ∙ old)
+        once c key k before
+        (subst (λ (d : Event). opensJob c key d ≡ true) (event-before (w .log) e k before) there) in
+        found-there (opened-kept (w .log) (e ∷ []) c key (rw old before) ∙ old)
     go false q =
         let long : length log′ ≡ suc (length (w .log)) = ap length (one .is) ∙ log-length (w .log) e in
         let last : k ≡ length (w .log) = omega (arith, ltb-false k (length (w .log)) q, less, long) in
         let new =
-        subst (λ (d : Event). opens c number d && eqb n (d .width) ≡ true) (ap (eventAt grown) last ∙ event-end (w .log) e) there in
+        subst (λ (d : Event). opensJob c key d ≡ true) (ap (eventAt grown) last ∙ event-end (w .log) e) there in
         found-there
-        (at-end (w .log) e [] c number n
-        (marked .unopened c number (one .fresh c number (and-left (opens c number e) (eqb n (e .width)) new))) new
+        (at-end (w .log) e [] c key
+        (marked .unopened c (key .number) (one .fresh c (key .number) (and-left (opens c (key .number) e) (eqb (key .width) (e .key .width)) new))) new
         ∙ sym last)

@@ -1,4 +1,4 @@
--- Two runs over one list that differ in tapes, in-range shares and words of work only: what they have in common at every place.
+-- Low equivalence: what two runs over one list have in common at every place when they differ in tapes, in-range shares and words of work only.
 use Prim.Native.Nat.{ℕ, _<_}
 use mathlib.Core.Path.{_≡_}
 use lib.ListN.{length}
@@ -7,38 +7,37 @@ use Rattle.rules.specs.declared.state.Turn.{Turn}
 use Rattle.rules.specs.declared.state.Phase.{Phase}
 use Rattle.rules.specs.declared.state.Phase.the-variants.{Job}
 use Rattle.rules.specs.declared.state.State.{State}
-use Rattle.guarantees.specs.Run.{Memory, Event, World, eventAt}
+use Rattle.guarantees.specs.Run.{Memory, Event, World, memoryOf, eventAt}
+use Rattle.guarantees.specs.Boxes.{Box}
 use Rattle.guarantees.specs.View.{covered}
 
 -- the same phase, or a job with the same turn and number and other shares, all in range
-pub data PhaseTwin (n : ℕ) : Phase → Phase → Type 0 where
-  same : (p : Phase) → PhaseTwin n p p
+pub data LowPhase (n : ℕ) : Phase → Phase → Type 0 where
+  same : (p : Phase) → LowPhase n p p
   jobs : (turn : Turn) (number x y x′ y′ : ℕ) → x < modulus n → y < modulus n → x′ < modulus n → y′ < modulus n
-      → PhaseTwin n (Job turn number x y) (Job turn number x′ y′)
+      → LowPhase n (Job turn number x y) (Job turn number x′ y′)
 
-pub record Twin (s s′ : State) : Type 0 where
+pub record LowState (s s′ : State) : Type 0 where
   pub n : s .n ≡ s′ .n
   pub side : s .side ≡ s′ .side
   pub pair : s .pair ≡ s′ .pair
   pub tally : s .tally ≡ s′ .tally
-  pub phase : PhaseTwin (s .n) (s .phase) (s′ .phase)
+  pub phase : LowPhase (s .n) (s .phase) (s′ .phase)
 
-pub record TwinMemory (m m′ : Memory) : Type 0 where
-  pub state : Twin (m .state) (m′ .state)
+pub record LowMemory (m m′ : Memory) : Type 0 where
+  pub state : LowState (m .state) (m′ .state)
   pub tally : m .tally ≡ m′ .tally
   pub room : length (m .work) ≡ length (m′ .work)
 
 -- all but the words: what was said up to answer shares, and how many words were spoken
-pub record SameEvent (e e′ : Event) : Type 0 where
+pub record LowEvent (e e′ : Event) : Type 0 where
   pub box : e .box ≡ e′ .box
-  pub number : e .number ≡ e′ .number
-  pub width : e .width ≡ e′ .width
+  pub key : e .key ≡ e′ .key
   pub round : e .round ≡ e′ .round
   pub said : covered (e .said) ≡ covered (e′ .said)
   pub long : length (e .spoken) ≡ length (e′ .spoken)
 
-pub record Skeleton (w w′ : World) : Type 0 where
-  pub one : TwinMemory (w .one) (w′ .one)
-  pub two : TwinMemory (w .two) (w′ .two)
+pub record LowEquivalent (w w′ : World) : Type 0 where
+  pub memories : (b : Box) → LowMemory (memoryOf w b) (memoryOf w′ b)
   pub places : length (w .log) ≡ length (w′ .log)
-  pub events : (k : ℕ) → SameEvent (eventAt (w .log) k) (eventAt (w′ .log) k)
+  pub events : (k : ℕ) → LowEvent (eventAt (w .log) k) (eventAt (w′ .log) k)

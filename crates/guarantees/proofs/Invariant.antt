@@ -1,5 +1,5 @@
--- One run by itself: in a job, what work holds of the rounds heard so far is what the job's exchange gives, and so is every message spoken
--- and every answer share.
+-- The invariant of one run: in a job, what work holds of the rounds heard so far is what the job's exchange gives, and so is every message
+-- spoken and every answer share.
 use Prim.Native.Nat.{ℕ, zero, suc, _+_, _<_, _≤_}
 use mathlib.Core.Path.{_≡_, refl, sym, ap, subst, _∙_}
 use mathlib.Core.Bool.{Bool, true, false, cond}
@@ -15,7 +15,7 @@ use Rattle.protocol.specs.Work.{workLength}
 use Rattle.protocol.specs.Rounds.{afterHearing, answerShare}
 use Rattle.protocol.proofs.Live.{Live, message-live, after-live, answer-live}
 use Rattle.protocol.proofs.Lengths.{after-length}
-use Rattle.rules.specs.Answers.{fresh, started, spoke, heard, share, dropped, refused}
+use Rattle.rules.specs.Answers.{heard, share}
 use Rattle.rules.specs.Modes.{roundOf, inRange, modeOf, isAsleep}
 use Rattle.rules.specs.Grounds.{wakeGround, startGround, speakGround, hearGround, dropGround}
 use Rattle.rules.specs.Calls.{Result, inPhase, partyOf, turned, wakeRule, startRule, speakRule, hearRule, dropRule}
@@ -24,28 +24,31 @@ use Rattle.rules.specs.declared.state.Turn.the-variants.{Speak, Hear}
 use Rattle.rules.specs.declared.state.Phase.{Phase}
 use Rattle.rules.specs.declared.state.Phase.the-variants.{Asleep, Idle, Job}
 use Rattle.rules.specs.declared.state.State.{State}
-use Rattle.guarantees.specs.Boxes.{Box, first, second, sideOf, partner}
+use Rattle.guarantees.specs.Boxes.{Box, box1, box2, sideOf, otherBox}
+use Rattle.guarantees.specs.Keys.{Key, keyAt}
+use Rattle.guarantees.specs.Outcomes.{Kind, opening, message, answer, plain, kindOf}
 use Rattle.guarantees.specs.Entries.{Lent, dealt, Incoming, Step, wake, start, speak, hear, drop, cut, cutStart}
-use Rattle.guarantees.specs.Run.{Lending, Setting, Memory, Said, nothing, replied, Event, World, memoryOf, after, afterCut, eventAt, tapeWords, incomingWords, spokenWords, stepped}
-use Rattle.guarantees.specs.Premises.{True, Keeps}
+use Rattle.guarantees.specs.Run.{Lending, Setting, Memory, Said, replied, Event, World, memoryOf, after, afterCut, cutSaid, eventAt, tapeWords, incomingWords, spokenWords, stepped}
+use Rattle.guarantees.specs.Premises.{TrueMessage, Keeps}
 use Rattle.guarantees.specs.Jobs.{partyAt, sentBy, answerBy}
+use Rattle.guarantees.proofs.Outcomes.{cut-plain}
 use Rattle.guarantees.proofs.Jobs.{InOrder, holding, sent-is, holding-next, answer-is, holding-room}
 use Rattle.rules.proofs.Spoken.{spoken-front}
 use Rattle.rules.proofs.Chains.{decide}
 use Rattle.rules.proofs.Ranges.{awake-mode, awake-listed, Due, job-range}
 use Rattle.rules.proofs.Passed.{start-passed, speak-passed, hear-passed}
 
-module _ (g : Setting) (book : Box → ℕ → ℕ → Lending) where
+module _ (g : Setting) (book : Box → Key → Lending) where
   -- ---- what holds of one box
 
   -- in a job whose turn has that round: so many rounds were heard
   pub record InJob (b : Box) (s : State) (work : List ℕ) (turn : Turn) (number x y : ℕ) : Type 0 where
-    pub x-is : x ≡ book b number (s .n) .x
-    pub y-is : y ≡ book b number (s .n) .y
+    pub x-is : x ≡ book b (keyAt s number) .x
+    pub y-is : y ≡ book b (keyAt s number) .y
     pub room : workLength (s .n) ≤ length work
     pub heard : ℕ
     pub count : roundOf turn ≡ suc heard
-    pub live : Live (s .n) heard work (holding (g .tapes) book b number (s .n) heard)
+    pub live : Live (s .n) heard work (holding (g .tapes) book b (keyAt s number) heard)
 
   abbrev pub Phased : Box → State → List ℕ → Phase → Type 0
   Phased b s work Asleep = Unit {0}
@@ -59,41 +62,39 @@ module _ (g : Setting) (book : Box → ℕ → ℕ → Lending) where
 
   -- a message spoken is the exchange's, in one of the six rounds of a listed width
   pub record Uttered (e : Event) : Type 0 where
-    pub width : listed (e .width) ≡ true
+    pub width : listed (e .key .width) ≡ true
     pub heard : ℕ
     pub round-is : e .round ≡ suc heard
     pub early : heard < 6
-    pub x-fits : book (e .box) (e .number) (e .width) .x < modulus (e .width)
-    pub words : e .spoken ≡ sentBy (g .tapes) book (e .box) (e .number) (e .width) (e .round)
+    pub x-fits : book (e .box) (e .key) .x < modulus (e .key .width)
+    pub words : e .spoken ≡ sentBy (g .tapes) book (e .box) (e .key) (e .round)
 
   -- and so is an answer share
-  pub record Answered (e : Event) (v : ℕ) : Type 0 where
-    pub width : listed (e .width) ≡ true
-    pub is : v ≡ answerBy (g .tapes) book (e .box) (e .number) (e .width)
-    pub x-fits : book (e .box) (e .number) (e .width) .x < modulus (e .width)
-    pub y-fits : book (e .box) (e .number) (e .width) .y < modulus (e .width)
+  pub record Answered (e : Event) : Type 0 where
+    pub value : ℕ
+    pub said-is : e .said ≡ replied (share value)
+    pub width : listed (e .key .width) ≡ true
+    pub is : value ≡ answerBy (g .tapes) book (e .box) (e .key)
+    pub x-fits : book (e .box) (e .key) .x < modulus (e .key .width)
+    pub y-fits : book (e .box) (e .key) .y < modulus (e .key .width)
     pub silent : e .spoken ≡ []
 
-  abbrev pub True-to : Event → Said → Type 0
-  True-to e nothing = e .spoken ≡ []
-  True-to e (replied (fresh k)) = e .spoken ≡ []
-  True-to e (replied started) = e .spoken ≡ []
-  True-to e (replied (spoke k)) = Uttered e
-  True-to e (replied heard) = e .spoken ≡ []
-  True-to e (replied (share v)) = Answered e v
-  True-to e (replied dropped) = e .spoken ≡ []
-  True-to e (replied (refused k)) = e .spoken ≡ []
+  abbrev pub Conforms : Event → Kind → Type 0
+  Conforms e opening = e .spoken ≡ []
+  Conforms e message = Uttered e
+  Conforms e answer = Answered e
+  Conforms e plain = e .spoken ≡ []
 
-  pub record Follows (w : World) : Type 0 where
+  pub record Invariant (w : World) : Type 0 where
     pub each : (b : Box) → Holds b (memoryOf w b)
-    pub events : (k : ℕ) → True-to (eventAt (w .log) k) (eventAt (w .log) k .said)
+    pub events : (k : ℕ) → Conforms (eventAt (w .log) k) (kindOf (eventAt (w .log) k .said))
 
   -- a start that is not refused finds its shares in the book
   abbrev pub Booked : ℕ → World → Box → Step → Type 0
   Booked place w b (wake n side p) = Unit {0}
   Booked place w b (start number lent) =
       startGround (memoryOf w b .state) number (g .shares b place .x) (g .shares b place .y) (tapeWords g lent) (memoryOf w b .work) (memoryOf w b .tally) ≡ 0
-      → book b number (memoryOf w b .state .n) ≡ g .shares b place
+      → book b (keyAt (memoryOf w b .state) number) ≡ g .shares b place
   Booked place w b (speak number round lent out) = Unit {0}
   Booked place w b (hear number round lent incoming) = Unit {0}
   Booked place w b drop = Unit {0}
@@ -137,7 +138,7 @@ module _ (g : Setting) (book : Box → ℕ → ℕ → Lending) where
   -- ---- start
 
   start-holds : (b : Box) (m : Memory) (number : ℕ) (v : Lending) (tape : List ℕ) → Holds b m
-      → (startGround (m .state) number (v .x) (v .y) tape (m .work) (m .tally) ≡ 0 → book b number (m .state .n) ≡ v)
+      → (startGround (m .state) number (v .x) (v .y) tape (m .work) (m .tally) ≡ 0 → book b (keyAt (m .state) number) ≡ v)
       → let r = startRule (m .state) number (v .x) (v .y) tape (m .work) (m .tally) in
       Holds b (record { state = r .state; work = m .work; tally = r .buffer })
   unfolding startRule
@@ -179,9 +180,9 @@ module _ (g : Setting) (book : Box → ℕ → ℕ → Lending) where
     pub inside : InJob b (m .state) (m .work) turn number x y
     pub width : listed (m .state .n) ≡ true
     pub early : inside .heard < 6
-    pub x-fits : book b number (m .state .n) .x < modulus (m .state .n)
-    pub y-fits : book b number (m .state .n) .y < modulus (m .state .n)
-    pub party-is : partyOf (m .state) tape ≡ partyAt (g .tapes) book b number (m .state .n)
+    pub x-fits : book b (keyAt (m .state) number) .x < modulus (m .state .n)
+    pub y-fits : book b (keyAt (m .state) number) .y < modulus (m .state .n)
+    pub party-is : partyOf (m .state) tape ≡ partyAt (g .tapes) book b (keyAt (m .state) number)
 
   -- the box's dealt tape is in order for no side but its own
   going : (pair : ℕ) (orders : InOrder g pair) (b : Box) (m : Memory) (number round : ℕ) (turn : Turn) (lent : Lent) → Holds b m
@@ -213,7 +214,7 @@ module _ (g : Setting) (book : Box → ℕ → ℕ → Lending) where
   -- the state goes on to hear, and the words are the exchange's
   pub record Spoken (b : Box) (m : Memory) (number round : ℕ) (r : Result) : Type 0 where
     pub holds : Holds b (record { state = r .state; work = m .work; tally = m .tally })
-    pub words : True-to (record { box = b; number = number; width = m .state .n; round = round; said = replied (r .reply); spoken = spokenWords (r .reply) (r .buffer); incoming = [] }) (replied (r .reply))
+    pub words : Conforms (record { box = b; key = keyAt (m .state) number; round = round; said = replied (r .reply); spoken = spokenWords (r .reply) (r .buffer); incoming = [] }) (kindOf (replied (r .reply)))
 
   speak-holds : (pair : ℕ) (orders : InOrder g pair) (b : Box) (m : Memory) (number round : ℕ) (lent : Lent) (out : List ℕ) → Holds b m
       → (speakGround (m .state) number round (tapeWords g lent) (m .work) out ≡ 0 → lent ≡ dealt b number (m .state .n))
@@ -248,8 +249,8 @@ module _ (g : Setting) (book : Box → ℕ → ℕ → Lending) where
           words =
               spoken-front (m .state) (tapeWords g lent) (m .work) out round (p .out-room)
               ∙ rw (j .party-is, i .count)
-              (message-live (partyAt (g .tapes) book b number (m .state .n)) (i .heard) (m .work) (holding (g .tapes) book b number (m .state .n) (i .heard)) (i .live)
-              ∙ sym (sent-is (g .tapes) book b number (m .state .n) (i .heard)));
+              (message-live (partyAt (g .tapes) book b (keyAt (m .state) number)) (i .heard) (m .work) (holding (g .tapes) book b (keyAt (m .state) number) (i .heard)) (i .live)
+              ∙ sym (sent-is (g .tapes) book b (keyAt (m .state) number) (i .heard)));
         };
       })
       (record { holds = kept b m (m .tally) h; words = refl })
@@ -258,33 +259,33 @@ module _ (g : Setting) (book : Box → ℕ → ℕ → Lending) where
 
   pub record Heard (b : Box) (m : Memory) (number round : ℕ) (incoming : List ℕ) (r : Result) : Type 0 where
     pub holds : Holds b (record { state = r .state; work = r .buffer; tally = m .tally })
-    pub answer : True-to (record { box = b; number = number; width = m .state .n; round = round; said = replied (r .reply); spoken = []; incoming = incoming }) (replied (r .reply))
+    pub answer : Conforms (record { box = b; key = keyAt (m .state) number; round = round; said = replied (r .reply); spoken = []; incoming = incoming }) (kindOf (replied (r .reply)))
 
   module _ (b : Box) (m : Memory) (number round : ℕ) (tape words : List ℕ) (j : Going b m number round (Hear round) tape)
-      (true-words : words ≡ sentBy (g .tapes) book (partner b) number (m .state .n) round) where
+      (true-words : words ≡ sentBy (g .tapes) book (otherBox b) (keyAt (m .state) number) round) where
     n : ℕ
     n = m .state .n
 
     -- what is held after the round is what the exchange gives
     live-next : Live (m .state .n) (suc (j .inside .heard)) (afterHearing (partyOf (m .state) tape) (m .work) round words)
-        (holding (g .tapes) book b number (m .state .n) (suc (j .inside .heard)))
+        (holding (g .tapes) book b (keyAt (m .state) number) (suc (j .inside .heard)))
     live-next =
         let i = j .inside in
-        rw (j .party-is, true-words, i .count, holding-next (g .tapes) book b number (m .state .n) (i .heard))
-        (after-live (partyAt (g .tapes) book b number (m .state .n)) (j .width) (m .work) (holding (g .tapes) book b number (m .state .n) (i .heard))
-        (sentBy (g .tapes) book (partner b) number (m .state .n) (suc (i .heard))) (i .room) (holding-room (g .tapes) book b number (m .state .n) (i .heard)) (i .heard) (i .live))
+        rw (j .party-is, true-words, i .count, holding-next (g .tapes) book b (keyAt (m .state) number) (i .heard))
+        (after-live (partyAt (g .tapes) book b (keyAt (m .state) number)) (j .width) (m .work) (holding (g .tapes) book b (keyAt (m .state) number) (i .heard))
+        (sentBy (g .tapes) book (otherBox b) (keyAt (m .state) number) (suc (i .heard))) (i .room) (holding-room (g .tapes) book b (keyAt (m .state) number) (i .heard)) (i .heard) (i .live))
 
     -- the answer share of the last round
-    answer-last : round ≡ 6 → answerShare (partyOf (m .state) tape) (m .work) words ≡ answerBy (g .tapes) book b number (m .state .n)
+    answer-last : round ≡ 6 → answerShare (partyOf (m .state) tape) (m .work) words ≡ answerBy (g .tapes) book b (keyAt (m .state) number)
     answer-last e =
         let i = j .inside in
         let five : i .heard ≡ 5 = omega (arith, i .count) in
-        let live : Live (m .state .n) 5 (m .work) (holding (g .tapes) book b number (m .state .n) 5) =
-        subst (λ (k : ℕ). Live (m .state .n) k (m .work) (holding (g .tapes) book b number (m .state .n) k)) five (i .live) in
+        let live : Live (m .state .n) 5 (m .work) (holding (g .tapes) book b (keyAt (m .state) number) 5) =
+        subst (λ (k : ℕ). Live (m .state .n) k (m .work) (holding (g .tapes) book b (keyAt (m .state) number) k)) five (i .live) in
         rw (j .party-is, true-words, e)
-        (answer-live (partyAt (g .tapes) book b number (m .state .n)) (m .work) (holding (g .tapes) book b number (m .state .n) 5)
-        (sentBy (g .tapes) book (partner b) number (m .state .n) 6) live
-        ∙ sym (answer-is (g .tapes) book b number (m .state .n)))
+        (answer-live (partyAt (g .tapes) book b (keyAt (m .state) number)) (m .work) (holding (g .tapes) book b (keyAt (m .state) number) 5)
+        (sentBy (g .tapes) book (otherBox b) (keyAt (m .state) number) 6) live
+        ∙ sym (answer-is (g .tapes) book b (keyAt (m .state) number)))
 
     hear-goes : Heard b m number round words
         (cond (eqb round 6)
@@ -311,7 +312,7 @@ module _ (g : Setting) (book : Box → ℕ → ℕ → Lending) where
         go true e =
             record {
               holds = record { holds = settle b _ work′ tt };
-              answer = record { width = j .width; is = answer-last (eqb-true round 6 e); x-fits = j .x-fits; y-fits = j .y-fits; silent = refl };
+              answer = record { value = _; said-is = refl; width = j .width; is = answer-last (eqb-true round 6 e); x-fits = j .x-fits; y-fits = j .y-fits; silent = refl };
             }
         go false e =
             record {
@@ -334,7 +335,7 @@ module _ (g : Setting) (book : Box → ℕ → ℕ → Lending) where
 
   hear-holds : (pair : ℕ) (orders : InOrder g pair) (b : Box) (m : Memory) (number round : ℕ) (lent : Lent) (words : List ℕ) → Holds b m
       → (hearGround (m .state) number round (tapeWords g lent) (m .work) words ≡ 0
-      → (lent ≡ dealt b number (m .state .n)) × (words ≡ sentBy (g .tapes) book (partner b) number (m .state .n) round))
+      → (lent ≡ dealt b number (m .state .n)) × (words ≡ sentBy (g .tapes) book (otherBox b) (keyAt (m .state) number) round))
       → Heard b m number round words (hearRule (m .state) number round (tapeWords g lent) (m .work) words)
   unfolding hearRule
   hear-holds pair orders b m number round lent words h keeps =
@@ -348,74 +349,75 @@ module _ (g : Setting) (book : Box → ℕ → ℕ → Lending) where
 
   -- ---- the log and the worlds
 
-  grows : (log : List Event) (e : Event) → ((k : ℕ) → True-to (eventAt log k) (eventAt log k .said)) → True-to e (e .said)
-      → (k : ℕ) → True-to (eventAt (log ++ (e ∷ [])) k) (eventAt (log ++ (e ∷ [])) k .said)
+  grows : (log : List Event) (e : Event) → ((k : ℕ) → Conforms (eventAt log k) (kindOf (eventAt log k .said))) → Conforms e (kindOf (e .said))
+      → (k : ℕ) → Conforms (eventAt (log ++ (e ∷ [])) k) (kindOf (eventAt (log ++ (e ∷ [])) k .said))
   grows [] e old new zero = new
   grows [] e old new (suc k) = refl
   grows (d ∷ log) e old new zero = old zero
   grows (d ∷ log) e old new (suc k) = grows log e (λ i. old (suc i)) new k
 
-  after-follows : (w : World) (b : Box) (m : Memory) (e : Event) → Follows w → Holds b m → True-to e (e .said) → Follows (after w b m e)
-  after-follows w first m e f h t = record { each = λ c. both c; events = grows (w .log) e (f .events) t }
+  after-invariant : (w : World) (b : Box) (m : Memory) (e : Event) → Invariant w → Holds b m → Conforms e (kindOf (e .said)) → Invariant (after w b m e)
+  after-invariant w box1 m e f h t = record { each = λ c. both c; events = grows (w .log) e (f .events) t }
     where
-      both : (c : Box) → Holds c (memoryOf (after w first m e) c)
-      both first = h
-      both second = f .each second
-  after-follows w second m e f h t = record { each = λ c. both c; events = grows (w .log) e (f .events) t }
+      both : (c : Box) → Holds c (memoryOf (after w box1 m e) c)
+      both box1 = h
+      both box2 = f .each box2
+  after-invariant w box2 m e f h t = record { each = λ c. both c; events = grows (w .log) e (f .events) t }
     where
-      both : (c : Box) → Holds c (memoryOf (after w second m e) c)
-      both first = f .each first
-      both second = h
+      both : (c : Box) → Holds c (memoryOf (after w box2 m e) c)
+      both box1 = f .each box1
+      both box2 = h
 
   -- a true message is the exchange's
-  true-message : (w : World) (b : Box) (number n round : ℕ) (incoming : Incoming) → Follows w → True (w .log) b number n round incoming
-      → incomingWords (w .log) incoming ≡ sentBy (g .tapes) book (partner b) number n round
-  true-message w b number n round incoming f t =
+  true-message : (w : World) (b : Box) (key : Key) (round : ℕ) (incoming : Incoming) → Invariant w → TrueMessage (w .log) b key round incoming
+      → incomingWords (w .log) incoming ≡ sentBy (g .tapes) book (otherBox b) key round
+  true-message w b key round incoming f t =
       let e = eventAt (w .log) (t .place) in
-      let told : Uttered e = subst (True-to e) (t .uttered) (f .events (t .place)) in
-      ap (incomingWords (w .log)) (t .named)
-      ∙ told .words
-      ∙ rw (t .by, t .numbered, t .wide, t .rounded)
+      let told : Uttered e = subst (λ (s : Said). Conforms e (kindOf s)) (t .uttered) (f .events (t .place)) in
+      ap (incomingWords (w .log)) (t .named) ∙ told .words ∙ rw (t .by, t .under, t .rounded)
 
   -- calls that say nothing of an exchange
   quiet-wake : (m : Memory) (n side p : ℕ) (e : Event) → e .spoken ≡ []
-      → True-to e (replied (wakeRule (m .state) n side p (m .tally) .reply))
+      → Conforms e (kindOf (replied (wakeRule (m .state) n side p (m .tally) .reply)))
   unfolding wakeRule
   quiet-wake m n side p e none =
-      decide (λ r. True-to e (replied (r .reply))) (wakeGround (m .state) n side (m .tally)) (m .state) (m .tally) _ (λ z. none) none
+      decide (λ r. Conforms e (kindOf (replied (r .reply)))) (wakeGround (m .state) n side (m .tally)) (m .state) (m .tally) _ (λ z. none) none
 
   quiet-start : (m : Memory) (number : ℕ) (v : Lending) (tape : List ℕ) (e : Event) → e .spoken ≡ []
-      → True-to e (replied (startRule (m .state) number (v .x) (v .y) tape (m .work) (m .tally) .reply))
+      → Conforms e (kindOf (replied (startRule (m .state) number (v .x) (v .y) tape (m .work) (m .tally) .reply)))
   unfolding startRule
   quiet-start m number v tape e none =
-      decide (λ r. True-to e (replied (r .reply))) (startGround (m .state) number (v .x) (v .y) tape (m .work) (m .tally)) (m .state) (m .tally) _
+      decide (λ r. Conforms e (kindOf (replied (r .reply)))) (startGround (m .state) number (v .x) (v .y) tape (m .work) (m .tally)) (m .state) (m .tally) _
       (λ z. none) none
 
-  quiet-drop : (m : Memory) (e : Event) → e .spoken ≡ [] → True-to e (replied (dropRule (m .state) .reply))
+  quiet-drop : (m : Memory) (e : Event) → e .spoken ≡ [] → Conforms e (kindOf (replied (dropRule (m .state) .reply)))
   unfolding dropRule
-  quiet-drop m e none = decide (λ r. True-to e (replied (r .reply))) (dropGround (m .state)) (m .state) [] _ (λ z. none) none
+  quiet-drop m e none = decide (λ r. Conforms e (kindOf (replied (r .reply)))) (dropGround (m .state)) (m .state) [] _ (λ z. none) none
+
+  cut-conforms : (s : State) (e : Event) → e .spoken ≡ [] → Conforms e (kindOf (cutSaid s))
+  cut-conforms s e none = subst (Conforms e) (sym (cut-plain s)) none
 
   -- one entry
-  pub follows-next : (pair : ℕ) (orders : InOrder g pair) (place : ℕ) (w : World) (b : Box) (step : Step) → Follows w → Keeps g w b step → Booked place w b step
-      → Follows (stepped g place w b step)
+  pub invariant-next : (pair : ℕ) (orders : InOrder g pair) (place : ℕ) (w : World) (b : Box) (step : Step) → Invariant w → Keeps g w b step → Booked place w b step
+      → Invariant (stepped g place w b step)
   unfolding stepped
-  follows-next pair orders place w b (wake n side p) f keeps booked =
-      after-follows w b _ _ f (wake-holds b (memoryOf w b) n side p (f .each b)) (quiet-wake (memoryOf w b) n side p _ refl)
-  follows-next pair orders place w b (start number lent) f keeps booked =
-      after-follows w b _ _ f (start-holds b (memoryOf w b) number (g .shares b place) (tapeWords g lent) (f .each b) booked)
+  invariant-next pair orders place w b (wake n side p) f keeps booked =
+      after-invariant w b _ _ f (wake-holds b (memoryOf w b) n side p (f .each b)) (quiet-wake (memoryOf w b) n side p _ refl)
+  invariant-next pair orders place w b (start number lent) f keeps booked =
+      after-invariant w b _ _ f (start-holds b (memoryOf w b) number (g .shares b place) (tapeWords g lent) (f .each b) booked)
       (quiet-start (memoryOf w b) number (g .shares b place) (tapeWords g lent) _ refl)
-  follows-next pair orders place w b (speak number round lent out) f keeps booked =
+  invariant-next pair orders place w b (speak number round lent out) f keeps booked =
       let r = speak-holds pair orders b (memoryOf w b) number round lent out (f .each b) keeps in
-      after-follows w b _ _ f (r .holds) (r .words)
-  follows-next pair orders place w b (hear number round lent incoming) f keeps booked =
+      after-invariant w b _ _ f (r .holds) (r .words)
+  invariant-next pair orders place w b (hear number round lent incoming) f keeps booked =
       let r = hear-holds pair orders b (memoryOf w b) number round lent (incomingWords (w .log) incoming) (f .each b)
       (λ zero-ground.
       let k = keeps zero-ground in
-      (k .0, true-message w b number (memoryOf w b .state .n) round incoming f (k .1))) in
-      after-follows w b _ _ f (r .holds) (r .answer)
-  follows-next pair orders place w b drop f keeps booked =
-      after-follows w b _ _ f (drop-holds b (memoryOf w b) (f .each b)) (quiet-drop (memoryOf w b) _ refl)
-  follows-next pair orders place w b (cut room) f keeps booked =
-      after-follows w b _ _ f (cut-holds b place room (memoryOf w b) _) refl
-  follows-next pair orders place w b (cutStart number lent value room) f keeps booked =
-      after-follows w b _ _ f (cut-holds b place room (memoryOf w b) _) refl
+      (k .0, true-message w b (keyAt (memoryOf w b .state) number) round incoming f (k .1))) in
+      after-invariant w b _ _ f (r .holds) (r .answer)
+  invariant-next pair orders place w b drop f keeps booked =
+      after-invariant w b _ _ f (drop-holds b (memoryOf w b) (f .each b)) (quiet-drop (memoryOf w b) _ refl)
+  invariant-next pair orders place w b (cut room) f keeps booked =
+      after-invariant w b _ _ f (cut-holds b place room (memoryOf w b) _) (cut-conforms (memoryOf w b .state) _ refl)
+  invariant-next pair orders place w b (cutStart number lent value room) f keeps booked =
+      after-invariant w b _ _ f (cut-holds b place room (memoryOf w b) _) (cut-conforms (memoryOf w b .state) _ refl)
