@@ -13,9 +13,10 @@ pub struct Tests {
     pub wraps: [u32; 3],
 }
 
+// At first no wrap is known, and their places hold 0.
 pub fn tests_of(n: u32, x: u32, y: u32) -> Tests
     requires { ⌜ (listed n ≡ true) × (x < modulus n) × (y < modulus n) ⌝ }
-    ensures { λ r. ⌜ (r .doubled ≡ tabulate 3 (doubled n x y)) × (r .low ≡ tabulate 3 (lowBit n x y)) ⌝ }
+    ensures { λ r. ⌜ (r .doubled ≡ tabulate 3 (doubled n x y)) × (r .low ≡ tabulate 3 (lowBit n x y)) × (r .wraps ≡ tabulate 3 (λ _. 0)) ⌝ }
 {
     let difference = field::sub(n, x, y);
     let a = field::add(n, x, x);

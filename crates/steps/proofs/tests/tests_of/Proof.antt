@@ -1,5 +1,5 @@
 -- `steps::tests::tests_of` meets its contract.
-use mathlib.Core.Path.{sym}
+use mathlib.Core.Path.{refl}
 use borrow.Author.Needs.{needs}
 use Rattle.shares.specs.Share.{masked}
 use Rattle.steps.proofs.tests.tests_of.Statement.{statement}
@@ -24,7 +24,7 @@ returns c =
     let x = c .before .before .add .ensures .0 in
     let y = c .before .add2 .ensures .0 in
     let z = c .add3 .ensures .0 in
-    (rw (x, y, z, d), rw (x, y, z, d))
+    (rw (x, y, z, d), rw (x, y, z, d), refl)
 
 pub tests-of-spec : {M : Type 1} → statement M
 tests-of-spec =
