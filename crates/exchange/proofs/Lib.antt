@@ -5,3 +5,5 @@ mod Course
 mod Exchanges
 pub mod Begun
 pub mod Right
+mod Jobs
+pub mod Fresh

@@ -1,10 +1,12 @@
 -- On a pair of tapes dealt by the rules the opened answer is right.
 use Prim.Native.Nat.{ℕ, _+_, _%_, _<_, _≤_}
+use mathlib.Core.Path.{_≡_, refl, sym, ap, _∙_}
+use mathlib.Core.Bool.{Bool, true, false, cond}
 use mathlib.Core.List.{List}
-use mathlib.Core.Path.{_≡_, ap, _∙_}
 use native.Mathlib.Nat.{mod-eq-of-lt}
 use native.Mathlib.Omega.{arith}
-use lib.Dec.{ltb}
+use borrow.Author.Tests.{eqb-true, eqb-false}
+use lib.Dec.{eqb, ltb}
 use lib.ListN.{length}
 use Rattle.field.specs.Width.{modulus}
 use Rattle.field.proofs.Widths.{bounds}
@@ -20,7 +22,10 @@ use Rattle.protocol.proofs.Right.{right}
 use Rattle.rules.specs.Calls.{partyOf}
 use Rattle.rules.specs.declared.state.State.{State}
 use Rattle.exchange.specs.Boxes.{works, answerOne, answerTwo}
-use Rattle.exchange.proofs.Begun.{Begun}
+use Rattle.exchange.specs.declared.Verdict.{Verdict}
+use Rattle.exchange.specs.Opening.{refusalOf}
+use Rattle.exchange.specs.Jobs.{Lent, comes, roomy, jobRefusal, Ended, ended, jobOf}
+use Rattle.exchange.proofs.Begun.{Begun, begun-ready}
 
 pub dealt-right : (n pair number x1 y1 x2 y2 : ℕ) (t1 t2 w1 w2 : List ℕ) → Dealt n pair number t1 t2
     → y1 < modulus n → y2 < modulus n → workLength n ≤ length w1 → workLength n ≤ length w2
@@ -44,3 +49,37 @@ begun-right {n} {pair} {number} {x1} {y1} {x2} {y2} {t1} {t2} {w1} {w2} {k1} {k2
     let party1 : partyOf s1 t1 ≡ party n 1 x1 y1 t1 = ap (λ (s : State). partyOf s t1) (b1 .state) in
     let party2 : partyOf s2 t2 ≡ party n 2 x2 y2 t2 = ap (λ (s : State). partyOf s t2) (b2 .state) in
     rw (party1, party2) (dealt-right n pair number x1 y1 x2 y2 t1 t2 w1 w2 m (b1 .y-fits) (b2 .y-fits) room1 room2)
+
+-- ---- of a whole job
+
+-- where no part of a job is refused
+record Taken (first second : ℕ) (room : Bool) : Type 0 where
+  none1 : first ≡ 0
+  none2 : second ≡ 0
+  enough : room ≡ true
+
+taken : (first second : ℕ) (room : Bool) → cond (eqb first 0) (cond (eqb second 0) (cond room 0 12) second) first ≡ 0 → Taken first second room
+taken first second room = go (eqb first 0) (eqb second 0) room refl refl
+  where
+    go : (a b t : Bool) → eqb first 0 ≡ a → eqb second 0 ≡ b → cond a (cond b (cond t 0 12) second) first ≡ 0 → Taken first second t
+    go true true true ea eb e = record { none1 = eqb-true first 0 ea; none2 = eqb-true second 0 eb; enough = refl }
+    go true true false ea eb e = absurd (omega (arith, e))
+    go true false t ea eb e = absurd (eqb-false second 0 eb e)
+    go false b t ea eb e = absurd (eqb-false first 0 ea e)
+
+pub job-right : (n pair number : ℕ) (one two : Lent) → jobRefusal n pair number one two ≡ 0 → Dealt n pair number (one .tape) (two .tape)
+    → jobOf n pair number one two .less ≡ indicator (ltb ((one .x + two .x) % modulus n) ((one .y + two .y) % modulus n))
+unfolding jobOf jobRefusal
+job-right n pair number one two zero m =
+    let t = taken (refusalOf (comes n 1 pair number one .reply)) (refusalOf (comes n 2 pair number two .reply)) (roomy n (one .out) (two .out)) zero in
+    let ready1 = begun-ready n 1 pair number (one .x) (one .y) (one .tape) (one .work) (one .tally) (t .none1) in
+    let ready2 = begun-ready n 2 pair number (two .x) (two .y) (two .tape) (two .work) (two .tally) (t .none2) in
+    rw zero (begun-right ready1 ready2 m)
+
+-- of what came of it
+pub ended-right : (n pair number : ℕ) (one two : Lent) (v : Verdict) (k1 k2 : List ℕ) → ended v k1 k2 ≡ jobOf n pair number one two
+    → v .refusal ≡ 0 → Dealt n pair number (one .tape) (two .tape)
+    → v .less ≡ indicator (ltb ((one .x + two .x) % modulus n) ((one .y + two .y) % modulus n))
+unfolding jobOf
+ended-right n pair number one two v k1 k2 e zero m =
+    ap (λ (j : Ended). j .less) e ∙ job-right n pair number one two (sym (ap (λ (j : Ended). j .refusal) e) ∙ zero) m

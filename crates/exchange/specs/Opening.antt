@@ -37,10 +37,3 @@ unfoldable pub begun : ℕ → ℕ → ℕ → ℕ → ℕ → ℕ → List ℕ 
 begun n side pair number x y tape work tally =
     let woken = wakeRule firstState n side pair tally in
     cond (eqb (refusalOf (woken .reply)) 0) (startRule (woken .state) number x y tape work tally) woken
-
--- the first refusal where box 1 comes to the job and then box 2, and 0 where neither is refused
-unfoldable pub openingRefusal : ℕ → ℕ → ℕ → ℕ → ℕ → ℕ → ℕ → List ℕ → List ℕ → List ℕ → List ℕ → List ℕ → List ℕ → ℕ
-openingRefusal n pair number x1 y1 x2 y2 t1 t2 w1 w2 k1 k2 =
-    let first = refusalOf (begun n 1 pair number x1 y1 t1 w1 k1 .reply) in
-    let second = refusalOf (begun n 2 pair number x2 y2 t2 w2 k2 .reply) in
-    cond (eqb first 0) second first

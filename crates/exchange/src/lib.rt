@@ -2,21 +2,24 @@
 use rules::state::Answer;
 use rules::state::Outcome;
 use rules::state::Phase;
+use rules::state::Refusal;
 use rules::state::State;
 ghost use mathlib.Core.Path.{_≡_};
+ghost use mathlib.Core.Bool.{true, cond};
 ghost use Prim.Native.Nat.{ℕ, _+_, _%_, _<_, _≤_};
 ghost use lib.Dec.{ltb};
 ghost use lib.ListN.{length};
 ghost use lib.Seq.{sets};
-ghost use Rattle.field.specs.Width.{modulus};
+ghost use Rattle.field.specs.Width.{listed, modulus};
 ghost use Rattle.tape.specs.Dealt.{Dealt};
 ghost use Rattle.encoding.specs.Matching.{indicator};
 ghost use Rattle.protocol.specs.Rounds.{roundWords, message};
 ghost use Rattle.rules.specs.Answers.{share, replyOf};
 ghost use Rattle.rules.specs.Calls.{outcome, partyOf};
 ghost use Rattle.rules.specs.declared.state.Turn.the-variants.{Speak};
-ghost use Rattle.exchange.specs.Opening.{firstState, refusalOf, shareOf, begun, openingRefusal};
+ghost use Rattle.exchange.specs.Opening.{firstState, refusalOf, shareOf, begun};
 ghost use Rattle.exchange.specs.Boxes.{Ready, heardAfter, answerOne, answerTwo};
+ghost use Rattle.exchange.specs.Jobs.{lent, roomy, answerSum, ended, jobOf};
 
 // A box's shares of x and y.
 pub struct Shares {
@@ -137,7 +140,7 @@ pub fn round(
 }
 
 // All six rounds, from whatever work holds: what the last two hears gave.
-pub fn answers(
+fn answers(
     number: u32,
     boxes: Boxes,
     t1: &[u32],
@@ -201,10 +204,9 @@ pub fn less(
     o1: &mut [u32],
     o2: &mut [u32],
 ) -> Verdict
-    requires { ⌜ (roundWords n 1 ≤ length (now o1)) × (roundWords n 1 ≤ length (now o2)) ⌝ }
-    ensures refused { λ r. ⌜ r .refusal
-        ≡ openingRefusal n pair number (one .x) (one .y) (two .x) (two .y) (now (t1 .entry)) (now (t2 .entry))
-        (now (w1 .entry)) (now (w2 .entry)) (now (k1 .entry)) (now (k2 .entry)) ⌝ }
+    ensures { λ r. ⌜ ended r (now (k1 .exit)) (now (k2 .exit))
+        ≡ jobOf n pair number (lent one (now (t1 .entry)) (now (w1 .entry)) (now (k1 .entry)) (now (o1 .entry)))
+        (lent two (now (t2 .entry)) (now (w2 .entry)) (now (k2 .entry)) (now (o2 .entry))) ⌝ }
     ensures right { λ r. ⌜ (r .refusal ≡ 0 → Dealt n pair number (now (t1 .entry)) (now (t2 .entry))
         → r .less ≡ indicator (ltb ((one .x + two .x) % modulus n) ((one .y + two .y) % modulus n))) ⌝ }
 {
@@ -226,13 +228,19 @@ pub fn less(
     let s1 = a.state;
     let s2 = b.state;
     let boxes = Boxes { one: s1, two: s2 };
-    Verdict {
-        refusal: 0,
-        less: opened(n, number, boxes, t1, t2, w1, w2, o1, o2),
-    }
+    opened(n, number, boxes, t1, t2, w1, w2, o1, o2)
 }
 
-// The sum of the two answer shares.
+// Whether both outs have room for the first message, which is the longest.
+fn has_room(n: u32, o1: &[u32], o2: &[u32]) -> bool
+    requires { ⌜ listed n ≡ true ⌝ }
+    ensures { λ r. ⌜ r ≡ roomy n (now (o1 .entry)) (now (o2 .entry)) ⌝ }
+{
+    let words = compare::words::words_of(n, 1);
+    words <= o1.len() && words <= o2.len()
+}
+
+// The sum of the two answer shares, where both outs have room; otherwise the refusal of the first speak.
 fn opened(
     n: u32,
     number: u32,
@@ -243,19 +251,26 @@ fn opened(
     w2: &mut [u32],
     o1: &mut [u32],
     o2: &mut [u32],
-) -> u32
-    requires { ⌜ Ready (boxes .one) number (Speak 1) (now t1) (now w1) × (roundWords (boxes .one .n) 1 ≤ length (now o1)) ⌝ }
-    requires { ⌜ Ready (boxes .two) number (Speak 1) (now t2) (now w2) × (roundWords (boxes .two .n) 1 ≤ length (now o2)) ⌝ }
+) -> Verdict
+    requires { ⌜ Ready (boxes .one) number (Speak 1) (now t1) (now w1) × Ready (boxes .two) number (Speak 1) (now t2) (now w2) ⌝ }
     requires { ⌜ (boxes .one .n ≡ n) × (boxes .two .n ≡ n) ⌝ }
-    ensures { λ r. ⌜ r
-        ≡ (answerOne (boxes .one) (boxes .two) (now (t1 .entry)) (now (t2 .entry)) (now (w1 .entry)) (now (w2 .entry))
-        + answerTwo (boxes .one) (boxes .two) (now (t1 .entry)) (now (t2 .entry)) (now (w1 .entry)) (now (w2 .entry)))
-        % modulus n ⌝ }
+    ensures { λ r. ⌜ (r .refusal ≡ cond (roomy n (now (o1 .entry)) (now (o2 .entry))) 0 12)
+        × (r .less ≡ cond (roomy n (now (o1 .entry)) (now (o2 .entry)))
+        (answerSum n (boxes .one) (boxes .two) (now (t1 .entry)) (now (t2 .entry)) (now (w1 .entry)) (now (w2 .entry))) 0) ⌝ }
 {
+    if !has_room(n, &*o1, &*o2) {
+        return Verdict {
+            refusal: limit_box::numbers::number_of(Refusal::Room),
+            less: 0,
+        };
+    }
     let last = answers(number, boxes, t1, t2, w1, w2, o1, o2);
     let a = last.one;
     let b = last.two;
     let first = a.answer;
     let second = b.answer;
-    field::add(n, share_of(first), share_of(second))
+    Verdict {
+        refusal: 0,
+        less: field::add(n, share_of(first), share_of(second)),
+    }
 }

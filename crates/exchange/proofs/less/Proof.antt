@@ -1,12 +1,13 @@
 -- `exchange::less` meets its contract: the first refusal comes back, and otherwise both boxes are ready and the answer is opened.
 use mathlib.Core.Path.{_≡_, sym, ap, _∙_}
 use borrow.Author.Needs.{needs}
-use borrow.Author.Tests.{ne-eqb}
-use Rattle.rules.specs.Calls.{Result}
+use Rattle.rules.specs.Answers.{replyOf}
 use Rattle.rules.specs.declared.state.State.{State}
-use Rattle.exchange.specs.Opening.{refusalOf, begun, openingRefusal}
+use Rattle.exchange.specs.Opening.{refusalOf}
+use Rattle.exchange.specs.Jobs.{Lent, lent}
 use Rattle.exchange.proofs.Begun.{Begun, begin-ready}
-use Rattle.exchange.proofs.Right.{begun-right}
+use Rattle.exchange.proofs.Right.{ended-right}
+use Rattle.exchange.proofs.Jobs.{ends-at-one, ends-at-two, ends-opened}
 use Rattle.exchange.proofs.less.Statement.{statement}
 use Rattle.exchange.proofs.less.Tie as tie
 
@@ -22,16 +23,16 @@ begun2 t = t .before .before .before
 abbrev tested1 : tie.After-refusal-of2 → tie.After-refusal-of
 tested1 t = begun2 t .before .before .before .before
 
--- the numbers that were tested are the refusals
-refusal1 : (t : tie.After-refusal-of)
-    → let v = start t .args in
-    refusalOf (begun (v .n) 1 (v .pair) (v .number) (v .one .x) (v .one .y) (v .t1 .now) (v .w1 .now) (v .k1 .now) .reply) ≡ t .refusal-of .result
-refusal1 t = sym (t .refusal-of .ensures ∙ ap (λ (r : Result). refusalOf (r .reply)) (begun1 t .begin .ensures))
+-- what the two boxes come with
+abbrev lent1 : tie.Start → Lent
+lent1 s = let v = s .args in lent (v .one) (v .t1 .now) (v .w1 .now) (v .k1 .now) (v .o1 .now)
 
-refusal2 : (t : tie.After-refusal-of2)
-    → let v = start (tested1 t) .args in
-    refusalOf (begun (v .n) 2 (v .pair) (v .number) (v .two .x) (v .two .y) (v .t2 .now) (v .w2 .now) (v .k2 .now) .reply) ≡ t .refusal-of2 .result
-refusal2 t = sym (t .refusal-of2 .ensures ∙ ap (λ (r : Result). refusalOf (r .reply)) (begun2 t .begin2 .ensures))
+abbrev lent2 : tie.Start → Lent
+lent2 s = let v = s .args in lent (v .two) (v .t2 .now) (v .w2 .now) (v .k2 .now) (v .o2 .now)
+
+-- box 1 was not refused
+zero1 : (t : tie.After-refusal-of2) → refusalOf (replyOf (begun1 (tested1 t) .begin .result .answer)) ≡ 0
+zero1 t = sym (tested1 t .refusal-of .ensures) ∙ begun2 t .before .before .before .if1 .left
 
 -- where neither box is refused
 ready1 : (e : tie.Else2)
@@ -41,9 +42,8 @@ ready1 : (e : tie.Else2)
 ready1 e =
     let t = tested1 (e .before) in
     let v = start t .args in
-    let zero = begun2 (e .before) .before .before .before .if1 .left in
     begin-ready (v .n) 1 (v .pair) (v .number) (v .one .x) (v .one .y) (v .t1 .now) (v .w1 .now) (v .k1 .now)
-    (begun1 t .begin .result) _ (begun1 t .begin .ensures) (sym (t .refusal-of .ensures) ∙ zero)
+    (begun1 t .begin .result) _ (begun1 t .begin .ensures) (zero1 (e .before))
 
 ready2 : (e : tie.Else2)
     → let t = e .before in
@@ -68,10 +68,14 @@ same-length-2 : tie.Need-same-length-2
 same-length-2 c = search needs
 
 returns : tie.Need-returns
-unfolding openingRefusal
 returns c =
     let t = c .before in
-    (rw (refusal1 t, ne-eqb (t .refusal-of .result) 0 (c .if1 .taken)), λ zero. absurd (c .if1 .taken zero))
+    let s = start t in
+    let v = s .args in
+    let end =
+    ends-at-one (v .n) (v .pair) (v .number) (lent1 s) (lent2 s) (begun1 t .begin .result) _ (begun1 t .begin .ensures)
+    (t .refusal-of .result) (t .refusal-of .ensures) (c .if1 .taken) in
+    (end, ended-right (v .n) (v .pair) (v .number) (lent1 s) (lent2 s) _ _ _ end)
 
 begin-requires-2 : tie.Need-begin-requires-2
 begin-requires-2 c κs = search needs
@@ -92,24 +96,22 @@ same-length-6 : tie.Need-same-length-6
 same-length-6 c = search needs
 
 returns-2 : tie.Need-returns-2
-unfolding openingRefusal
 returns-2 c =
     let t = c .before in
-    let zero = begun2 t .before .before .before .if1 .left in
-    (rw (refusal1 (tested1 t), zero, refusal2 t), λ none. absurd (c .if2 .taken none))
+    let t1 = tested1 t in
+    let s = start t1 in
+    let v = s .args in
+    let end =
+    ends-at-two (v .n) (v .pair) (v .number) (lent1 s) (lent2 s) (begun1 t1 .begin .result) _ (begun1 t1 .begin .ensures) (zero1 t)
+    (begun2 t .begin2 .result) _ (begun2 t .begin2 .ensures) (t .refusal-of2 .result) (t .refusal-of2 .ensures) (c .if2 .taken) in
+    (end, ended-right (v .n) (v .pair) (v .number) (lent1 s) (lent2 s) _ _ _ end)
 
 opened-requires : tie.Need-opened-requires
 opened-requires c κs =
     let e = c .before .before .before .before .before .before in
-    let s = start (tested1 (e .before)) in
     let one = ready1 e in
-    let two = ready2 e in (
-      (one .ready, rw (one .state) (s .pre .0)),
-      (
-        (two .ready, rw (two .state) (s .pre .1)),
-        (ap (λ (b : State). b .n) (one .state), ap (λ (b : State). b .n) (two .state)),
-      ),
-    )
+    let two = ready2 e in
+    ((one .ready, two .ready), (ap (λ (b : State). b .n) (one .state), ap (λ (b : State). b .n) (two .state)))
 
 same-length-7 : tie.Need-same-length-7
 same-length-7 c = search needs
@@ -130,14 +132,18 @@ same-length-12 : tie.Need-same-length-12
 same-length-12 c = search needs
 
 returns-3 : tie.Need-returns-3
-unfolding openingRefusal
 returns-3 c =
     let o = c .before .before .before .before .before .before .before .before in
     let e = o .before .before .before .before .before .before .before in
     let t = e .before in
-    let zero = begun2 t .before .before .before .if1 .left in
-    let none = e .if2 .left in
-    (rw (refusal1 (tested1 t), zero, refusal2 t, none), λ unrefused m. rw (o .opened .ensures) (begun-right (ready1 e) (ready2 e) m))
+    let t1 = tested1 t in
+    let s = start t1 in
+    let v = s .args in
+    let end =
+    ends-opened (v .n) (v .pair) (v .number) (lent1 s) (lent2 s) (begun1 t1 .begin .result) _ (begun1 t1 .begin .ensures) (zero1 t)
+    (begun2 t .begin2 .result) _ (begun2 t .begin2 .ensures) (sym (t .refusal-of2 .ensures) ∙ e .if2 .left)
+    (o .opened .result) (o .opened .ensures .0) (o .opened .ensures .1) in
+    (end, ended-right (v .n) (v .pair) (v .number) (lent1 s) (lent2 s) _ _ _ end)
 
 pub less-spec : {M : Type 1} → statement M
 less-spec =

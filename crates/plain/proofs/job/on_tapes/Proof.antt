@@ -1,10 +1,12 @@
 -- `plain::job::on_tapes` meets its contract: the boxes' first refusal, or the right bit.
-use mathlib.Core.Path.{sym, _∙_}
+use Prim.Native.Nat.{ℕ, _≤_}
+use mathlib.Core.Path.{sym, ap, _∙_}
 use native.Mathlib.Nat.{mul-le-mul}
 use native.Mathlib.Omega.{arith}
 use lib.ListN.{replicate}
 use Rattle.tape.proofs.Plains.{plain-dealt}
 use Rattle.protocol.specs.Rounds.{roundWords}
+use Rattle.exchange.specs.Jobs.{Ended, jobOf}
 use Rattle.plain.specs.Printed.{plainLess}
 use Rattle.plain.proofs.Openings.{first-refusal, taken-width}
 use borrow.Author.Needs.{needs}
@@ -29,23 +31,25 @@ slice-aggregate-less-5 c = search needs
 slice-aggregate-less-6 : tie.Need-slice-aggregate-less-6
 slice-aggregate-less-6 c = search needs
 
-less-requires : tie.Need-less-requires
+-- out has room for any width to 13
+room : (n : ℕ) → n ≤ 13 → roundWords n 1 ≤ 513
 unfolding roundWords
-less-requires c κs =
-    let s = c .before .before .before .before .before .before .before .before in
-    let square = mul-le-mul (s .pre .0) (s .pre .0) in
-    (omega (arith, square), omega (arith, square))
+room n most = omega (arith, mul-le-mul most most)
+
+less-requires : tie.Need-less-requires
+less-requires c κs = search needs
 
 returns : tie.Need-returns
-unfolding plainLess
+unfolding jobOf plainLess
 returns c =
     let call = c .before .before .before .before .before .before in
     let s = call .before .before .before .before .before .before .before .before .before in
     let a = s .args in
+    let most = s .pre .0 in
     let refusal =
-    call .less .ensures .0
-    ∙ first-refusal (a .n) (a .one .x) (a .one .y) (a .two .x) (a .two .y) (s .pre .0) (replicate 220 0) (replicate 220 0) (a .t1 .now) (a .t2 .now) (s .pre .1)
-    (omega (arith, s .pre .0)) (omega (arith, s .pre .0)) in (
+    ap (λ (j : Ended). j .refusal) (call .less .ensures .0)
+    ∙ first-refusal (a .n) (a .one) (a .two) (a .t1 .now) (a .t2 .now) (replicate 220 0) (replicate 220 0) (replicate 513 0) (replicate 513 0)
+    most (s .pre .1) (omega (arith, most)) (omega (arith, most)) (room (a .n) most) (room (a .n) most) in (
       refusal,
       λ taken.
           let width = taken-width (a .n) (a .one .x) (a .two .x) (a .one .y) (a .two .y) (sym refusal ∙ taken) in

@@ -1,0 +1,69 @@
+-- A whole job of both boxes: box 1 comes to it and then box 2, and where neither is refused they exchange all six rounds.
+use Prim.Native.Nat.{ℕ, _+_, _%_}
+use mathlib.Core.Bool.{Bool, _&&_, cond}
+use mathlib.Core.List.{List}
+use lib.Dec.{eqb, leb}
+use lib.ListN.{length}
+use Rattle.field.specs.Width.{modulus}
+use Rattle.protocol.specs.Rounds.{roundWords}
+use Rattle.rules.specs.Calls.{Result}
+use Rattle.rules.specs.declared.state.State.{State}
+use Rattle.exchange.specs.declared.Shares.{Shares}
+use Rattle.exchange.specs.declared.Verdict.{Verdict}
+use Rattle.exchange.specs.Opening.{refusalOf, begun}
+use Rattle.exchange.specs.Boxes.{answerOne, answerTwo}
+
+-- a box's shares, and what it is lent for a job
+pub record Lent : Type 0 where
+  pub x : ℕ
+  pub y : ℕ
+  pub tape : List ℕ
+  pub work : List ℕ
+  pub tally : List ℕ
+  pub out : List ℕ
+
+abbrev pub lent : Shares → List ℕ → List ℕ → List ℕ → List ℕ → Lent
+lent own tape work tally out =
+    record { x = own .x; y = own .y; tape = tape; work = work; tally = tally; out = out }
+
+-- the box of that side comes to the job
+abbrev pub comes : ℕ → ℕ → ℕ → ℕ → Lent → Result
+comes n side pair number l = begun n side pair number (l .x) (l .y) (l .tape) (l .work) (l .tally)
+
+-- both outs have room for the longest message, the first
+abbrev pub roomy : ℕ → List ℕ → List ℕ → Bool
+roomy n o1 o2 = leb (roundWords n 1) (length o1) && leb (roundWords n 1) (length o2)
+
+-- the sum of the two answer shares
+abbrev pub answerSum : ℕ → State → State → List ℕ → List ℕ → List ℕ → List ℕ → ℕ
+answerSum n s1 s2 t1 t2 w1 w2 = (answerOne s1 s2 t1 t2 w1 w2 + answerTwo s1 s2 t1 t2 w1 w2) % modulus n
+
+-- the number of the first refusal, 0 where there is none: box 1's wake and start, box 2's, then the first speaks, which want room (12)
+unfoldable pub jobRefusal : ℕ → ℕ → ℕ → Lent → Lent → ℕ
+jobRefusal n pair number one two =
+    let first = refusalOf (comes n 1 pair number one .reply) in
+    let second = refusalOf (comes n 2 pair number two .reply) in
+    cond (eqb first 0) (cond (eqb second 0) (cond (roomy n (one .out) (two .out)) 0 12) second) first
+
+-- what a job gives, and what it leaves in the tallies
+pub record Ended : Type 0 where
+  pub refusal : ℕ
+  pub less : ℕ
+  pub tally1 : List ℕ
+  pub tally2 : List ℕ
+
+abbrev pub ended : Verdict → List ℕ → List ℕ → Ended
+ended v k1 k2 = record { refusal = v .refusal; less = v .less; tally1 = k1; tally2 = k2 }
+
+-- refused, it answers 0; and where box 1 is refused, box 2 does not come to the job
+unfoldable pub jobOf : ℕ → ℕ → ℕ → Lent → Lent → Ended
+jobOf n pair number one two =
+    let a = comes n 1 pair number one in
+    let b = comes n 2 pair number two in
+    let refusal = jobRefusal n pair number one two in
+    record {
+      refusal = refusal;
+      less = cond (eqb refusal 0) (answerSum n (a .state) (b .state) (one .tape) (two .tape) (one .work) (two .work)) 0;
+      tally1 = a .buffer;
+      tally2 = cond (eqb (refusalOf (a .reply)) 0) (b .buffer) (two .tally);
+    }
