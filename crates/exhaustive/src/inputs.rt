@@ -8,10 +8,14 @@ ghost use Prim.Native.Nat.{_*_, _<_, _≤_};
 ghost use lib.ListN.{length};
 ghost use Rattle.field.specs.Width.{listed, modulus};
 ghost use Rattle.tape.specs.Layout.{tapeLength};
+ghost use Rattle.tape.specs.Dealt.{Dealt};
+ghost use Rattle.tape.specs.Plain.{plainTape};
+ghost use Rattle.exhaustive.specs.Inputs.{comparison, agreesAt, rightOf, plainRight};
 
 // The ordinary comparison.
 fn expected(p: u32, one: Shares, two: Shares) -> u32
     requires { ⌜ (p ≤ 31) × (one .x < p) × (one .y < p) × (two .x < p) × (two .y < p) ⌝ }
+    ensures { λ r. ⌜ r ≡ comparison p one two ⌝ }
 {
     let x = (one.x + two.x) % p;
     let y = (one.y + two.y) % p;
@@ -22,6 +26,7 @@ fn expected(p: u32, one: Shares, two: Shares) -> u32
 fn agrees(n: u32, one: Shares, two: Shares, t1: &[u32], t2: &[u32]) -> bool
     requires { ⌜ (listed n ≡ true) × (n ≤ 5) ⌝ }
     requires { ⌜ (one .x < modulus n) × (one .y < modulus n) × (two .x < modulus n) × (two .y < modulus n) ⌝ }
+    ensures { λ r. ⌜ r ≡ agreesAt n one two (now (t1 .entry)) (now (t2 .entry)) ⌝ }
 {
     let mut w1 = [0u32; 124];
     let mut w2 = [0u32; 124];
@@ -53,7 +58,9 @@ fn agrees(n: u32, one: Shares, two: Shares, t1: &[u32], t2: &[u32]) -> bool
 // All y1 and y2, with one pair of tapes.
 fn right_of(n: u32, x1: u32, x2: u32, t1: &[u32], t2: &[u32]) -> u64
     requires { ⌜ (listed n ≡ true) × (n ≤ 5) × (x1 < modulus n) × (x2 < modulus n) ⌝ }
-    ensures { λ r. ⌜ r ≤ modulus n * modulus n ⌝ }
+    ensures { λ r. ⌜ r ≡ rightOf n x1 x2 (now (t1 .entry)) (now (t2 .entry)) ⌝ }
+    ensures most { λ r. ⌜ r ≤ modulus n * modulus n ⌝ }
+    ensures dealt { λ r. ⌜ (Dealt n 7 0 (now (t1 .entry)) (now (t2 .entry)) → r ≡ modulus n * modulus n) ⌝ }
 {
     let p = field::modulus_of(n);
     let mut right: u64 = 0;
@@ -87,17 +94,20 @@ fn with_tapes(
 ) -> Turn
     requires { ⌜ (listed n ≡ true) × (n ≤ 5) × (x1 < modulus n) × (x2 < modulus n) ⌝ }
     requires { ⌜ (length (now t1) ≡ tapeLength n) × (length (now t2) ≡ tapeLength n) ⌝ }
-    ensures { λ r. ⌜ r .right ≤ modulus n * modulus n ⌝ }
+    ensures { λ r. ⌜ r .right ≡ rightOf n x1 x2 (now (t1 .exit)) (now (t2 .exit)) ⌝ }
+    ensures most { λ r. ⌜ r .right ≤ modulus n * modulus n ⌝ }
+    ensures plain { λ r. ⌜ (plain ≡ true → (r .seed ≡ seed) × (now (t1 .exit) ≡ plainTape n 7 1 0) × (now (t2 .exit) ≡ plainTape n 7 2 0)) ⌝ }
 {
     let next = crate::random::pair(n, plain, seed, &mut *t1, &mut *t2);
     let right = right_of(n, x1, x2, &*t1, &*t2);
     Turn { right, seed: next }
 }
 
-// All inputs of a width, p^4 of them: on plain tapes, or on random ones.
+// All inputs of a width, p^4 of them: on plain tapes, where all are right, or on random ones.
 pub fn right(n: u32, plain: bool, t1: &mut [u32], t2: &mut [u32]) -> u64
     requires { ⌜ (listed n ≡ true) × (n ≤ 5) × (length (now t1) ≡ tapeLength n) × (length (now t2) ≡ tapeLength n) ⌝ }
-    ensures { λ r. ⌜ r ≤ modulus n * modulus n * (modulus n * modulus n) ⌝ }
+    ensures { λ r. ⌜ (plain ≡ true → (r ≡ plainRight n) × (r ≡ modulus n * modulus n * (modulus n * modulus n))) ⌝ }
+    ensures most { λ r. ⌜ r ≤ modulus n * modulus n * (modulus n * modulus n) ⌝ }
 {
     let p = field::modulus_of(n);
     let mut seed: u32 = 2463534242;

@@ -1,0 +1,72 @@
+-- Whether the boxes agree with the comparison, from what a job gave; and that on tapes dealt by the rules they do, for every input.
+use Prim.Native.Nat.{ℕ, zero, suc, _+_, _*_, _/_, _%_, _<_, _≤_}
+use mathlib.Core.Path.{_≡_, refl, ap, _∙_}
+use mathlib.Core.Bool.{true, false}
+use mathlib.Core.List.{List}
+use native.Mathlib.Omega.{arith}
+use borrow.Author.Tests.{lt-ltb, eq-eqb, ne-eqb}
+use lib.Dec.{eqb}
+use lib.ListN.{replicate}
+use Rattle.lists.specs.Tabulate.{sum}
+use Rattle.lists.proofs.Tests.{and-both}
+use Rattle.field.specs.Width.{listed, modulus}
+use Rattle.tape.specs.Dealt.{Dealt}
+use Rattle.tape.specs.Plain.{plainTape}
+use Rattle.tape.proofs.Plains.{plain-dealt}
+use Rattle.encoding.specs.Matching.{indicator}
+use Rattle.exchange.specs.declared.Shares.{Shares}
+use Rattle.exchange.specs.declared.Verdict.{Verdict}
+use Rattle.exchange.specs.Jobs.{lent, ended, jobOf, jobRefusal}
+use Rattle.exchange.proofs.Fresh.{share-refusal}
+use Rattle.exchange.proofs.Right.{job-right}
+use Rattle.exhaustive.specs.Inputs.{comparison, jobAt, agreesAt, rightAt, rightOf, plainAt, plainRight}
+use Rattle.exhaustive.proofs.Small.{small, first-below, second-below}
+
+-- ---- from what a job gave
+
+module _ (n : ℕ) (one two : Shares) (t1 t2 : List ℕ) (v : Verdict) (k1 k2 : List ℕ) (e : ended v k1 k2 ≡ jobAt n one two t1 t2) where
+  pub refused-disagrees : (v .refusal ≡ 0 → ⊥) → false ≡ agreesAt n one two t1 t2
+  unfolding agreesAt
+  refused-disagrees some = rw (← e, ne-eqb (v .refusal) 0 some)
+
+  pub taken-agrees : v .refusal ≡ 0 → (less : ℕ) → less ≡ comparison (modulus n) one two → eqb (v .less) less ≡ agreesAt n one two t1 t2
+  unfolding agreesAt
+  taken-agrees none less told = rw (← e, none, ← told)
+
+-- ---- on tapes dealt by the rules
+
+-- a sum of equal terms
+sum-equal : (count : ℕ) (f : ℕ → ℕ) (term : ℕ) → ((i : ℕ) → i < count → f i ≡ term) → sum count f ≡ count * term
+sum-equal zero f term h = omega arith
+sum-equal (suc count) f term h = omega (arith, sum-equal count f term (λ i l. h i (omega arith)), h count (omega arith))
+
+module _ (n : ℕ) (width : listed n ≡ true) (most : n ≤ 5) where
+  module _ (t1 t2 : List ℕ) (m : Dealt n 7 0 t1 t2) where
+    pub dealt-agrees : (one two : Shares) → one .x < modulus n → one .y < modulus n → two .x < modulus n → two .y < modulus n
+        → agreesAt n one two t1 t2 ≡ true
+    unfolding agreesAt jobOf
+    dealt-agrees one two lx1 ly1 lx2 ly2 =
+        let words = small width most refl .words in
+        let own = lent one t1 (replicate 124 0) (replicate 1 255) (replicate 81 0) in
+        let others = lent two t2 (replicate 124 0) (replicate 1 255) (replicate 81 0) in
+        let taken : jobRefusal n 7 0 own others ≡ 0 =
+        share-refusal n 7 one two t1 t2 (replicate 124 0) (replicate 124 0) (replicate 81 0) (replicate 81 0) m (omega (arith, most)) (omega (arith, most)) words words
+        ∙ rw (lt-ltb _ _ lx1, lt-ltb _ _ ly1, lt-ltb _ _ lx2, lt-ltb _ _ ly2) refl in
+        and-both (eq-eqb _ 0 taken) (eq-eqb _ _ (job-right n 7 0 own others taken m))
+
+    pub dealt-all : (x1 x2 : ℕ) → x1 < modulus n → x2 < modulus n → rightOf n x1 x2 t1 t2 ≡ modulus n * modulus n
+    unfolding rightOf
+    dealt-all x1 x2 lx1 lx2 =
+        let p = modulus n in
+        let some = small width most refl .some in
+        sum-equal (p * p) (rightAt p n x1 x2 t1 t2) 1
+        (λ i l. ap indicator (dealt-agrees (record { x = x1; y = i / p }) (record { x = x2; y = i % p }) lx1 (first-below l some) lx2 (second-below i some)))
+        ∙ omega arith
+
+  pub plain-all : plainRight n ≡ modulus n * modulus n * (modulus n * modulus n)
+  unfolding plainRight
+  plain-all =
+      let p = modulus n in
+      let some = small width most refl .some in
+      sum-equal (p * p) (plainAt p n) (p * p)
+      (λ i l. dealt-all (plainTape n 7 1 0) (plainTape n 7 2 0) (plain-dealt n 7 0 width) (i / p) (i % p) (first-below l some) (second-below i some))

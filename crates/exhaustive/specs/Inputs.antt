@@ -1,0 +1,44 @@
+-- What is counted: the inputs for which both boxes take the job and answer as an ordinary comparison does.
+use Prim.Native.Nat.{ℕ, _+_, _*_, _/_, _%_}
+use mathlib.Core.Bool.{Bool, _&&_}
+use mathlib.Core.List.{List}
+use lib.Dec.{eqb, ltb}
+use lib.ListN.{replicate}
+use Rattle.lists.specs.Tabulate.{sum}
+use Rattle.field.specs.Width.{modulus}
+use Rattle.tape.specs.Plain.{plainTape}
+use Rattle.encoding.specs.Matching.{indicator}
+use Rattle.exchange.specs.declared.Shares.{Shares}
+use Rattle.exchange.specs.Jobs.{Ended, lent, jobOf}
+
+-- the ordinary comparison
+abbrev pub comparison : ℕ → Shares → Shares → ℕ
+comparison p one two = indicator (ltb ((one .x + two .x) % p) ((one .y + two .y) % p))
+
+-- the job of those shares and tapes, of pair 7 and tape number 0: each box has one fresh tape, and its work and out hold zeros
+abbrev pub jobAt : ℕ → Shares → Shares → List ℕ → List ℕ → Ended
+jobAt n one two t1 t2 =
+    jobOf n 7 0
+    (lent one t1 (replicate 124 0) (replicate 1 255) (replicate 81 0))
+    (lent two t2 (replicate 124 0) (replicate 1 255) (replicate 81 0))
+
+-- no box refuses it, and its answer is the comparison
+unfoldable pub agreesAt : ℕ → Shares → Shares → List ℕ → List ℕ → Bool
+agreesAt n one two t1 t2 =
+    eqb (jobAt n one two t1 t2 .refusal) 0 && eqb (jobAt n one two t1 t2 .less) (comparison (modulus n) one two)
+
+-- 1 if so for input i of y, whose shares are i / p and i % p
+abbrev pub rightAt : ℕ → ℕ → ℕ → ℕ → List ℕ → List ℕ → ℕ → ℕ
+rightAt p n x1 x2 t1 t2 i = indicator (agreesAt n (record { x = x1; y = i / p }) (record { x = x2; y = i % p }) t1 t2)
+
+-- how many of all y1 and y2, for one x1 and x2
+unfoldable pub rightOf : ℕ → ℕ → ℕ → List ℕ → List ℕ → ℕ
+rightOf n x1 x2 t1 t2 = sum (modulus n * modulus n) (rightAt (modulus n) n x1 x2 t1 t2)
+
+-- the same for input i of x, on the plain tapes
+abbrev pub plainAt : ℕ → ℕ → ℕ → ℕ
+plainAt p n i = rightOf n (i / p) (i % p) (plainTape n 7 1 0) (plainTape n 7 2 0)
+
+-- how many of all x1, x2, y1 and y2, on the plain tapes
+unfoldable pub plainRight : ℕ → ℕ
+plainRight n = sum (modulus n * modulus n) (plainAt (modulus n) n)
