@@ -37,11 +37,16 @@ fn run(n: u32, count: u32, jobs: bool, t1: &mut [u32], t2: &mut [u32])
     dealer::plain(n, 1, 1, 0, &mut *t1);
     dealer::plain(n, 1, 2, 0, &mut *t2);
     if jobs {
-        say(b"jobs: ", work::jobs(n, count, &*t1, &*t2) as u64);
+        let counts = work::jobs(n, count, &*t1, &*t2);
+        say(b"jobs: ", counts.answered as u64);
+        say(b" of ", count as u64);
+        say(b" answered, less in ", counts.less as u64);
+        io::write_all(1, b"\n");
     } else {
         say(b"checks: ", work::checks(n, count, &*t1, &*t2) as u64);
+        say(b" of ", count as u64);
+        io::write_all(1, b" in order\n");
     }
-    io::write_all(1, b"\n");
 }
 
 fn often(n: u32, count: u32, jobs: bool)

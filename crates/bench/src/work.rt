@@ -1,10 +1,13 @@
-// The same work done often. How many turns answered 1 comes back, so that none of it can be left out.
+// The same work done often. What came of the turns is counted, so that none of it can be left out and a refusal shows.
 use exchange::Shares;
+use exchange::Verdict;
 ghost use mathlib.Core.Path.{_≡_};
-ghost use mathlib.Core.Bool.{true};
-ghost use Prim.Native.Nat.{_≤_};
-ghost use lib.ListN.{length};
-ghost use Rattle.field.specs.Width.{listed};
+ghost use Prim.Native.Nat.{_*_};
+ghost use lib.ListN.{replicate};
+ghost use Rattle.lists.specs.Tabulate.{sum};
+ghost use Rattle.tape.specs.Dealt.{Dealt};
+ghost use Rattle.encoding.specs.Matching.{indicator};
+ghost use Rattle.bench.specs.Work.{jobAt, answeredAt, lessAt, bothInOrder};
 
 const PAIR: u32 = 1;
 
@@ -12,29 +15,46 @@ const NUMBER: u32 = 0;
 
 // Zeros for the longest message.
 fn message() -> [u32; 2889]
-    ensures { λ r. ⌜ length r ≡ 2889 ⌝ }
+    ensures { λ r. ⌜ r ≡ replicate 2889 0 ⌝ }
 {
     [0; 2889]
 }
 
-// Whole jobs of both boxes.
-pub fn jobs(n: u32, count: u32, t1: &[u32], t2: &[u32]) -> u32
-    requires { ⌜ listed n ≡ true ⌝ }
-    ensures { λ r. ⌜ r ≤ count ⌝ }
+// A test as a number.
+fn one_if(test: bool) -> u32
+    ensures { λ r. ⌜ r ≡ indicator test ⌝ }
 {
-    let mut result: u32 = 0;
-    let mut i = 0;
-    while i < count {
-        result += job(n, i % 7, t1, t2);
-        i += 1;
-    }
-    result
+    if test { 1 } else { 0 }
 }
 
-// One of them: x = 3 and y + 1 modulo 7, at width 3.
-fn job(n: u32, y: u32, t1: &[u32], t2: &[u32]) -> u32
-    requires { ⌜ listed n ≡ true ⌝ }
-    ensures { λ r. ⌜ r ≤ 1 ⌝ }
+// How many jobs were not refused, and how many answered 1.
+pub struct Counts {
+    pub answered: u32,
+    pub less: u32,
+}
+
+// Whole jobs of both boxes.
+pub fn jobs(n: u32, count: u32, t1: &[u32], t2: &[u32]) -> Counts
+    ensures { λ r. ⌜ (r .answered ≡ sum count (answeredAt n (now (t1 .entry)) (now (t2 .entry))))
+        × (r .less ≡ sum count (lessAt n (now (t1 .entry)) (now (t2 .entry)))) ⌝ }
+    ensures dealt { λ r. ⌜ (Dealt n 1 0 (now (t1 .entry)) (now (t2 .entry)) → r .answered ≡ count) ⌝ }
+{
+    let mut answered: u32 = 0;
+    let mut less: u32 = 0;
+    let mut i = 0;
+    while i < count {
+        let verdict = job(n, i % 7, t1, t2);
+        answered += one_if(verdict.refusal == 0);
+        less += one_if(verdict.less == 1);
+        i += 1;
+    }
+    Counts { answered, less }
+}
+
+// One of them: x = 3 and y + 1.
+fn job(n: u32, y: u32, t1: &[u32], t2: &[u32]) -> Verdict
+    ensures { λ r. ⌜ (r .refusal ≡ jobAt n y (now (t1 .entry)) (now (t2 .entry)) .refusal)
+        × (r .less ≡ jobAt n y (now (t1 .entry)) (now (t2 .entry)) .less) ⌝ }
 {
     let one = Shares { x: 2, y };
     let two = Shares { x: 1, y: 1 };
@@ -44,7 +64,7 @@ fn job(n: u32, y: u32, t1: &[u32], t2: &[u32]) -> u32
     let mut k2 = [255u8; 1];
     let mut o1 = message();
     let mut o2 = message();
-    let r = exchange::less(
+    exchange::less(
         n,
         PAIR,
         NUMBER,
@@ -58,29 +78,31 @@ fn job(n: u32, y: u32, t1: &[u32], t2: &[u32]) -> u32
         &mut k2,
         &mut o1,
         &mut o2,
-    );
-    if r.less == 1 { 1 } else { 0 }
+    )
 }
 
-// Checks of both tapes.
+// Checks of both tapes: how many found both in order.
 pub fn checks(n: u32, count: u32, t1: &[u32], t2: &[u32]) -> u32
-    ensures { λ r. ⌜ r ≤ count ⌝ }
+    ensures { λ r. ⌜ r ≡ count * indicator (bothInOrder n (now (t1 .entry)) (now (t2 .entry))) ⌝ }
 {
     let mut result: u32 = 0;
     let mut i = 0;
     while i < count {
-        result += check(n, i % 2, t1, t2);
+        result += one_if(check(n, i % 2 == 0, t1, t2));
         i += 1;
     }
     result
 }
 
-// One of them. The box that is asked for changes from turn to turn, so that no turn can be taken for another.
-fn check(n: u32, turn: u32, t1: &[u32], t2: &[u32]) -> u32
-    requires { ⌜ turn ≤ 1 ⌝ }
-    ensures { λ r. ⌜ r ≤ 1 ⌝ }
+// One of them. Which box's tape comes first changes from turn to turn, so that no turn can be taken for another.
+fn check(n: u32, even: bool, t1: &[u32], t2: &[u32]) -> bool
+    ensures { λ r. ⌜ r ≡ bothInOrder n (now (t1 .entry)) (now (t2 .entry)) ⌝ }
 {
-    let one = tape::in_order(t1, n, PAIR, 1 + turn, NUMBER);
-    let two = tape::in_order(t2, n, PAIR, 2 - turn, NUMBER);
-    if one == two { 1 } else { 0 }
+    if even {
+        let one = tape::in_order(t1, n, PAIR, 1, NUMBER);
+        one && tape::in_order(t2, n, PAIR, 2, NUMBER)
+    } else {
+        let two = tape::in_order(t2, n, PAIR, 2, NUMBER);
+        two && tape::in_order(t1, n, PAIR, 1, NUMBER)
+    }
 }

@@ -1,5 +1,5 @@
 -- Whether the boxes agree with the comparison, from what a job gave; and that on tapes dealt by the rules they do, for every input.
-use Prim.Native.Nat.{ℕ, zero, suc, _+_, _*_, _/_, _%_, _<_, _≤_}
+use Prim.Native.Nat.{ℕ, _*_, _/_, _%_, _<_, _≤_}
 use mathlib.Core.Path.{_≡_, refl, ap, _∙_}
 use mathlib.Core.Bool.{true, false}
 use mathlib.Core.List.{List}
@@ -7,7 +7,7 @@ use native.Mathlib.Omega.{arith}
 use borrow.Author.Tests.{lt-ltb, eq-eqb, ne-eqb}
 use lib.Dec.{eqb}
 use lib.ListN.{replicate}
-use Rattle.lists.specs.Tabulate.{sum}
+use Rattle.lists.proofs.Sums.{sum-equal}
 use Rattle.lists.proofs.Tests.{and-both}
 use Rattle.field.specs.Width.{listed, modulus}
 use Rattle.tape.specs.Dealt.{Dealt}
@@ -34,11 +34,6 @@ module _ (n : ℕ) (one two : Shares) (t1 t2 : List ℕ) (v : Verdict) (k1 k2 : 
   taken-agrees none less told = rw (← e, none, ← told)
 
 -- ---- on tapes dealt by the rules
-
--- a sum of equal terms
-sum-equal : (count : ℕ) (f : ℕ → ℕ) (term : ℕ) → ((i : ℕ) → i < count → f i ≡ term) → sum count f ≡ count * term
-sum-equal zero f term h = omega arith
-sum-equal (suc count) f term h = omega (arith, sum-equal count f term (λ i l. h i (omega arith)), h count (omega arith))
 
 module _ (n : ℕ) (width : listed n ≡ true) (most : n ≤ 5) where
   module _ (t1 t2 : List ℕ) (m : Dealt n 7 0 t1 t2) where

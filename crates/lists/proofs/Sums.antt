@@ -1,5 +1,5 @@
 -- The laws of sums.
-use Prim.Native.Nat.{ℕ, zero, suc, _+_, _<_, _≤_}
+use Prim.Native.Nat.{ℕ, zero, suc, _+_, _*_, _<_, _≤_}
 use mathlib.Core.Path.{_≡_, refl, ap}
 use native.Mathlib.Numerals.{add-one}
 use native.Mathlib.Omega.{arith}
@@ -8,6 +8,11 @@ use Rattle.lists.specs.Tabulate.{sum}
 pub sum-same : (n : ℕ) (f g : ℕ → ℕ) → ((i : ℕ) → i < n → f i ≡ g i) → sum n f ≡ sum n g
 sum-same zero f g h = refl
 sum-same (suc n) f g h = rw (sum-same n f g (λ i l. h i (omega arith)), h n (omega arith))
+
+-- of equal terms
+pub sum-equal : (n : ℕ) (f : ℕ → ℕ) (term : ℕ) → ((i : ℕ) → i < n → f i ≡ term) → sum n f ≡ n * term
+sum-equal zero f term h = omega arith
+sum-equal (suc n) f term h = omega (arith, sum-equal n f term (λ i l. h i (omega arith)), h n (omega arith))
 
 -- a turn of a loop that adds
 pub sum-more : (n : ℕ) (f : ℕ → ℕ) → sum (n + 1) f ≡ sum n f + f n

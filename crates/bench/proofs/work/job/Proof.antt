@@ -1,7 +1,11 @@
--- `bench::work::job` meets its contract: the longest message has room.
-use native.Mathlib.Omega.{arith}
+-- `bench::work::job` meets its contract: the job is the one that was asked for.
+use mathlib.Core.Path.{_≡_, ap, ap₂, _∙_}
+use mathlib.Core.List.{List}
+use Prim.Native.Nat.{ℕ}
 use borrow.Author.Needs.{needs}
-use Rattle.protocol.proofs.Lengths.{words-most}
+use lib.ListN.{replicate}
+use Rattle.exchange.specs.Jobs.{Ended, lent, jobOf}
+use Rattle.bench.specs.Work.{jobAt}
 use Rattle.bench.proofs.work.job.Statement.{statement}
 use Rattle.bench.proofs.work.job.Tie as tie
 
@@ -30,16 +34,24 @@ slice-aggregate-less-6 : tie.Need-slice-aggregate-less-6
 slice-aggregate-less-6 c = search needs
 
 less-requires : tie.Need-less-requires
-less-requires c κs =
-    let s = c .before .before .before .before .before .before .before .before .before .before in
-    let most = words-most (s .args .n) 1 (s .pre) in
-    (omega (arith, most, c .before .before .before .before .before .before .before .message .ensures), omega (arith, most, c .before .before .before .before .before .before .message2 .ensures))
+less-requires c κs = search needs
 
 returns : tie.Need-returns
-returns c = search needs
-
-returns-2 : tie.Need-returns-2
-returns-2 c = search needs
+unfolding jobAt
+returns c =
+    let call = c .before .before .before .before .before .before in
+    let m = call .before .before .before .before .before .before .before in
+    let a = m .before .before .before .before .args in
+    let told =
+    call .less .ensures .0
+    ∙ ap₂
+    (λ (o1 o2 : List ℕ).
+    jobOf (a .n) 1 0
+    (lent (record { x = 2; y = a .y }) (a .t1 .now) (replicate 436 0) (replicate 1 255) o1)
+    (lent (record { x = 1; y = 1 }) (a .t2 .now) (replicate 436 0) (replicate 1 255) o2))
+    (m .before .message .ensures)
+    (m .message2 .ensures) in
+    (ap (λ (j : Ended). j .refusal) told, ap (λ (j : Ended). j .less) told)
 
 pub job-spec : {M : Type 1} → statement M
 job-spec =
@@ -54,5 +66,4 @@ job-spec =
     slice-aggregate-less-5
     slice-aggregate-less-6
     less-requires
-    returns
-    returns-2)
+    returns)
