@@ -16,9 +16,9 @@ pub struct Five {
     pub numbers: [u32; 5],
 }
 
-struct Number {
-    ok: bool,
-    value: u32,
+pub struct Number {
+    pub ok: bool,
+    pub value: u32,
 }
 
 // The place of the first byte b, and the text's length where there is none.
@@ -73,7 +73,7 @@ fn value_of(part: &[u8]) -> Number
 }
 
 // A number has one digit or more, and no zero in front of others.
-fn number_of(part: &[u8]) -> Number
+pub fn number_of(part: &[u8]) -> Number
     ensures { λ r. ⌜ r .ok ≡ isNumber (now (part .entry)) ⌝ }
     ensures value { λ r. ⌜ (r .ok ≡ true → r .value ≡ valueOf (now (part .entry))) ⌝ }
 {

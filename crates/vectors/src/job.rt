@@ -1,12 +1,21 @@
 // Jobs of both boxes against the words of their files.
 use crate::numbers::Cursor;
 use exchange::Boxes;
+use exchange::Heard;
 use exchange::Shares;
 ghost use mathlib.Core.Path.{_≡_};
 ghost use mathlib.Core.Bool.{true};
-ghost use Prim.Native.Nat.{_+_, _<_, _≤_};
-ghost use lib.ListN.{length};
+ghost use mathlib.Core.List.{[], _∷_, _++_};
+ghost use Prim.Native.Nat.{_≤_};
+ghost use lib.ListN.{length, take};
+ghost use Rattle.protocol.specs.Rounds.{message};
+ghost use Rattle.rules.specs.Answers.{replyOf};
+ghost use Rattle.rules.specs.Calls.{outcome, partyOf};
+ghost use Rattle.exchange.specs.Opening.{shareOf};
+ghost use Rattle.exchange.specs.Boxes.{heardAfter, works};
+ghost use Rattle.vectors.specs.Numbers.{spelled};
 ghost use Rattle.vectors.specs.Due.{Due};
+ghost use Rattle.vectors.specs.Job.{messages, transcript, blankWork, unusedTally, jobTold, tapesTold, agreed, Agreeing};
 
 // How many of a width's jobs agree. The files' names are job-WW-K.txt.
 pub fn agreed_of(w: u64, count: u8) -> u64
@@ -27,8 +36,11 @@ pub fn agreed_of(w: u64, count: u8) -> u64
     agreed
 }
 
-// Whether the file is there and every word of its job is as the boxes give it.
-fn agrees(name: &[u8]) -> bool {
+// Whether the file is there and every word of its job is as the boxes give it. Which text was read cannot be said; true is
+// answered only of one that agrees.
+fn agrees(name: &[u8]) -> bool
+    ensures { λ r. ⌜ (r ≡ true → Agreeing) ⌝ }
+{
     let fd = os::open_read(name);
     if fd < 0 {
         return false;
@@ -47,7 +59,9 @@ fn blank_tape() -> [u32; 9052]
 }
 
 // A text has n, pair and tape number, the shares x1 y1 x2 y2, both tapes, both messages of each round, both answer shares.
-fn run(text: &[u8]) -> bool {
+fn run(text: &[u8]) -> bool
+    ensures { λ r. ⌜ r ≡ agreed (now (text .entry)) ⌝ }
+{
     let mut head = [0u32; 7];
     let c = crate::numbers::fill(text, 0, &mut head);
     if !c.ok {
@@ -72,7 +86,9 @@ fn on_tapes(
     number: u32,
     one: Shares,
     two: Shares,
-) -> bool {
+) -> bool
+    ensures { λ r. ⌜ r ≡ tapesTold (now (text .entry)) from n pair number (one .x) (one .y) (two .x) (two .y) ⌝ }
+{
     if !field::is_listed(n) {
         return false;
     }
@@ -102,14 +118,14 @@ fn on_tapes(
 
 // Zeros to work in, enough for any width.
 fn blank_work() -> [u32; 436]
-    ensures { λ r. ⌜ length r ≡ 436 ⌝ }
+    ensures { λ r. ⌜ (length r ≡ 436) × (r ≡ blankWork) ⌝ }
 {
     [0; 436]
 }
 
 // The tally of a pair of which no tape is used.
 fn unused_tally() -> [u8; 65536]
-    ensures { λ r. ⌜ length r ≡ 65536 ⌝ }
+    ensures { λ r. ⌜ (length r ≡ 65536) × (r ≡ unusedTally) ⌝ }
 {
     [255; 65536]
 }
@@ -125,7 +141,10 @@ fn opened(
     two: Shares,
     t1: &[u32],
     t2: &[u32],
-) -> bool {
+) -> bool
+    ensures { λ r. ⌜ r
+        ≡ jobTold (now (text .entry)) from n pair number (one .x) (one .y) (two .x) (two .y) (now (t1 .entry)) (now (t2 .entry)) ⌝ }
+{
     let mut w1 = blank_work();
     let mut w2 = blank_work();
     let mut k1 = unused_tally();
@@ -146,7 +165,7 @@ fn opened(
     exchanged(text, from, number, boxes, t1, t2, &mut w1, &mut w2)
 }
 
-// All six rounds, each message against the text, then the answer shares, which only the last round gives.
+// All six rounds, each message against the text, then the answer shares, which the last round gives.
 fn exchanged(
     text: &[u8],
     from: usize,
@@ -158,34 +177,40 @@ fn exchanged(
     w2: &mut [u32],
 ) -> bool
     requires { ⌜ Due number 1 (boxes .one) (boxes .two) (now t1) (now t2) (now w1) (now w2) ⌝ }
+    ensures { λ r. ⌜ r
+        ≡ spelled (now (text .entry)) from
+        (transcript (partyOf (boxes .one) (now (t1 .entry))) (partyOf (boxes .two) (now (t2 .entry))) (works (now (w1 .entry)) (now (w2 .entry)))) .ok ⌝ }
 {
     let mut due = boxes;
-    let mut answers = [0u32; 2];
     let mut at = from;
-    let mut round: u32 = 1;
-    while round <= compare::words::LAST_ROUND {
-        let r = compared(text, at, number, round, due, t1, t2, &mut *w1, &mut *w2);
-        if !r.ok {
+    let mut heard: u32 = 0;
+    while heard < 5 {
+        let r = compared(text, at, number, heard + 1, due, t1, t2, &mut *w1, &mut *w2);
+        let c = r.read;
+        if !c.ok {
             return false;
         }
-        at = r.at;
-        answers[0] = r.first;
-        answers[1] = r.second;
-        let next = r.boxes;
-        due = next;
-        round += 1;
+        at = c.at;
+        let both = r.heard;
+        let a = both.one;
+        let b = both.two;
+        let one = a.state;
+        let two = b.state;
+        due = Boxes { one, two };
+        heard += 1;
     }
-    let c = crate::numbers::same(text, at, &answers);
-    c.ok
+    let last = compared(text, at, number, 6, due, t1, t2, w1, w2);
+    let c = last.read;
+    if !c.ok {
+        return false;
+    }
+    answers_same(text, c.at, last.heard)
 }
 
-// After a round: both boxes, the shares of what they answered, how far the text was read, and whether it had both messages.
+// After a round: what both boxes heard, how far the text was read, and whether it had both messages.
 struct Round {
-    boxes: Boxes,
-    first: u32,
-    second: u32,
-    at: usize,
-    ok: bool,
+    heard: Heard,
+    read: Cursor,
 }
 
 // Zeros for the longest message.
@@ -208,40 +233,45 @@ fn compared(
     w2: &mut [u32],
 ) -> Round
     requires { ⌜ Due number round (boxes .one) (boxes .two) (now t1) (now t2) (now w1) (now w2) ⌝ }
-    ensures next { λ r. ⌜ (round < 6 → Due number (round + 1) (r .boxes .one) (r .boxes .two)
-        (now (t1 .entry)) (now (t2 .entry)) (now (w1 .exit)) (now (w2 .exit))) ⌝ }
-    ensures read { λ r. ⌜ (from ≤ r .at) × (from ≤ length (now (text .entry)) → r .at ≤ length (now (text .entry))) ⌝ }
+    ensures read { λ r. ⌜ r .read
+        ≡ spelled (now (text .entry)) from
+        (messages (partyOf (boxes .one) (now (t1 .entry))) (partyOf (boxes .two) (now (t2 .entry))) (works (now (w1 .entry)) (now (w2 .entry))) round) ⌝ }
+    ensures first { λ r. ⌜ outcome (r .heard .one) (now (w1 .exit))
+        ≡ heardAfter (boxes .one) (now (t1 .entry)) (now (w1 .entry)) round (message (partyOf (boxes .two) (now (t2 .entry))) (now (w2 .entry)) round) ⌝ }
+    ensures second { λ r. ⌜ outcome (r .heard .two) (now (w2 .exit))
+        ≡ heardAfter (boxes .two) (now (t2 .entry)) (now (w2 .entry)) round (message (partyOf (boxes .one) (now (t1 .entry))) (now (w1 .entry)) round) ⌝ }
 {
     let mut o1 = blank_words();
     let mut o2 = blank_words();
     let s = boxes.one;
     let words = compare::words::words_of(s.n, round);
     let heard = exchange::round(number, round, boxes, t1, t2, w1, w2, &mut o1, &mut o2);
-    let c = both_same(text, from, words, &o1, &o2);
-    let a = heard.one;
-    let b = heard.two;
-    let first = a.answer;
-    let second = b.answer;
-    let one = a.state;
-    let two = b.state;
-    Round {
-        boxes: Boxes { one, two },
-        first: exchange::share_of(first),
-        second: exchange::share_of(second),
-        at: c.at,
-        ok: c.ok,
-    }
+    let read = both_same(text, from, words, &o1, &o2);
+    Round { heard, read }
 }
 
 // Whether the next numbers are both messages.
 fn both_same(text: &[u8], from: usize, words: usize, o1: &[u32], o2: &[u32]) -> Cursor
     requires { ⌜ (words ≤ length (now o1)) × (words ≤ length (now o2)) ⌝ }
-    ensures { λ r. ⌜ (from ≤ r .at) × (from ≤ length (now (text .entry)) → r .at ≤ length (now (text .entry)))
-        × (r .ok ≡ true → from + words + words ≤ r .at) ⌝ }
+    ensures { λ r. ⌜ r ≡ spelled (now (text .entry)) from (take words (now (o1 .entry)) ++ take words (now (o2 .entry))) ⌝ }
 {
     let c = crate::numbers::same(text, from, &o1[..words]);
     if !c.ok {
         return c;
     }
     crate::numbers::same(text, c.at, &o2[..words])
+}
+
+// Whether the next numbers are the shares of what both boxes answered.
+fn answers_same(text: &[u8], from: usize, heard: Heard) -> bool
+    ensures { λ r. ⌜ r
+        ≡ spelled (now (text .entry)) from (shareOf (replyOf (heard .one .answer)) ∷ shareOf (replyOf (heard .two .answer)) ∷ []) .ok ⌝ }
+{
+    let a = heard.one;
+    let b = heard.two;
+    let first = a.answer;
+    let second = b.answer;
+    let answers = [exchange::share_of(first), exchange::share_of(second)];
+    let c = crate::numbers::same(text, from, &answers);
+    c.ok
 }

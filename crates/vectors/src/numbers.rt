@@ -1,8 +1,9 @@
 // Decimal numbers of a text, one after another.
 ghost use mathlib.Core.Path.{_≡_};
-ghost use mathlib.Core.Bool.{true};
-ghost use Prim.Native.Nat.{_+_, _<_, _≤_};
+ghost use Prim.Native.Nat.{_≤_};
 ghost use lib.ListN.{length};
+ghost use lib.Seq.{sets};
+ghost use Rattle.vectors.specs.Numbers.{isDigit, past, nextAt, numbersFrom, readTo, spelled};
 
 // How far a text was read, and whether it had what was asked.
 pub struct Cursor {
@@ -16,26 +17,20 @@ pub struct Number {
     pub ok: bool,
 }
 
-// A digit's value, and 10 for any other byte.
-fn digit(b: u8) -> u8
-    ensures { λ r. ⌜ r ≤ 10 ⌝ }
+fn is_digit(b: u8) -> bool
+    ensures { λ r. ⌜ r ≡ isDigit b ⌝ }
 {
-    if b < 48 {
-        return 10;
-    }
-    if 57 < b {
-        return 10;
-    }
-    b - 48
+    48 <= b && b <= 57
 }
 
-// The place of the next digit, or the text's end.
-fn skipped(text: &[u8], from: usize) -> usize
-    ensures { λ r. ⌜ (from ≤ r) × (from ≤ length (now (text .entry)) → r ≤ length (now (text .entry))) ⌝ }
+// The place after the bytes from there that are digits, or, for false, are none.
+fn past(text: &[u8], from: usize, digits: bool) -> usize
+    ensures { λ r. ⌜ r ≡ past digits (now (text .entry)) from ⌝ }
+    ensures most { λ r. ⌜ (from ≤ length (now (text .entry)) → r ≤ length (now (text .entry))) ⌝ }
 {
     let mut at = from;
     while at < text.len() {
-        if digit(text[at]) < 10 {
+        if is_digit(text[at]) != digits {
             return at;
         }
         at += 1;
@@ -43,52 +38,46 @@ fn skipped(text: &[u8], from: usize) -> usize
     at
 }
 
-// The next number, past anything that is no digit. It must fit a word. A reading never goes back, nor past the text's end.
+// The next number, past anything that is no digit.
 pub fn next(text: &[u8], from: usize) -> Number
-    ensures { λ r. ⌜ (from ≤ r .at) × (from ≤ length (now (text .entry)) → r .at ≤ length (now (text .entry))) × (r .ok ≡ true → from < r .at) ⌝ }
+    ensures { λ r. ⌜ r ≡ nextAt (now (text .entry)) from ⌝ }
 {
-    let start = skipped(text, from);
-    let mut at = start;
-    let mut value: u64 = 0;
-    while at < text.len() {
-        let d = digit(text[at]);
-        if 9 < d {
-            break;
-        }
-        if 4294967295 < value {
-            break;
-        }
-        value = value * 10 + d as u64;
-        at += 1;
+    let none = Number {
+        value: 0,
+        at: 0,
+        ok: false,
+    };
+    let start = past(text, from, false);
+    if text.len() <= start {
+        return none;
     }
-    if 4294967295 < value {
-        return Number {
-            value: 0,
-            at,
-            ok: false,
-        };
+    let end = past(text, start, true);
+    let part = lines::reading::number_of(&text[start..end]);
+    if !part.ok {
+        return none;
     }
     Number {
-        value: value as u32,
-        at,
-        ok: start < at,
+        value: part.value,
+        at: end,
+        ok: true,
     }
 }
 
-// Fills a slice with the next numbers. Each takes a byte or more.
+// Fills a slice with the next numbers.
 pub fn fill(text: &[u8], from: usize, into: &mut [u32]) -> Cursor
-    ensures { λ r. ⌜ (from ≤ r .at) × (from ≤ length (now (text .entry)) → r .at ≤ length (now (text .entry)))
-        × (r .ok ≡ true → from + length (now (into .entry)) ≤ r .at) ⌝ }
+    ensures { λ r. ⌜ r ≡ readTo (length (now (into .entry))) (now (text .entry)) from ⌝ }
+    ensures filled { λ r. ⌜ now (into .exit)
+        ≡ sets (now (into .entry)) 0 (numbersFrom (length (now (into .entry))) (now (text .entry)) from) ⌝ }
 {
     let mut at = from;
     let mut i = 0;
     while i < into.len() {
         let x = next(text, at);
-        at = x.at;
         if !x.ok {
-            return Cursor { at, ok: false };
+            return Cursor { at: 0, ok: false };
         }
         into[i] = x.value;
+        at = x.at;
         i += 1;
     }
     Cursor { at, ok: true }
@@ -96,20 +85,19 @@ pub fn fill(text: &[u8], from: usize, into: &mut [u32]) -> Cursor
 
 // Whether the next numbers are these words.
 pub fn same(text: &[u8], from: usize, words: &[u32]) -> Cursor
-    ensures { λ r. ⌜ (from ≤ r .at) × (from ≤ length (now (text .entry)) → r .at ≤ length (now (text .entry)))
-        × (r .ok ≡ true → from + length (now (words .entry)) ≤ r .at) ⌝ }
+    ensures { λ r. ⌜ r ≡ spelled (now (text .entry)) from (now (words .entry)) ⌝ }
 {
     let mut at = from;
     let mut i = 0;
     while i < words.len() {
         let x = next(text, at);
-        at = x.at;
         if !x.ok {
-            return Cursor { at, ok: false };
+            return Cursor { at: 0, ok: false };
         }
         if x.value != words[i] {
-            return Cursor { at, ok: false };
+            return Cursor { at: 0, ok: false };
         }
+        at = x.at;
         i += 1;
     }
     Cursor { at, ok: true }

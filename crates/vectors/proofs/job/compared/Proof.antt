@@ -1,15 +1,17 @@
--- `vectors::job::compared` meets its contract: no round has more words than there is room for, and before the last both boxes are ready for the next.
+-- `vectors::job::compared` meets its contract: no round has more words than there is room for, and what stands there is compared.
+use Prim.Native.Nat.{ℕ, _≤_}
 use mathlib.Core.Bool.{true}
-use mathlib.Core.Path.{_≡_, sym, ap, _∙_}
+use mathlib.Core.List.{List, _++_}
+use mathlib.Core.Path.{_≡_, ap, ap₂, _∙_}
 use native.Mathlib.Omega.{arith}
 use borrow.Author.Needs.{needs}
+use lib.ListN.{length, take}
 use Rattle.field.specs.Width.{listed}
-use Rattle.protocol.specs.Products.{Party}
-use Rattle.protocol.specs.Rounds.{message}
-use Rattle.protocol.proofs.Lengths.{words-most}
+use Rattle.protocol.specs.Rounds.{roundWords, message}
+use Rattle.protocol.proofs.Lengths.{words-most, message-front}
 use Rattle.rules.specs.Calls.{partyOf}
 use Rattle.rules.proofs.Ranges.{ranged}
-use Rattle.exchange.proofs.Ready.{heard-next}
+use Rattle.vectors.specs.Numbers.{spelled}
 use Rattle.vectors.proofs.job.compared.Statement.{statement}
 use Rattle.vectors.proofs.job.compared.Tie as tie
 
@@ -27,6 +29,17 @@ width1 c = ranged (start c .args .boxes .one) (start c .pre .one .ranged) .width
 
 width2 : (c : tie.After-s) → listed (start c .args .boxes .two .n) ≡ true
 width2 c = ranged (start c .args .boxes .two) (start c .pre .two .ranged) .width
+
+-- no round has more words than there is room for
+room1 : (w : tie.After-words-of) → let v = start (w .before) .args in roundWords (v .boxes .one .n) (v .round) ≤ length (w .before .before .before .blank-words .result)
+room1 w =
+    let v = start (w .before) .args in
+    omega (arith, words-most (v .boxes .one .n) (v .round) (width1 (w .before)), w .before .before .before .blank-words .ensures)
+
+room2 : (w : tie.After-words-of) → let v = start (w .before) .args in roundWords (v .boxes .two .n) (v .round) ≤ length (w .before .before .blank-words2 .result)
+room2 w =
+    let v = start (w .before) .args in
+    omega (arith, words-most (v .boxes .two .n) (v .round) (width2 (w .before)), w .before .before .blank-words2 .ensures)
 
 blank-words-requires : tie.Need-blank-words-requires
 blank-words-requires c κs = search needs
@@ -47,12 +60,7 @@ round-requires : tie.Need-round-requires
 round-requires c κs =
     let w = c .before .before .before .before in
     let s = start (w .before) in
-    let v = s .args in
-    let most1 = words-most (v .boxes .one .n) (v .round) (width1 (w .before)) in
-    let most2 = words-most (v .boxes .two .n) (v .round) (width2 (w .before)) in
-    let blank1 = w .before .before .before .blank-words .ensures in
-    let blank2 = w .before .before .blank-words2 .ensures in
-    ((s .pre .one, omega (arith, most1, blank1)), ((s .pre .two, omega (arith, most2, blank2)), s .pre .width))
+    ((s .pre .one, room1 w), ((s .pre .two, room2 w), s .pre .width))
 
 slice-aggregate-both-same : tie.Need-slice-aggregate-both-same
 slice-aggregate-both-same c = search needs
@@ -72,37 +80,38 @@ both-same-requires c κs =
     let blank2 = w .before .before .blank-words2 .ensures in
     (omega (arith, most, count, kept .0, blank1), omega (arith, most, count, kept .1 .0, blank2))
 
-share-of-requires : tie.Need-share-of-requires
-share-of-requires c κs = search needs
-
-share-of-requires-2 : tie.Need-share-of-requires-2
-share-of-requires-2 c κs = search needs
-
 same-length : tie.Need-same-length
 same-length c = search needs
 
 same-length-2 : tie.Need-same-length-2
 same-length-2 c = search needs
 
+-- what stands at the front of the two outs
+front : (k : ℕ) {n : ℕ} (l : List ℕ) {out : List ℕ} (m : List ℕ) → k ≡ n → l ≡ out → take n out ≡ m → take k l ≡ m
+front k l m count written there = ap₂ take count written ∙ there
+
+front1 : (r : tie.After-round) → let w = worded r in let v = start (w .before) .args in
+    take (w .words-of .result) (r .round .last .1 .1 .1 .1 .1 .1 .1 .0) ≡ message (partyOf (v .boxes .one) (v .t1 .now)) (v .w1 .now) (v .round)
+front1 r =
+    let w = worded r in
+    let v = start (w .before) .args in
+    front (w .words-of .result) _ _ (w .words-of .ensures) (r .round .ensures .0 .0) (message-front (partyOf (v .boxes .one) (v .t1 .now)) (v .w1 .now) _ (v .round) (room1 w))
+
+front2 : (r : tie.After-round) → let w = worded r in let v = start (w .before) .args in
+    take (w .words-of .result) (r .round .last .1 .1 .1 .1 .1 .1 .1 .1 .0) ≡ message (partyOf (v .boxes .two) (v .t2 .now)) (v .w2 .now) (v .round)
+front2 r =
+    let w = worded r in
+    let s = start (w .before) in
+    let v = s .args in
+    let count : w .words-of .result ≡ roundWords (v .boxes .two .n) (v .round) = w .words-of .ensures ∙ ap (λ (n : ℕ). roundWords n (v .round)) (s .pre .width) in
+    front (w .words-of .result) _ _ count (r .round .ensures .1 .0) (message-front (partyOf (v .boxes .two) (v .t2 .now)) (v .w2 .now) _ (v .round) (room2 w))
+
 returns : tie.Need-returns
 returns c =
-    let b = c .before .before .before .before .before .before in
-    let r = rounded (b .before) in
-    let s = start (worded r .before) in
-    let v = s .args in
-    let said1 = message (partyOf (v .boxes .one) (v .t1 .now)) (v .w1 .now) (v .round) in
-    let said2 = message (partyOf (v .boxes .two) (v .t2 .now)) (v .w2 .now) (v .round) in
-    let read = b .both-same .ensures in (
-      λ more.
-          let next1 = heard-next (v .boxes .one) (v .number) (v .round) (v .t1 .now) (v .w1 .now) (s .pre .one)
-          said2 (r .round .result .one) _ more (r .round .ensures .0 .1) in
-          let next2 = heard-next (v .boxes .two) (v .number) (v .round) (v .t2 .now) (v .w2 .now) (s .pre .two)
-          said1 (r .round .result .two) _ more (r .round .ensures .1 .1) in
-          let n1 = ap (λ (p : Party). p .n) (next1 .same) in
-          let n2 = ap (λ (p : Party). p .n) (next2 .same) in
-          record { one = next1 .ready; two = next2 .ready; width = n1 ∙ s .pre .width ∙ sym n2 },
-      (read .0, read .1),
-    )
+    let r = rounded (c .before) in
+    let v = start (worded r .before) .args in
+    let both = ap₂ (λ (x y : List ℕ). spelled (v .text .now) (v .from) (x ++ y)) (front1 r) (front2 r) in
+    (c .both-same .ensures ∙ both, (r .round .ensures .0 .1, r .round .ensures .1 .1))
 
 pub compared-spec : {M : Type 1} → statement M
 compared-spec =
@@ -117,8 +126,6 @@ compared-spec =
     slice-aggregate-both-same
     slice-aggregate-both-same-2
     both-same-requires
-    share-of-requires
-    share-of-requires-2
     same-length
     same-length-2
     returns)

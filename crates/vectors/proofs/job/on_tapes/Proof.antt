@@ -1,17 +1,25 @@
--- `vectors::job::on_tapes` is safe: a tape of any listed width fits.
+-- `vectors::job::on_tapes` meets its contract: a tape of any listed width fits, and what was read stands at its front.
 use Prim.Native.Nat.{ℕ, _≤_}
 use mathlib.Core.Bool.{true}
 use mathlib.Core.List.{List, _++_}
-use mathlib.Core.Path.{_≡_, sym, _∙_}
+use mathlib.Core.Path.{_≡_, sym, ap, ap₂, _∙_}
 use native.Mathlib.Omega.{arith}
 use borrow.Author.Needs.{needs}
-use borrow.Author.Tests.{not-false}
+use borrow.Author.Tests.{not-true, not-false}
 use lib.ListN.{length, take, drop, length-append}
 use lib.Seq.{length-take-le}
 use Rattle.field.specs.Width.{listed}
+use Rattle.tape.specs.Layout.{tapeLength}
 use Rattle.tape.proofs.Sizes.{small}
+use Rattle.vectors.specs.Numbers.{numbersFrom, readTo}
+use Rattle.vectors.specs.Job.{jobTold}
+use Rattle.vectors.proofs.Readings.{filled-front}
+use Rattle.vectors.proofs.Jobs.{tapes-unlisted, tapes-first, tapes-second, tapes-told}
 use Rattle.vectors.proofs.job.on_tapes.Statement.{statement}
 use Rattle.vectors.proofs.job.on_tapes.Tie as tie
+
+abbrev listed1 : tie.After-fill → tie.Else1
+listed1 f = f .before .before .before .before .before
 
 width : (c : tie.Else1) → listed (c .before .before .before .args .n) ≡ true
 width c = sym (c .before .is-listed .ensures) ∙ not-false _ (c .if1 .left)
@@ -37,11 +45,31 @@ fits2 b =
 front-fits : (n : ℕ) (l front : List ℕ) → n ≤ length l → length front ≡ length (take n l) → n ≤ length (front ++ drop n l)
 front-fits n l front fits kept = omega (arith, length-append front (drop n l), length-take-le n l fits)
 
+-- what read each tape, and what its front holds then
+read1 : (f : tie.After-fill) → let v = listed1 f .before .before .before .args in f .fill .result ≡ readTo (tapeLength (v .n)) (v .text .now) (v .from)
+read1 f =
+    let b = f .before .before in
+    let v = listed1 f .before .before .before .args in
+    let long = length-take-le _ _ (fits1 b) ∙ b .before .before .tape-words .ensures in
+    f .fill .ensures .0 ∙ ap (λ (k : ℕ). readTo k (v .text .now) (v .from)) long
+
+read2 : (g : tie.After-fill2) → let f = filled1 g in let v = listed1 f .before .before .before .args in
+    g .fill2 .result ≡ readTo (tapeLength (v .n)) (v .text .now) (f .fill .result .at)
+read2 g =
+    let f = filled1 g in
+    let b = f .before .before in
+    let v = listed1 f .before .before .before .args in
+    let long = length-take-le _ _ (fits2 b) ∙ b .before .before .tape-words .ensures in
+    g .fill2 .ensures .0 ∙ ap (λ (k : ℕ). readTo k (v .text .now) (f .fill .result .at)) long
+
 is-listed-requires : tie.Need-is-listed-requires
 is-listed-requires c κs = search needs
 
 returns : tie.Need-returns
-returns c = search needs
+returns c =
+    let v = c .before .before .before .args in
+    tapes-unlisted (v .text .now) (v .from) (v .n) (v .pair) (v .number) (v .one .x) (v .one .y) (v .two .x) (v .two .y)
+    (sym (c .before .is-listed .ensures) ∙ not-true _ (c .if1 .taken))
 
 tape-words-requires : tie.Need-tape-words-requires
 tape-words-requires c κs = width c
@@ -62,7 +90,11 @@ fill-requires : tie.Need-fill-requires
 fill-requires c κs = search needs
 
 returns-2 : tie.Need-returns-2
-returns-2 c = search needs
+returns-2 c =
+    let f = c .before .before .before in
+    let v = listed1 f .before .before .before .args in
+    tapes-first (v .text .now) (v .from) (v .n) (v .pair) (v .number) (v .one .x) (v .one .y) (v .two .x) (v .two .y)
+    (f .fill .result) (read1 f) (not-true _ (c .if2 .taken))
 
 array-borrow-prefix-t2 : tie.Need-array-borrow-prefix-t2
 array-borrow-prefix-t2 c = fits2 (c .before .before .before .before .before)
@@ -74,7 +106,12 @@ fill-requires-2 : tie.Need-fill-requires-2
 fill-requires-2 c κs = search needs
 
 returns-3 : tie.Need-returns-3
-returns-3 c = search needs
+returns-3 c =
+    let g = c .before .before .before in
+    let f = filled1 g in
+    let v = listed1 f .before .before .before .args in
+    tapes-second (v .text .now) (v .from) (v .n) (v .pair) (v .number) (v .one .x) (v .one .y) (v .two .x) (v .two .y)
+    (f .fill .result) (read1 f) (g .fill2 .result) (read2 g) (not-true _ (c .if3 .taken))
 
 array-share-prefix-t1 : tie.Need-array-share-prefix-t1
 array-share-prefix-t1 c =
@@ -96,7 +133,24 @@ opened-requires : tie.Need-opened-requires
 opened-requires c κs = search needs
 
 returns-4 : tie.Need-returns-4
-returns-4 c = search needs
+returns-4 c =
+    let e = c .before .before .before in
+    let g = filled2 e in
+    let f = filled1 g in
+    let b = f .before .before in
+    let l = listed1 f in
+    let v = l .before .before .before .args in
+    let ok1 = not-false (f .fill .result .ok) (g .before .before .if2 .left) in
+    let ok2 = not-false (g .fill2 .result .ok) (e .if3 .left) in
+    let count = b .before .before .tape-words .ensures in
+    let t1 = filled-front (v .text .now) (v .from) _ _ (f .fill .last .1 .1 .0) (f .fill .result) (fits1 b) (f .fill .ensures .0) ok1 (f .fill .ensures .1) in
+    let t2 = filled-front (v .text .now) (f .fill .result .at) _ _ (g .fill2 .last .1 .1 .0) (g .fill2 .result) (fits2 b) (g .fill2 .ensures .0) ok2 (g .fill2 .ensures .1) in
+    let one = t1 ∙ ap (λ (k : ℕ). numbersFrom k (v .text .now) (v .from)) count in
+    let two = t2 ∙ ap (λ (k : ℕ). numbersFrom k (v .text .now) (f .fill .result .at)) count in
+    c .opened .ensures
+    ∙ ap₂ (λ (s t : List ℕ). jobTold (v .text .now) (g .fill2 .result .at) (v .n) (v .pair) (v .number) (v .one .x) (v .one .y) (v .two .x) (v .two .y) s t) one two
+    ∙ tapes-told (v .text .now) (v .from) (v .n) (v .pair) (v .number) (v .one .x) (v .one .y) (v .two .x) (v .two .y)
+    (f .fill .result) (read1 f) (g .fill2 .result) (read2 g) (width l) ok1 ok2
 
 pub on-tapes-spec : {M : Type 1} → statement M
 on-tapes-spec =

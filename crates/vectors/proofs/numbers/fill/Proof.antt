@@ -1,22 +1,30 @@
--- `vectors::numbers::fill` meets its contract: the slice keeps its length, and each turn fills one place with a number of a byte or more.
-use Prim.Native.Nat.{_-_, _+_, _≤_}
-use mathlib.Core.Bool.{false≢true}
-use mathlib.Core.Path.{_≡_, refl}
+-- `vectors::numbers::fill` meets its contract: what is left to read decides, and goes to the places that are left.
+use Prim.Native.Nat.{_-_, _<_, _≤_}
+use mathlib.Core.Path.{_≡_, refl, sym, _∙_}
 use native.Mathlib.Omega.{arith}
 use borrow.Author.Needs.{needs}
-use borrow.Author.Tests.{not-false}
+use borrow.Author.Tests.{not-true, not-false}
 use lib.ListN.{length}
+use lib.Seq.{sets}
+use Rattle.vectors.specs.Numbers.{numbersFrom, readTo}
+use Rattle.vectors.proofs.Readings.{fill-next, fill-none, fill-end, read-next, read-none, read-end}
 use Rattle.vectors.proofs.numbers.fill.Statement.{statement}
 use Rattle.vectors.proofs.numbers.fill.Tie as tie
 
 abbrev Inv-loop : tie.InvT-loop
-Inv-loop text from into₀ at₀ i₀ into at i = (length into ≡ length into₀) × (from + i ≤ at) × (from ≤ length text → at ≤ length text)
+Inv-loop text from into₀ at₀ i₀ into at i =
+    (length into ≡ length into₀)
+    × (readTo (length into₀) text from ≡ readTo (length into₀ - i) text at)
+    × (sets into₀ 0 (numbersFrom (length into₀) text from) ≡ sets into i (numbersFrom (length into₀ - i) text at))
 
 abbrev μ-loop : tie.MeasureT-loop
 μ-loop text from into₀ at₀ i₀ into at i = length into₀ - i
 
 loop-holds : tie.Need-loop-holds Inv-loop μ-loop
-loop-holds c = (refl, omega arith, λ h. h)
+loop-holds c =
+    let n = length (c .before .before .args .into .now) in
+    let all : n - 0 ≡ n = omega arith in
+    (refl, rw all, rw all)
 
 next-requires : tie.Need-next-requires Inv-loop μ-loop
 next-requires c κs = search needs
@@ -26,9 +34,15 @@ same-length c = search needs
 
 returns : tie.Need-returns Inv-loop μ-loop
 returns c =
-    let x = c .before .before .next .ensures in
-    let inv = c .before .before .before .before .loop .inv in
-    (omega (arith, x .0, inv .1), λ h. x .1 (inv .2 h), λ e. absurd (false≢true e))
+    let x = c .before .before in
+    let l = x .before .before in
+    let a = l .before .before .before .args in
+    let n = length (a .into .now) in
+    let less : l .loop .i < n = omega (arith, l .loop .inv .0, x .before .loop-test .taken) in
+    let none = not-true (x .next .result .ok) (c .if1 .taken) in (
+      sym (l .loop .inv .1 ∙ read-none (a .text .now) (l .loop .at) (x .next .result) (x .next .ensures) n (l .loop .i) less none),
+      sym (l .loop .inv .2 ∙ fill-none (a .text .now) (l .loop .at) (x .next .result) (x .next .ensures) n (l .loop .i) less (l .loop .into) none),
+    )
 
 mul-into : tie.Need-mul-into Inv-loop μ-loop
 mul-into c = search needs
@@ -44,17 +58,29 @@ loop-less c = search needs
 
 loop-again : tie.Need-loop-again Inv-loop μ-loop
 loop-again c =
-    let x = c .before .before .next .ensures in
-    let inv = c .before .before .before .before .loop .inv in
-    (search needs, omega (arith, inv .1, x .2 (not-false _ (c .if1 .left))), λ h. x .1 (inv .2 h))
+    let x = c .before .before in
+    let l = x .before .before in
+    let a = l .before .before .before .args in
+    let n = length (a .into .now) in
+    let less : l .loop .i < n = omega (arith, l .loop .inv .0, x .before .loop-test .taken) in
+    let ok = not-false (x .next .result .ok) (c .if1 .left) in (
+      search needs,
+      l .loop .inv .1 ∙ read-next (a .text .now) (l .loop .at) (x .next .result) (x .next .ensures) n (l .loop .i) less ok,
+      l .loop .inv .2 ∙ fill-next (a .text .now) (l .loop .at) (x .next .result) (x .next .ensures) n (l .loop .i) less (l .loop .into) ok,
+    )
 
 same-length-2 : tie.Need-same-length-2 Inv-loop μ-loop
 same-length-2 c = search needs
 
 returns-2 : tie.Need-returns-2 Inv-loop μ-loop
 returns-2 c =
-    let inv = c .before .loop .inv in
-    (omega (arith, inv .1), inv .2, λ e. search needs)
+    let l = c .before in
+    let a = l .before .before .before .args in
+    let n = length (a .into .now) in
+    let end : n ≤ l .loop .i = omega (arith, l .loop .inv .0, c .loop-test .left) in (
+      sym (l .loop .inv .1 ∙ read-end (a .text .now) (l .loop .at) n (l .loop .i) end),
+      sym (l .loop .inv .2 ∙ fill-end (a .text .now) (l .loop .at) n (l .loop .i) end (l .loop .into)),
+    )
 
 pub fill-spec : {M : Type 1} → statement M
 fill-spec =

@@ -1,0 +1,79 @@
+-- When a text tells a job, by what was found of it.
+use Prim.Native.Nat.{ℕ}
+use mathlib.Core.Path.{_≡_, sym, ap, _∙_}
+use mathlib.Core.Bool.{true, false, _&&_}
+use mathlib.Core.List.{List}
+use lib.Dec.{eqb}
+use lib.ListN.{getD}
+use Rattle.lists.proofs.Tests.{and-false}
+use Rattle.field.specs.Width.{listed}
+use Rattle.tape.specs.Layout.{tapeLength}
+use Rattle.protocol.specs.Products.{Party, party}
+use Rattle.rules.specs.Answers.{replyOf}
+use Rattle.rules.specs.Calls.{Result, outcome}
+use Rattle.rules.specs.declared.state.Outcome.{Outcome}
+use Rattle.exchange.specs.Opening.{refusalOf, begun}
+use Rattle.exchange.specs.Boxes.{works}
+use Rattle.vectors.specs.declared.numbers.Cursor.{Cursor}
+use Rattle.vectors.specs.Numbers.{numbersFrom, readTo, spelled}
+use Rattle.vectors.specs.Job.{transcript, blankWork, unusedTally, comes, jobTold, tapesTold, agreed}
+
+-- a box that came to the job, with the number of its refusal
+pub begun-comes : (n side pair number x y : ℕ) (tape work tally : List ℕ) (a : Outcome) (tally′ : List ℕ) (k : ℕ)
+    → work ≡ blankWork → tally ≡ unusedTally → outcome a tally′ ≡ begun n side pair number x y tape work tally
+    → k ≡ refusalOf (replyOf (a .answer)) → comes n side pair number x y tape ≡ eqb k 0
+begun-comes n side pair number x y tape work tally a tally′ k w t e refusal =
+    let same : begun n side pair number x y tape work tally ≡ begun n side pair number x y tape blankWork unusedTally = rw (w, t) in
+    ap (λ (j : ℕ). eqb j 0) (sym (refusal ∙ ap (λ (r : Result). refusalOf (r .reply)) (e ∙ same)))
+
+-- of the same boxes and work
+pub told-same : (text : List ℕ) (from : ℕ) {p q b c : Party} {w1 w2 v1 v2 : List ℕ} → p ≡ b → q ≡ c → w1 ≡ v1 → w2 ≡ v2
+    → spelled text from (transcript p q (works w1 w2)) .ok ≡ spelled text from (transcript b c (works v1 v2)) .ok
+told-same text from one two first second = rw (one, two, first, second)
+
+module _ (text : List ℕ) (from n pair number x1 y1 x2 y2 : ℕ) where
+  module _ (t1 t2 : List ℕ) where
+    pub job-first : comes n 1 pair number x1 y1 t1 ≡ false → false ≡ jobTold text from n pair number x1 y1 x2 y2 t1 t2
+    unfolding jobTold
+    job-first e = rw e
+
+    pub job-second : comes n 2 pair number x2 y2 t2 ≡ false → false ≡ jobTold text from n pair number x1 y1 x2 y2 t1 t2
+    unfolding jobTold
+    job-second e = rw (and-false (comes n 1 pair number x1 y1 t1) e)
+
+    pub job-told : comes n 1 pair number x1 y1 t1 ≡ true → comes n 2 pair number x2 y2 t2 ≡ true
+        → spelled text from (transcript (party n 1 x1 y1 t1) (party n 2 x2 y2 t2) (works blankWork blankWork)) .ok ≡ jobTold text from n pair number x1 y1 x2 y2 t1 t2
+    unfolding jobTold
+    job-told one two = rw (one, two)
+
+  pub tapes-unlisted : listed n ≡ false → false ≡ tapesTold text from n pair number x1 y1 x2 y2
+  unfolding tapesTold
+  tapes-unlisted e = rw e
+
+  -- c and d read the two tapes
+  module _ (c : Cursor) (first : c ≡ readTo (tapeLength n) text from) where
+    pub tapes-first : c .ok ≡ false → false ≡ tapesTold text from n pair number x1 y1 x2 y2
+    unfolding tapesTold
+    tapes-first e = rw (← first, and-false (listed n) e)
+
+    module _ (d : Cursor) (second : d ≡ readTo (tapeLength n) text (c .at)) where
+      pub tapes-second : d .ok ≡ false → false ≡ tapesTold text from n pair number x1 y1 x2 y2
+      unfolding tapesTold
+      tapes-second e = rw (← first, ← second, and-false (listed n && c .ok) e)
+
+      pub tapes-told : listed n ≡ true → c .ok ≡ true → d .ok ≡ true
+          → jobTold text (d .at) n pair number x1 y1 x2 y2 (numbersFrom (tapeLength n) text from) (numbersFrom (tapeLength n) text (c .at))
+          ≡ tapesTold text from n pair number x1 y1 x2 y2
+      unfolding tapesTold
+      tapes-told width one two = rw (← first, ← second, width, one, two)
+
+-- c read the seven numbers at the front
+module _ (text : List ℕ) (c : Cursor) (head : c ≡ readTo 7 text 0) where
+  pub agreed-none : c .ok ≡ false → false ≡ agreed text
+  unfolding agreed
+  agreed-none e = rw (← head, e)
+
+  pub agreed-told : c .ok ≡ true → (h : List ℕ) → h ≡ numbersFrom 7 text 0
+      → tapesTold text (c .at) (getD h 0 0) (getD h 1 0) (getD h 2 0) (getD h 3 0) (getD h 4 0) (getD h 5 0) (getD h 6 0) ≡ agreed text
+  unfolding agreed
+  agreed-told ok h e = rw (← head, ok, e)

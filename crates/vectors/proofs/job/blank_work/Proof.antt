@@ -1,0 +1,12 @@
+-- `vectors::job::blank_work` meets its contract.
+use mathlib.Core.Path.{refl}
+use Rattle.vectors.specs.Job.{blankWork}
+use Rattle.vectors.proofs.job.blank_work.Statement.{statement}
+use Rattle.vectors.proofs.job.blank_work.Tie as tie
+
+returns : tie.Need-returns
+unfolding blankWork
+returns c = (refl, refl)
+
+pub blank-work-spec : {M : Type 1} → statement M
+blank-work-spec = tie.close (tie.spec returns)

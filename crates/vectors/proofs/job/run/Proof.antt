@@ -1,0 +1,71 @@
+-- `vectors::job::run` meets its contract: the seven numbers at the front are read, and the rest is told by them.
+use mathlib.Core.Path.{_∙_}
+use borrow.Author.Needs.{needs}
+use borrow.Author.Tests.{not-true, not-false}
+use lib.ListN.{replicate}
+use Rattle.vectors.proofs.Readings.{filled}
+use Rattle.vectors.proofs.Jobs.{agreed-none, agreed-told}
+use Rattle.vectors.proofs.job.run.Statement.{statement}
+use Rattle.vectors.proofs.job.run.Tie as tie
+
+slice-aggregate-fill : tie.Need-slice-aggregate-fill
+slice-aggregate-fill c = search needs
+
+fill-requires : tie.Need-fill-requires
+fill-requires c κs = search needs
+
+returns : tie.Need-returns
+returns c =
+    let f = c .before .before .before in
+    let v = f .before .before .before .args in
+    agreed-none (v .text .now) (f .fill .result) (f .fill .ensures .0) (not-true _ (c .if1 .taken))
+
+array-read-on-tapes : tie.Need-array-read-on-tapes
+array-read-on-tapes c = search needs
+
+array-read-on-tapes-2 : tie.Need-array-read-on-tapes-2
+array-read-on-tapes-2 c = search needs
+
+array-read-on-tapes-3 : tie.Need-array-read-on-tapes-3
+array-read-on-tapes-3 c = search needs
+
+array-read-on-tapes-4 : tie.Need-array-read-on-tapes-4
+array-read-on-tapes-4 c = search needs
+
+array-read-on-tapes-5 : tie.Need-array-read-on-tapes-5
+array-read-on-tapes-5 c = search needs
+
+array-read-on-tapes-6 : tie.Need-array-read-on-tapes-6
+array-read-on-tapes-6 c = search needs
+
+array-read-on-tapes-7 : tie.Need-array-read-on-tapes-7
+array-read-on-tapes-7 c = search needs
+
+on-tapes-requires : tie.Need-on-tapes-requires
+on-tapes-requires c κs = search needs
+
+returns-2 : tie.Need-returns-2
+returns-2 c =
+    let e = c .before in
+    let f = e .before .before .before in
+    let v = f .before .before .before .args in
+    let ok = not-false (f .fill .result .ok) (e .if1 .left) in
+    let head = f .fill .ensures .1 ∙ filled (v .text .now) 0 (replicate 7 0) (f .fill .result) (f .fill .ensures .0) ok in
+    c .on-tapes .ensures ∙ agreed-told (v .text .now) (f .fill .result) (f .fill .ensures .0) ok _ head
+
+pub run-spec : {M : Type 1} → statement M
+run-spec =
+    tie.close
+    (tie.spec
+    slice-aggregate-fill
+    fill-requires
+    returns
+    array-read-on-tapes
+    array-read-on-tapes-2
+    array-read-on-tapes-3
+    array-read-on-tapes-4
+    array-read-on-tapes-5
+    array-read-on-tapes-6
+    array-read-on-tapes-7
+    on-tapes-requires
+    returns-2)

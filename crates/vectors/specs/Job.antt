@@ -1,0 +1,67 @@
+-- What a text must say of a job: its numbers are the job's, then all that both boxes send, then their answer shares.
+use Prim.Native.Nat.{ℕ, zero, suc}
+use mathlib.Core.Path.{_≡_}
+use mathlib.Core.Bool.{Bool, true, _&&_}
+use mathlib.Core.List.{List, [], _∷_, _++_}
+use lib.Dec.{eqb}
+use lib.ListN.{getD, replicate}
+use Rattle.field.specs.Width.{listed}
+use Rattle.tape.specs.Layout.{tapeLength}
+use Rattle.protocol.specs.Products.{Party, party}
+use Rattle.protocol.specs.Rounds.{message}
+use Rattle.protocol.specs.Exchange.{Both, exchanged, answerOwn, answerOthers}
+use Rattle.exchange.specs.Opening.{refusalOf, begun}
+use Rattle.exchange.specs.Boxes.{works}
+use Rattle.vectors.specs.Numbers.{numbersFrom, readTo, spelled}
+
+-- both messages of a round, box 1's first
+abbrev pub messages : Party → Party → Both → ℕ → List ℕ
+messages b c w round = message b (w .own) round ++ message c (w .others) round
+
+-- those of the first so many rounds
+unfoldable pub messagesTo : Party → Party → Both → ℕ → List ℕ
+messagesTo b c w zero = []
+messagesTo b c w (suc r) = messagesTo b c w r ++ messages b c (exchanged b c w r) (suc r)
+
+-- all six rounds, then both answer shares
+abbrev pub transcript : Party → Party → Both → List ℕ
+transcript b c w = messagesTo b c w 6 ++ (answerOwn b c w ∷ answerOthers b c w ∷ [])
+
+-- zeros to work in, and a tally of which no tape is used
+unfoldable pub blankWork : List ℕ
+blankWork = replicate 436 0
+
+unfoldable pub unusedTally : List ℕ
+unusedTally = replicate 65536 255
+
+-- a box comes to the job and is not refused
+abbrev pub comes : ℕ → ℕ → ℕ → ℕ → ℕ → ℕ → List ℕ → Bool
+comes n side pair number x y tape = eqb (refusalOf (begun n side pair number x y tape blankWork unusedTally .reply)) 0
+
+-- both do, and the text goes on with what they send and answer
+unfoldable pub jobTold : List ℕ → ℕ → ℕ → ℕ → ℕ → ℕ → ℕ → ℕ → ℕ → List ℕ → List ℕ → Bool
+jobTold text from n pair number x1 y1 x2 y2 t1 t2 =
+    comes n 1 pair number x1 y1 t1
+    && comes n 2 pair number x2 y2 t2
+    && spelled text from (transcript (party n 1 x1 y1 t1) (party n 2 x2 y2 t2) (works blankWork blankWork)) .ok
+
+-- the text goes on with box 1's tape, box 2's tape, and the job on them
+unfoldable pub tapesTold : List ℕ → ℕ → ℕ → ℕ → ℕ → ℕ → ℕ → ℕ → ℕ → Bool
+tapesTold text from n pair number x1 y1 x2 y2 =
+    let first = readTo (tapeLength n) text from in
+    let second = readTo (tapeLength n) text (first .at) in
+    let t1 = numbersFrom (tapeLength n) text from in
+    let t2 = numbersFrom (tapeLength n) text (first .at) in
+    listed n && first .ok && second .ok && jobTold text (second .at) n pair number x1 y1 x2 y2 t1 t2
+
+-- a text has n, pair and tape number, the shares x1 y1 x2 y2, both tapes, both messages of each round, both answer shares
+unfoldable pub agreed : List ℕ → Bool
+agreed text =
+    let head = readTo 7 text 0 in
+    let h = numbersFrom 7 text 0 in
+    head .ok && tapesTold text (head .at) (getD h 0 0) (getD h 1 0) (getD h 2 0) (getD h 3 0) (getD h 4 0) (getD h 5 0) (getD h 6 0)
+
+-- there is a text that agrees
+pub record Agreeing : Type 0 where
+  pub text : List ℕ
+  pub agrees : agreed text ≡ true
