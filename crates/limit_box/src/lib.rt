@@ -16,7 +16,8 @@ mod modes;
 pub mod numbers;
 mod tally;
 
-// Counts the fresh tapes, and keeps the width, the side, the pair and the tally's length.
+// Counts the fresh tapes, and keeps the width, the side, the pair and the tally's length. The tally is lent for reading only, so it cannot
+// change: the contract's buffer is the tally at entry.
 pub fn wake(state: State, n: u32, side: u32, pair: u32, tally: &[u8]) -> Outcome
     ensures { λ r. ⌜ outcome r (now (tally .entry)) ≡ wakeRule state n side pair (now (tally .entry)) ⌝ }
 {

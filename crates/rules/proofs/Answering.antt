@@ -1,79 +1,31 @@
--- Demand 1 over the rules, proved. A call's result is `unless` over its ground, so most of it is said once for the five.
+-- Demand 1 over the rules, proved: from what is refused (Refusals), what a call that goes on was given (Passed), and its moves (Moves).
 use Prim.Native.Nat.{ℕ, _<_, _≤_}
 use mathlib.Core.Path.{_≡_, refl, sym, ap, _∙_}
-use mathlib.Core.Bool.{Bool, true, false, not, cond, true≢false, false≢true}
+use mathlib.Core.Bool.{Bool, true, false, cond, true≢false}
 use mathlib.Core.List.{List, [], _∷_, map}
 use mathlib.Core.Logic.{_⊎_, inl, inr}
 use native.Mathlib.Omega.{arith}
-use borrow.Author.Tests.{eqb-true, eqb-false, ltb-true, not-false, eq-eqb, ne-eqb}
-use lib.Dec.{eqb, ltb}
-use lib.ListN.{length}
+use borrow.Author.Tests.{eqb-true, eqb-false}
+use lib.Dec.{eqb}
+use lib.ListN.{length, getD}
+use lib.Seq.{getD-set-other}
 use Rattle.field.specs.Width.{listed}
 use Rattle.shares.specs.Side.{isSide}
 use Rattle.rules.specs.Answers.{refused}
-use Rattle.rules.specs.Tally.{tallyFits, tapesOf, isFresh}
+use Rattle.rules.specs.Tally.{tallyFits, tapesOf, isFresh, marked}
 use Rattle.rules.specs.Modes.{inRange, modeOf, isAsleep, inJob, asleepState}
 use Rattle.rules.specs.Grounds.{Ground, firstOf, wakeGround, startGround, speakGround, hearGround, dropGround}
-use Rattle.rules.specs.Calls.{Result, unless, wakeRule, startRule, speakRule, hearRule, dropRule}
-use Rattle.rules.specs.Answering.{Call, wake, start, speak, hear, drop, groundOf, resultOf, bufferOf, isWake, isRefused, orderOf, groundsOf}
+use Rattle.rules.specs.Calls.{wakeRule, startRule}
+use Rattle.rules.specs.Answering.{Call, wake, start, speak, hear, drop, groundOf, resultOf, isWake, isRefused, orderOf, groundsOf}
 use Rattle.rules.specs.Answering.{Opens, TakesJob, Answering}
 use Rattle.rules.specs.declared.state.Phase.the-variants.{Asleep}
 use Rattle.rules.specs.declared.state.State.{State}
-use Rattle.rules.proofs.Marks.{marked-spent}
-
--- ---- refused, or not
-
--- what holds of a call's result by its ground
-record Told (k : ℕ) (s : State) (buffer : List ℕ) (r : Result) : Type 0 where
-  answers : k ≡ 0 → isRefused (r .reply) ≡ false
-  refuses : (k ≡ 0 → ⊥) → r .reply ≡ refused k
-  same-state : (k ≡ 0 → ⊥) → r .state ≡ s
-  same-buffer : (k ≡ 0 → ⊥) → r .buffer ≡ buffer
-
-told : (k : ℕ) (s : State) (buffer : List ℕ) (ok : Result) → isRefused (ok .reply) ≡ false → Told k s buffer (unless k s buffer ok)
-told k s buffer ok e =
-    record {
-      answers = λ z. rw (eq-eqb k 0 z) e;
-      refuses = λ z. rw (ne-eqb k 0 z);
-      same-state = λ z. rw (ne-eqb k 0 z);
-      same-buffer = λ z. rw (ne-eqb k 0 z);
-    }
-
--- a hear that is not refused answers, in the last round or before
-hear-answers : (t : Bool) (a b : Result) → isRefused (a .reply) ≡ false → isRefused (b .reply) ≡ false → isRefused (cond t a b .reply) ≡ false
-hear-answers true a b ea eb = ea
-hear-answers false a b ea eb = eb
-
-tells : (s : State) (call : Call) → Told (groundOf s call) s (bufferOf call) (resultOf s call)
-unfolding wakeRule startRule speakRule hearRule dropRule
-tells s (wake n side pair tally) = told (wakeGround s n side tally) s tally _ refl
-tells s (start number x y tape work tally) = told (startGround s number x y tape work tally) s tally _ refl
-tells s (speak number round tape work out) = told (speakGround s number round tape work out) s out _ refl
-tells s (hear number round tape work incoming) =
-    told (hearGround s number round tape work incoming) s work _ (hear-answers (eqb round 6) _ _ refl refl)
-tells s drop = told (dropGround s) s [] _ refl
+use Rattle.rules.proofs.Refusals.{tells, asleep-refuses, awake-refuses}
+use Rattle.rules.proofs.Marks.{marked-spent, marked-length}
+use Rattle.rules.proofs.Passed.{start-passed}
+use Rattle.rules.proofs.Moves.{woken, started-job, moves, keeps}
 
 -- ---- asleep
-
--- a ground that holds is the first, before any others
-holds-first : (t : Bool) (k rest : ℕ) → t ≡ true → cond t k rest ≡ k
-holds-first t k rest e = rw e
-
-asleep-refuses : (s : State) (call : Call) → isAsleep (modeOf s) ≡ true → isWake call ≡ false → groundOf s call ≡ 1
-unfolding wakeGround startGround speakGround hearGround dropGround
-asleep-refuses s (wake n side pair tally) asleep e = absurd (true≢false e)
-asleep-refuses s (start number x y tape work tally) asleep e = holds-first (isAsleep (modeOf s)) 1 _ asleep
-asleep-refuses s (speak number round tape work out) asleep e = holds-first (isAsleep (modeOf s)) 1 _ asleep
-asleep-refuses s (hear number round tape work incoming) asleep e = holds-first (isAsleep (modeOf s)) 1 _ asleep
-asleep-refuses s drop asleep e = holds-first (isAsleep (modeOf s)) 1 _ asleep
-
-awake-refuses : (s : State) (call : Call) → isAsleep (modeOf s) ≡ false → isWake call ≡ true → groundOf s call ≡ 5
-unfolding wakeGround
-awake-refuses s (wake n side pair tally) awake e = holds-first (not (isAsleep (modeOf s))) 5 _ (ap not awake)
-awake-refuses s (start number x y tape work tally) awake e = absurd (false≢true e)
-awake-refuses s (speak number round tape work out) awake e = absurd (false≢true e)
-awake-refuses s (hear number round tape work incoming) awake e = absurd (false≢true e)
-awake-refuses s drop awake e = absurd (false≢true e)
 
 -- a refused call's outcome is in the mode that the state was in
 same-mode : (s : State) (call : Call) → (groundOf s call ≡ 0 → ⊥) → modeOf (resultOf s call .state) ≡ modeOf s
@@ -96,8 +48,8 @@ wake-ground s n side tally asleep width sided fits = rw (asleep, width, sided, f
 
 wakes : (s : State) (n side pair : ℕ) (tally : List ℕ) → isAsleep (modeOf s) ≡ true → listed n ≡ true → isSide side ≡ true
     → tallyFits (length tally) ≡ true → isAsleep (modeOf (resultOf s (wake n side pair tally) .state)) ≡ false
-unfolding wakeRule modeOf inRange
-wakes s n side pair tally asleep width sided fits = rw (wake-ground s n side tally asleep width sided fits, width, sided, fits)
+wakes s n side pair tally asleep width sided fits =
+    ap isAsleep (woken s n side pair tally (wake-ground s n side tally asleep width sided fits))
 
 -- ---- the numbers
 
@@ -155,27 +107,13 @@ order-low drop = omega arith
 
 -- ---- jobs
 
--- a state whose phase is no job counts as in none
-no-job : (s : State) → inJob (s .phase) ≡ false → inJob (modeOf s) ≡ false
-unfolding modeOf
-no-job s e = go (inRange s)
-  where
-    go : (t : Bool) → inJob (cond t (s .phase) Asleep) ≡ false
-    go true = e
-    go false = refl
-
 -- a wake's outcome is in no job where the state is in none
-woken-no-job : (s : State) (n side pair : ℕ) (tally : List ℕ) → wakeGround s n side tally ≡ 0
-    → inJob (modeOf (wakeRule s n side pair tally .state)) ≡ false
-unfolding wakeRule
-woken-no-job s n side pair tally z = rw z (no-job _ refl)
-
 wake-no-job : (s : State) (n side pair : ℕ) (tally : List ℕ) → inJob (modeOf s) ≡ false
     → inJob (modeOf (wakeRule s n side pair tally .state)) ≡ false
 wake-no-job s n side pair tally e = go (eqb (wakeGround s n side tally) 0) refl
   where
     go : (t : Bool) → eqb (wakeGround s n side tally) 0 ≡ t → inJob (modeOf (wakeRule s n side pair tally .state)) ≡ false
-    go true z = woken-no-job s n side pair tally (eqb-true (wakeGround s n side tally) 0 z)
+    go true z = ap inJob (woken s n side pair tally (eqb-true (wakeGround s n side tally) 0 z))
     go false z = ap inJob (same-mode s (wake n side pair tally) (eqb-false (wakeGround s n side tally) 0 z)) ∙ e
 
 one-or-six : (t : Bool) → cond {A = ℕ} t 1 6 ≡ 0 → ⊥
@@ -201,43 +139,34 @@ refused-no-job : (s : State) (call : Call) → (groundOf s call ≡ 0 → ⊥) �
     → inJob (modeOf (resultOf s call .state)) ≡ true → ⊥
 refused-no-job s call z e h = true≢false (sym h ∙ ap inJob (same-mode s call z) ∙ e)
 
--- none of the grounds holds
-abbrev None : List Ground → Type 0
-None [] = Unit {0}
-None (g ∷ gs) = (g .holds ≡ false) × None gs
-
--- their numbers are above 0
-abbrev Above : List Ground → Type 0
-Above [] = Unit {0}
-Above (g ∷ gs) = (0 < g .number) × Above gs
-
-first-not : (t : Bool) (k rest : ℕ) → 0 < k → cond t k rest ≡ 0 → (t ≡ false) × (rest ≡ 0)
-first-not true k rest positive e = absurd (omega (arith, positive, e))
-first-not false k rest positive e = (refl, e)
-
--- a ground of 0 is none
-none : (gs : List Ground) → Above gs → firstOf gs ≡ 0 → None gs
-none [] positive e = tt
-none (g ∷ gs) positive e =
-    let p = first-not (g .holds) (g .number) (firstOf gs) (positive .0) e in
-    (p .0, none gs (positive .1) (p .1))
-
 spends : (s : State) (number x y : ℕ) (tape work tally : List ℕ) → startGround s number x y tape work tally ≡ 0 → number < tapesOf (length tally)
     → isFresh (startRule s number x y tape work tally .buffer) number ≡ false
 unfolding startRule
 spends s number x y tape work tally z less = rw z (marked-spent tally number less)
 
-opens : (s : State) (number x y : ℕ) (tape work tally : List ℕ) → startGround s number x y tape work tally ≡ 0
-    → Opens s number tally (startRule s number x y tape work tally .buffer)
-opens s number x y tape work tally z =
-    let call = start number x y tape work tally in
-    let c = none (groundsOf s call) (omega arith) (sym (first-is s call) ∙ z) in
-    let less = ltb-true number (tapesOf (length tally)) (not-false (ltb number (tapesOf (length tally))) (c .1 .1 .1 .0)) in
+keeps-length : (s : State) (number x y : ℕ) (tape work tally : List ℕ) → startGround s number x y tape work tally ≡ 0
+    → length (startRule s number x y tape work tally .buffer) ≡ length tally
+unfolding startRule
+keeps-length s number x y tape work tally z = rw z (marked-length tally number)
+
+-- the mark changes no other byte
+spends-only : (s : State) (number x y : ℕ) (tape work tally : List ℕ) → startGround s number x y tape work tally ≡ 0 → (k : ℕ) → (k ≡ number → ⊥)
+    → getD (startRule s number x y tape work tally .buffer) k 0 ≡ getD tally k 0
+unfolding startRule marked
+spends-only s number x y tape work tally z k other = rw z (getD-set-other tally number k 0 0 other)
+
+opened : (s : State) (number x y : ℕ) (tape work tally : List ℕ) → startGround s number x y tape work tally ≡ 0
+    → Opens s number x y tally (startRule s number x y tape work tally)
+opened s number x y tape work tally z =
+    let p = start-passed s number x y tape work tally z in
     record {
-      awake = c .0;
-      same-length = eqb-true (length tally) (s .tally) (not-false (eqb (length tally) (s .tally)) (c .1 .1 .0));
-      was-fresh = not-false (isFresh tally number) (c .1 .1 .1 .1 .0);
-      is-spent = spends s number x y tape work tally z less;
+      awake = p .awake;
+      same-length = p .same-tally;
+      was-fresh = p .fresh;
+      is-spent = spends s number x y tape work tally z (p .numbered);
+      left-length = keeps-length s number x y tape work tally z;
+      others = spends-only s number x y tape work tally z;
+      job = started-job s number x y tape work tally z;
     }
 
 takes-job : (s : State) (call : Call) → inJob (modeOf s) ≡ false → inJob (modeOf (resultOf s call .state)) ≡ true → TakesJob s call
@@ -248,7 +177,7 @@ takes-job s (start number x y tape work tally) e h = go (eqb (startGround s numb
     call = start number x y tape work tally
 
     go : (t : Bool) → eqb (groundOf s call) 0 ≡ t → TakesJob s call
-    go true z = opens s number x y tape work tally (eqb-true (groundOf s call) 0 z)
+    go true z = opened s number x y tape work tally (eqb-true (groundOf s call) 0 z)
     go false z = absurd (refused-no-job s call (eqb-false (groundOf s call) 0 z) e h)
 takes-job s (speak number round tape work out) e h =
     refused-no-job s (speak number round tape work out) (speak-refused s number round tape work out e) e h
@@ -311,6 +240,8 @@ answering =
       waking =
           λ s call. record { asleep-refuses = asleep-refuses s call; only-wake = only-wake s call; awake-refuses = awake-refuses s call };
       wakes = wakes;
+      moves = moves;
+      keeps = keeps;
       takes-job = takes-job;
       outside =
           λ s call. record {

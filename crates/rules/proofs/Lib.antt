@@ -3,4 +3,6 @@ pub mod Chains
 pub mod Ranges
 pub mod Passed
 pub mod Spoken
+mod Refusals
+mod Moves
 pub mod Answering

@@ -10,6 +10,7 @@ use borrow.Author.Tests.{ltb-true, ltb-false, leb-true, eqb-true, not-false}
 use Rattle.lists.proofs.Every.{every-at}
 use Rattle.field.specs.Width.{listed, modulus}
 use Rattle.field.proofs.Widths.{bounds}
+use Rattle.shares.specs.Side.{isSide}
 use Rattle.tape.specs.Order.{inOrder}
 use Rattle.protocol.specs.Words.{Below}
 use Rattle.protocol.specs.Work.{workLength}
@@ -31,10 +32,25 @@ both-true false b e = absurd (true≢false e)
 
 -- ---- wake
 
-pub wake-tally : (s : State) (n side : ℕ) (tally : List ℕ) → wakeGround s n side tally ≡ 0 → tallyFits (length tally) ≡ true
+pub record WakePassed (s : State) (n side : ℕ) (tally : List ℕ) : Type 0 where
+  pub asleep : isAsleep (modeOf s) ≡ true
+  pub width : listed n ≡ true
+  pub sided : isSide side ≡ true
+  pub tallied : tallyFits (length tally) ≡ true
+
+pub wake-passed : (s : State) (n side : ℕ) (tally : List ℕ) → wakeGround s n side tally ≡ 0 → WakePassed s n side tally
 unfolding wakeGround
-wake-tally s n side tally e =
-    not-false (tallyFits (length tally)) (none (wakeGrounds s n side tally) (omega arith) e .1 .1 .1 .0)
+wake-passed s n side tally e =
+    let c = none (wakeGrounds s n side tally) (omega arith) e in
+    record {
+      asleep = not-false (isAsleep (modeOf s)) (c .0);
+      width = not-false (listed n) (c .1 .0);
+      sided = not-false (isSide side) (c .1 .1 .0);
+      tallied = not-false (tallyFits (length tally)) (c .1 .1 .1 .0);
+    }
+
+pub wake-tally : (s : State) (n side : ℕ) (tally : List ℕ) → wakeGround s n side tally ≡ 0 → tallyFits (length tally) ≡ true
+wake-tally s n side tally e = wake-passed s n side tally e .tallied
 
 -- ---- start
 

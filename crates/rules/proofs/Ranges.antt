@@ -9,7 +9,7 @@ use Rattle.field.specs.Width.{listed, modulus}
 use Rattle.shares.specs.Side.{isSide}
 use Rattle.rules.specs.Tally.{tallyFits, tapesOf}
 use Rattle.rules.specs.Modes.{roundOf, roundFits, phaseFits, inRange, modeOf, isAsleep, isDue, sameTurn}
-use Rattle.rules.specs.Calls.{xOf, yOf, turned}
+use Rattle.rules.specs.Calls.{inPhase, xOf, yOf, turned}
 use Rattle.rules.specs.declared.state.Turn.{Turn}
 use Rattle.rules.specs.declared.state.Turn.the-variants.{Speak, Hear}
 use Rattle.rules.specs.declared.state.Phase.{Phase}
@@ -82,6 +82,7 @@ due-job s number turn awake e = go (s .phase) refl (rw (awake-mode s awake) at e
 
 -- a job in range: its turn is of one of the six rounds, its shares are below p
 pub record JobRange (s : State) (turn : Turn) (x y : ℕ) : Type 0 where
+  pub round-fits : roundFits (roundOf turn) ≡ true
   pub last : roundOf turn ≤ 6
   pub x-fits : x < modulus (s .n)
   pub y-fits : y < modulus (s .n)
@@ -93,10 +94,10 @@ job-range s x y {turn} {number} awake job =
     let three = two && ltb x (modulus (s .n)) in
     let threes = and-left three (ltb y (modulus (s .n))) fits in
     let twos = and-left two (ltb x (modulus (s .n))) threes in
+    let round = and-right (ltb number (tapesOf (s .tally))) (roundFits (roundOf turn)) twos in
     record {
-      last =
-          leb-true (roundOf turn) 6
-          (and-right (leb 1 (roundOf turn)) (leb (roundOf turn) 6) (and-right (ltb number (tapesOf (s .tally))) (roundFits (roundOf turn)) twos));
+      round-fits = round;
+      last = leb-true (roundOf turn) 6 (and-right (leb 1 (roundOf turn)) (leb (roundOf turn) 6) round);
       x-fits = ltb-true x (modulus (s .n)) (and-right two (ltb x (modulus (s .n))) threes);
       y-fits = ltb-true y (modulus (s .n)) (and-right three (ltb y (modulus (s .n))) fits);
     }
@@ -106,7 +107,33 @@ pub due-range : (s : State) (number : ℕ) (turn : Turn) → isAsleep (modeOf s)
 due-range s number turn awake d =
     subst (λ (p : Phase). JobRange s turn (xOf p) (yOf p)) (sym (d .job)) (job-range s (d .x) (d .y) awake (d .job))
 
--- the job with another turn
+-- ---- the job with another turn
+
 pub due-turned : (s : State) (number : ℕ) (turn next : Turn) → Due s number turn
     → turned (s .phase) next ≡ Job next number (xOf (s .phase)) (yOf (s .phase))
 due-turned s number turn next d = rw (d .job) refl
+
+-- the second of four tests exchanged for another that holds too
+exchange-test : (a b b′ c d : Bool) → b′ ≡ true → a && b && c && d ≡ true → a && b′ && c && d ≡ true
+exchange-test true true b′ c d e′ e = rw e′ e
+exchange-test true false b′ c d e′ e = absurd (false≢true e)
+exchange-test false b b′ c d e′ e = absurd (false≢true e)
+
+turned-fits : (n tally : ℕ) (p : Phase) (next : Turn) → roundFits (roundOf next) ≡ true → phaseFits n tally p ≡ true
+    → phaseFits n tally (turned p next) ≡ true
+turned-fits n tally Asleep next fits e = refl
+turned-fits n tally Idle next fits e = refl
+turned-fits n tally (Job due number x y) next fits e =
+    exchange-test (ltb number (tapesOf tally)) (roundFits (roundOf due)) (roundFits (roundOf next)) (ltb x (modulus n)) (ltb y (modulus n)) fits e
+
+-- a state in range counts as in a phase that fits it
+pub phase-mode : (s : State) (phase : Phase) → inRange s ≡ true → phaseFits (s .n) (s .tally) phase ≡ true → modeOf (inPhase s phase) ≡ phase
+unfolding modeOf inRange
+phase-mode s phase e fits =
+    let r = ranged s e in
+    rw (r .width, r .sided, r .tallied, fits)
+
+pub turned-mode : (s : State) (next : Turn) → roundFits (roundOf next) ≡ true → inRange s ≡ true
+    → modeOf (inPhase s (turned (s .phase) next)) ≡ turned (s .phase) next
+turned-mode s next fits e =
+    phase-mode s (turned (s .phase) next) e (turned-fits (s .n) (s .tally) (s .phase) next fits (ranged s e .phased))

@@ -1,16 +1,21 @@
 -- Demand 1 over the rules: what each of the five calls answers, refuses and leaves as it was.
-use Prim.Native.Nat.{ℕ, _≤_}
+use Prim.Native.Nat.{ℕ, _+_, _<_, _≤_}
 use mathlib.Core.Path.{_≡_}
 use mathlib.Core.Bool.{Bool, true, false}
 use mathlib.Core.List.{List, [], _∷_, map}
-use lib.ListN.{length}
+use lib.ListN.{length, getD}
 use Rattle.field.specs.Width.{listed}
 use Rattle.shares.specs.Side.{isSide}
+use Rattle.protocol.specs.Rounds.{roundWords}
 use Rattle.rules.specs.Answers.{Reply, fresh, started, spoke, heard, share, dropped, refused}
-use Rattle.rules.specs.Tally.{tallyFits, isFresh}
+use Rattle.rules.specs.Tally.{tallyFits, isFresh, freshCount}
 use Rattle.rules.specs.Modes.{inRange, modeOf, isAsleep, inJob, asleepState}
 use Rattle.rules.specs.Grounds.{Ground, firstOf, wakeGrounds, startGrounds, speakGrounds, hearGrounds, dropGrounds, wakeGround, startGround, speakGround, hearGround, dropGround}
-use Rattle.rules.specs.Calls.{Result, wakeRule, startRule, speakRule, hearRule, dropRule}
+use Rattle.rules.specs.Calls.{Result, inPhase, wakeRule, startRule, speakRule, hearRule, dropRule}
+use Rattle.rules.specs.declared.state.Turn.{Turn}
+use Rattle.rules.specs.declared.state.Turn.the-variants.{Speak, Hear}
+use Rattle.rules.specs.declared.state.Phase.{Phase}
+use Rattle.rules.specs.declared.state.Phase.the-variants.{Asleep, Idle, Job}
 use Rattle.rules.specs.declared.state.State.{State}
 
 -- ---- the five calls as one
@@ -106,17 +111,33 @@ pub record Waking (s : State) (call : Call) : Type 0 where
   -- awake, a wake is refused with 5
   pub awake-refuses : isAsleep (modeOf s) ≡ false → isWake call ≡ true → groundOf s call ≡ 5
 
--- a start may open its job: the state is awake, and the tape is fresh in a lent tally of the state's length and spent in the one that is left
-pub record Opens (s : State) (number : ℕ) (lent left : List ℕ) : Type 0 where
+-- what a call that is not refused finds, answers and leaves, in a box of width n: a job keeps its number and its shares to its end
+pub data Moves (n : ℕ) : Phase → Call → Reply → Phase → Type 0 where
+  wakes-up : {m side pair : ℕ} {tally : List ℕ} → Moves n Asleep (wake m side pair tally) (fresh (freshCount tally)) Idle
+  opens : {number x y : ℕ} {tape work tally : List ℕ} → Moves n Idle (start number x y tape work tally) started (Job (Speak 1) number x y)
+  speaks : {number round x y : ℕ} {tape work out : List ℕ}
+      → Moves n (Job (Speak round) number x y) (speak number round tape work out) (spoke (roundWords n round)) (Job (Hear round) number x y)
+  hears : {number round x y : ℕ} {tape work incoming : List ℕ} → round < 6
+      → Moves n (Job (Hear round) number x y) (hear number round tape work incoming) heard (Job (Speak (round + 1)) number x y)
+  ends : {number x y answer : ℕ} {tape work incoming : List ℕ}
+      → Moves n (Job (Hear 6) number x y) (hear number 6 tape work incoming) (share answer) Idle
+  drops : {number x y : ℕ} {turn : Turn} → Moves n (Job turn number x y) drop dropped Idle
+
+-- a start takes a job: the state is awake, the tape is fresh in a lent tally of the state's length, and the tally that is left differs in its byte alone
+pub record Opens (s : State) (number x y : ℕ) (lent : List ℕ) (result : Result) : Type 0 where
   pub awake : isAsleep (modeOf s) ≡ false
   pub same-length : length lent ≡ s .tally
   pub was-fresh : isFresh lent number ≡ true
-  pub is-spent : isFresh left number ≡ false
+  pub is-spent : isFresh (result .buffer) number ≡ false
+  pub left-length : length (result .buffer) ≡ length lent
+  pub others : (k : ℕ) → (k ≡ number → ⊥) → getD (result .buffer) k 0 ≡ getD lent k 0
+  -- the job is on that tape, with the lent shares
+  pub job : modeOf (result .state) ≡ Job (Speak 1) number x y
 
 -- only a start takes a job
 abbrev pub TakesJob : State → Call → Type 0
 TakesJob s (wake n side pair tally) = ⊥
-TakesJob s (start number x y tape work tally) = Opens s number tally (startRule s number x y tape work tally .buffer)
+TakesJob s (start number x y tape work tally) = Opens s number x y tally (startRule s number x y tape work tally)
 TakesJob s (speak number round tape work out) = ⊥
 TakesJob s (hear number round tape work incoming) = ⊥
 TakesJob s drop = ⊥
@@ -135,6 +156,11 @@ pub record Answering : Type 0 where
   pub wakes : (s : State) (n side pair : ℕ) (tally : List ℕ) → isAsleep (modeOf s) ≡ true
       → listed n ≡ true → isSide side ≡ true → tallyFits (length tally) ≡ true
       → isAsleep (modeOf (resultOf s (wake n side pair tally) .state)) ≡ false
+  -- every call that is not refused is one of these moves
+  pub moves : (s : State) (call : Call) → groundOf s call ≡ 0
+      → Moves (s .n) (modeOf s) call (resultOf s call .reply) (modeOf (resultOf s call .state))
+  -- only wake sets the width, the side, the pair number and the tally's length
+  pub keeps : (s : State) (call : Call) → isWake call ≡ false → resultOf s call .state ≡ inPhase s (resultOf s call .state .phase)
   -- an outcome in a job, from a state not in one, comes from such a start alone
   pub takes-job : (s : State) (call : Call) → inJob (modeOf s) ≡ false → inJob (modeOf (resultOf s call .state)) ≡ true → TakesJob s call
   pub outside : (s : State) (call : Call) → Outside s call
