@@ -1,7 +1,7 @@
 -- The laws of congruence modulo p. A chain of steps is written with ⊙.
 use Prim.Native.Nat.{ℕ, zero, suc, _+_, _-_, _*_, _/_, _%_, _^_, _<_, _≤_}
 use mathlib.Core.Path.{_≡_, refl, sym, ap, _∙_}
-use native.Mathlib.Nat.{mod-mod, add-mod, mod-add-div, add-mul-mod-self-left, mod-eq-of-lt, mod-lt, pow-suc, pow-zero}
+use native.Mathlib.Nat.{mod-mod, add-mod, mod-add-div, add-mul-mod-self-left, mod-eq-of-lt, pow-suc, pow-zero}
 use native.Mathlib.Omega.{arith}
 use Rattle.field.specs.Congruence.{Cong}
 

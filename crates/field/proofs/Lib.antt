@@ -1,5 +1,6 @@
 pub mod Widths
 pub mod Congruences
+pub mod Subtraction
 pub mod Units
 pub mod Sums
 mod Remainders

@@ -1,7 +1,7 @@
 -- Remainders modulo 2^n − 1 without a division.
 use Prim.Native.Nat.{ℕ, _+_, _*_, _/_, _%_, _^_, _<_, _≤_}
 use mathlib.Core.Path.{_≡_, sym, ap, _∙_}
-use native.Mathlib.Nat.{add-mul-mod-self-left, mod-eq-of-lt, mod-add-div, mod-lt, div-lt-iff-lt-mul, mul-le-mul}
+use native.Mathlib.Nat.{add-mul-mod-self-left, mod-eq-of-lt, mod-add-div, mod-lt, div-lt-iff-lt-mul}
 use native.Mathlib.Omega.{arith}
 use lib.Pow.{pow-pos}
 use Rattle.field.specs.Width.{modulus}

@@ -1,5 +1,5 @@
 -- Sums modulo p.
-use Prim.Native.Nat.{ℕ, zero, suc, _*_, _<_}
+use Prim.Native.Nat.{ℕ, zero, suc, _<_}
 use native.Mathlib.Omega.{arith}
 use Rattle.lists.specs.Tabulate.{sum}
 use Rattle.field.specs.Congruence.{Cong}

@@ -1,7 +1,7 @@
 -- What holds of every listed width: a test that antt computes over the seven, and the bounds that the arithmetic uses.
 use Prim.Native.Nat.{ℕ, _+_, _-_, _*_, _^_, _<_, _≤_}
 use native.Mathlib.Nat.{le-of-lt, mul-le-mul, mul-le-mul-left, mul-le-mul-right}
-use mathlib.Core.Path.{_≡_, refl, sym}
+use mathlib.Core.Path.{_≡_, refl}
 use mathlib.Core.Bool.{Bool, true, _&&_, false≢true}
 use mathlib.Core.List.{List, [], _∷_}
 use mathlib.Core.Logic.{⊎-elim}

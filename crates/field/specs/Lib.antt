@@ -1,3 +1,4 @@
 pub mod Width
+pub mod Subtraction
 pub mod Congruence
 pub mod Inverse

@@ -4,6 +4,7 @@ ghost use mathlib.Core.Bool.{true};
 ghost use Prim.Native.Nat.{_+_, _-_, _*_, _/_, _%_, _^_, _<_};
 ghost use lib.Dec.{ltb};
 ghost use Rattle.field.specs.Width.{listed, modulus};
+ghost use Rattle.field.specs.Subtraction.{minus};
 
 // Whether n is a width of document 01.
 pub fn is_listed(n: u32) -> bool
@@ -43,7 +44,7 @@ pub fn add(n: u32, a: u32, b: u32) -> u32
 
 pub fn sub(n: u32, a: u32, b: u32) -> u32
     requires { ⌜ (listed n ≡ true) × (a < modulus n) × (b < modulus n) ⌝ }
-    ensures { λ r. ⌜ r ≡ (a + (modulus n - b)) % modulus n ⌝ }
+    ensures { λ r. ⌜ r ≡ minus n a b ⌝ }
     ensures below { λ r. ⌜ r < modulus n ⌝ }
 {
     if b <= a {

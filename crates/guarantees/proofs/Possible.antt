@@ -8,6 +8,7 @@ use borrow.Author.Tests.{ltb-true, eqb-true}
 use lib.Dec.{eqb, ltb}
 use lib.ListN.{length}
 use Rattle.lists.proofs.Tests.{and-left, and-right}
+use Rattle.field.specs.Subtraction.{minus}
 use Rattle.field.specs.Width.{listed, modulus}
 use Rattle.shares.specs.Side.{isSide, other as otherSide}
 use Rattle.shares.specs.Share.{constantShare, masked, opened, squareShare, productShare}
@@ -221,7 +222,7 @@ record ByRun (entries : List Entry) (place : ℕ) (b : Box) : Type 0 where
   answer2 : AnswersAt (events (plainCommon entries b) b (plainSet b) (sharesOf b) zeros) (place + 1) box2 6
 
 whole-run : (b : Box) → ByRun whole 26 b
-unfolding modulus listed isSide otherSide constantShare masked opened squareShare productShare section trailerFits bodyInRange inOrder plainTape
+unfolding modulus listed isSide otherSide constantShare minus opened squareShare productShare section trailerFits bodyInRange inOrder plainTape
     rangeCode pointCode levelCode coefficient polynomial complement exclusive held
     openLeft openRight openings closed closing bitDifference squareClosing matchCount levelMatch wrapShare
     squareWord lowProducts lowSum levelProducts wrapProducts halfShare halfProduct lastLeft lastRight lastProduct
@@ -244,7 +245,7 @@ whole-run box2 =
     }
 
 again-run : (b : Box) → ByRun again 28 b
-unfolding modulus listed isSide otherSide constantShare masked opened squareShare productShare section trailerFits bodyInRange inOrder plainTape
+unfolding modulus listed isSide otherSide constantShare minus opened squareShare productShare section trailerFits bodyInRange inOrder plainTape
     rangeCode pointCode levelCode coefficient polynomial complement exclusive held
     openLeft openRight openings closed closing bitDifference squareClosing matchCount levelMatch wrapShare
     squareWord lowProducts lowSum levelProducts wrapProducts halfShare halfProduct lastLeft lastRight lastProduct

@@ -5,9 +5,10 @@ use mathlib.Core.Bool.{true}
 use mathlib.Core.List.{List}
 use native.Mathlib.Nat.{mod-lt}
 use native.Mathlib.Omega.{arith}
+use Rattle.field.proofs.Subtraction.{minus-below}
 use Rattle.field.specs.Width.{modulus, listed}
 use Rattle.field.proofs.Widths.{bounds}
-use Rattle.shares.proofs.Products.{masked-below, product-share-below}
+use Rattle.shares.proofs.Products.{product-share-below}
 use Rattle.protocol.specs.Tests.{complement, exclusive}
 use Rattle.protocol.specs.Products.{Party, Products, closed, closing}
 use Rattle.protocol.specs.Squares.{matchCount}
@@ -28,11 +29,11 @@ module _ (n : ℕ) (l : listed n ≡ true) where
 
   pub exclusive-below : (total product : ℕ) → exclusive n total product < modulus n
   unfolding exclusive
-  exclusive-below total product = masked-below n _ _ l
+  exclusive-below total product = minus-below n _ _ l
 
   pub complement-below : (side v : ℕ) → complement n side v < modulus n
   unfolding complement
-  complement-below side v = masked-below n _ _ l
+  complement-below side v = minus-below n _ _ l
 
   pub wrap-below : (side : ℕ) (powers work heard : List ℕ) (test : ℕ) → wrapShare n side powers work heard test < modulus n
   unfolding wrapShare

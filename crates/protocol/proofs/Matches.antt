@@ -11,6 +11,7 @@ use lib.Dec.{eqb}
 use lib.ListN.{getD}
 use Rattle.lists.specs.Tabulate.{sum}
 use Rattle.lists.proofs.Sums.{sum-add}
+use Rattle.field.proofs.Subtraction.{minus-total}
 use Rattle.field.specs.Width.{modulus, listed}
 use Rattle.field.specs.Congruence.{Cong}
 use Rattle.field.proofs.Widths.{bounds}
@@ -27,7 +28,6 @@ use Rattle.encoding.specs.Codes.{bitOf, levelCode}
 use Rattle.encoding.specs.Matching.{indicator, sameBits}
 use Rattle.protocol.specs.Tests.{complement}
 use Rattle.protocol.specs.Squares.{codeDifference, bitDifference, squareOpening, squareClosing, matchCount}
-use Rattle.protocol.proofs.Totals.{masked-total}
 use Rattle.protocol.proofs.Closings.{square-closed-total}
 
 pub bit-cases : (u : ℕ) → u ≤ 1 → (u ≡ 0) ⊎ (u ≡ 1)
@@ -94,7 +94,7 @@ module _ {n pair number side : ℕ} {t1 t2 : List ℕ} (m : Matched n pair numbe
       let lv : v ≤ 1 = omega arith in
       square-closed-total m (g * n + k) (square-index n g k lg lk) (codeDifference n side c1 k) (codeDifference n (other side) c2 k) heard1 heard2 h1 h2
       ⊙ difference-square n l (codeDifference n side c1 k + codeDifference n (other side) c2 k) u v
-      (masked-total n l (constantShare side 1) (constantShare (other side) 1) u v (omega (arith, bounds l)) (omega (arith, bounds l))
+      (minus-total n (constantShare side 1) (constantShare (other side) 1) u v (omega (arith, bounds l)) (omega (arith, bounds l))
       ⊙ cong-eq (constant-total side 1 (own-side m)))
       lu lv
 

@@ -6,11 +6,12 @@ use native.Mathlib.Nat.{le-of-lt, mod-lt}
 use native.Mathlib.Omega.{arith}
 use Rattle.field.specs.Width.{modulus, listed}
 use Rattle.field.specs.Congruence.{Cong}
+use Rattle.field.specs.Subtraction.{minus}
+use Rattle.field.proofs.Subtraction.{minus-below, plus-minus}
 use Rattle.field.proofs.Widths.{bounds}
-use Rattle.field.proofs.Congruences.{cong-refl, cong-eq, cong-sym, _⊙_, cong-mod, cong-add, cong-cancel, cong-unique, cong-negation}
+use Rattle.field.proofs.Congruences.{cong-refl, cong-eq, cong-sym, _⊙_, cong-mod, cong-add, cong-cancel, cong-unique}
 use Rattle.shares.specs.Share.{masked}
-use Rattle.shares.proofs.Products.{masked-plus, masked-below}
-use Rattle.protocol.specs.Shift.{moved, rest}
+use Rattle.protocol.specs.Shift.{moved}
 
 module _ (n : ℕ) (l : listed n ≡ true) where
   pos : 0 < modulus n
@@ -20,18 +21,13 @@ module _ (n : ℕ) (l : listed n ≡ true) where
   unfolding moved
   moved-below a v v′ = mod-lt _ pos
 
-  pub rest-below : (t o : ℕ) → rest n t o < modulus n
-  unfolding rest
-  rest-below t o = mod-lt _ pos
-
   -- the moved mask, and the value before, come to the mask and the value after
   moved-plus : (a v v′ : ℕ) → v ≤ modulus n → Cong (modulus n) (moved n a v v′ + v) (a + v′)
   unfolding moved
   moved-plus a v v′ lv =
       cong-add cong-mod cong-refl
-      ⊙ cong-eq {b = (a + v′) + (v + (modulus n - v))} (omega arith)
-      ⊙ cong-add cong-refl (cong-negation lv)
-      ⊙ cong-eq (omega arith)
+      ⊙ cong-eq {b = a + (v + minus n v′ v)} (omega arith)
+      ⊙ cong-add cong-refl (plus-minus n v′ v lv)
 
   -- u and u′ are the box's shares of V and V′ beside the same other share o: the same word is sent
   pub moved-same : (u u′ o v v′ a : ℕ) → v ≤ modulus n → a < modulus n
@@ -41,9 +37,9 @@ module _ (n : ℕ) (l : listed n ≡ true) where
       let a′ = moved n a v v′ in
       let m = masked n u a in
       let m′ = masked n u′ a′ in
-      let old : Cong (modulus n) (a + m) u = masked-plus n u a (le-of-lt la) in
-      let new : Cong (modulus n) (a′ + m′) u′ = masked-plus n u′ a′ (le-of-lt (moved-below a v v′)) in
-      cong-unique (masked-below n u′ a′ l) (masked-below n u a l)
+      let old : Cong (modulus n) (a + m) u = plus-minus n u a (le-of-lt la) in
+      let new : Cong (modulus n) (a′ + m′) u′ = plus-minus n u′ a′ (le-of-lt (moved-below a v v′)) in
+      cong-unique (minus-below n u′ a′ l) (minus-below n u a l)
       (cong-cancel (a + v′ + v + o) pos
       (cong-eq {b = m′ + (a + v′) + (v + o)} (omega arith)
       ⊙ cong-add (cong-add cong-refl (cong-sym (moved-plus a v v′ lv))) cong-refl
@@ -66,16 +62,3 @@ module _ (n : ℕ) (l : listed n ≡ true) where
       let a′ = moved n a v v′ in
       cong-unique (moved-below a′ v′ v) la
       (cong-cancel v′ pos (moved-plus a′ v′ v lv′ ⊙ moved-plus a v v′ lv))
-
-  -- ---- the word that follows from a total
-
-  pub rest-plus : (t o : ℕ) → o ≤ modulus n → Cong (modulus n) (rest n t o + o) t
-  unfolding rest
-  rest-plus t o lo =
-      cong-add cong-mod cong-refl
-      ⊙ cong-eq {b = t + (o + (modulus n - o))} (omega arith)
-      ⊙ cong-add cong-refl (cong-negation lo)
-      ⊙ cong-eq (omega arith)
-
-  pub rest-unique : (t o w : ℕ) → o ≤ modulus n → w < modulus n → Cong (modulus n) (w + o) t → rest n t o ≡ w
-  rest-unique t o w lo lw h = cong-unique (rest-below t o) lw (cong-cancel o pos (rest-plus t o lo ⊙ cong-sym h))

@@ -13,6 +13,7 @@ use lib.ListN.{length, getD, take, drop, length-append, length-drop, List·getD-
 use lib.Seq.{take-at, drop-at, getD-append-add, getD-drop}
 use Rattle.lists.specs.Tabulate.{tabulate}
 use Rattle.lists.proofs.Tabulate.{length-tabulate, getD-tabulate}
+use Rattle.field.proofs.Subtraction.{minus-below}
 use Rattle.field.specs.Width.{modulus, listed}
 use Rattle.tape.specs.Layout.{section, sectionLength, sectionStart, bodyLength, tapeLength, squareCount, groupCount, tripleCount}
 use Rattle.tape.specs.Letters.{squareMask, squareValue, groupInverse, groupPower, tripleLeft, tripleRight, tripleProduct}
@@ -21,7 +22,7 @@ use Rattle.encoding.specs.Matching.{indicator}
 use Rattle.protocol.proofs.Halves.{less-cases}
 use Rattle.protocol.specs.Change.{Shares}
 use Rattle.protocol.specs.Shift.{newMask, newValue, newInverse, newPower, newLeft, newRight, newProduct, squareWords, powerWords, tripleWords, shifted}
-use Rattle.protocol.proofs.Moves.{moved-below, rest-below}
+use Rattle.protocol.proofs.Moves.{moved-below}
 
 module _ (s s′ : Shares) (own others : List ℕ) where
   abbrev n : ℕ
@@ -164,15 +165,15 @@ module _ (s s′ : Shares) (own others : List ℕ) where
 
     squares-below : (j : ℕ) → squareWords s s′ own others j < modulus n
     unfolding newMask newValue
-    squares-below j = choice-below (eqb (j % 2) 0) (moved-below n l _ _ _) (rest-below n l _ _)
+    squares-below j = choice-below (eqb (j % 2) 0) (moved-below n l _ _ _) (minus-below n _ _ l)
 
     powers-below : (j : ℕ) → powerWords s s′ own others j < modulus n
     unfolding newInverse newPower
-    powers-below j = choice-below (eqb (j % (n + 1)) 0) (rest-below n l _ _) (rest-below n l _ _)
+    powers-below j = choice-below (eqb (j % (n + 1)) 0) (minus-below n _ _ l) (minus-below n _ _ l)
 
     triples-below : (j : ℕ) → tripleWords s s′ own others j < modulus n
     unfolding newLeft newRight newProduct
-    triples-below j = three-below (j % 3) (moved-below n l _ _ _) (moved-below n l _ _ _) (rest-below n l _ _)
+    triples-below j = three-below (j % 3) (moved-below n l _ _ _) (moved-below n l _ _ _) (minus-below n _ _ l)
 
     -- a word of a tabulated list, or of what stands behind it
     tabulated-below : (count : ℕ) (f : ℕ → ℕ) (rest : List ℕ) → ((i : ℕ) → f i < modulus n)

@@ -11,6 +11,7 @@ use lib.ListN.{length, getD, List·getD-append}
 use lib.Seq.{getD-append-add}
 use Rattle.lists.specs.Tabulate.{tabulate}
 use Rattle.lists.proofs.Tabulate.{length-tabulate, getD-tabulate}
+use Rattle.field.specs.Subtraction.{minus}
 use Rattle.field.specs.Width.{listed, modulus}
 use Rattle.field.specs.Congruence.{Cong}
 use Rattle.field.proofs.Congruences.{cong-eq, cong-refl, cong-sym, cong-mod, cong-add, cong-negation, cong-move, _⊙_}
@@ -111,7 +112,7 @@ module _ (n side : ℕ) (tape : List ℕ) where
         choice-below (eqb s 1) (omega arith) (omega arith)
 
     encoded-below : (j : ℕ) → j < roundWords n 1 → listed n ≡ true → getD (encoded n side x y) j 0 < modulus n
-    unfolding bitDifference complement masked
+    unfolding bitDifference complement minus
     encoded-below j inside width =
         let two : 2 ≤ modulus n = omega (arith, bounds width) in
         let k = j - squareCount n in
@@ -120,7 +121,7 @@ module _ (n side : ℕ) (tape : List ℕ) where
         (choice-below (eqb (k % 2) 0) (constant-below side (k / 2) two) (constant-below (other side) (k / 2) two)))
 
 pub gives-away : (n side : ℕ) (tape : List ℕ) → GivesAway n side tape
-unfolding masked
+unfolding minus
 gives-away n side tape width x y x′ y′ work work′ j inside =
     let positive : 0 < modulus n = omega (arith, bounds width) in
     rw (word-masked n side tape x y work j inside, word-masked n side tape x′ y′ work′ j inside)

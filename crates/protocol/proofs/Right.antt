@@ -7,6 +7,7 @@ use native.Mathlib.Omega.{arith}
 use lib.Dec.{ltb}
 use lib.ListN.{length}
 use Rattle.field.specs.Width.{modulus, listed}
+use Rattle.field.specs.Subtraction.{minus}
 use Rattle.field.specs.Congruence.{Cong}
 use Rattle.field.proofs.Congruences.{cong-eq, _⊙_}
 use Rattle.shares.specs.Side.{other}
@@ -133,7 +134,7 @@ module _ {n pair number side : ℕ} {t1 t2 : List ℕ} (m : Matched n pair numbe
       both-total-5 m x1 y1 x2 y2 (o 4) (t 4) (rooms-4 .mine) (rooms-4 .theirs) _ _ (halves-4 0 (omega arith)) (halves-4 1 (omega arith))
 
   pub right : Cong (modulus n) (answerOwn b c w + answerOthers b c w) (indicator (ltb ((x1 + x2) % modulus n) ((y1 + y2) % modulus n)))
-  unfolding answerOwn answerOthers sentOwn sentOthers
+  unfolding minus answerOwn answerOthers sentOwn sentOthers
   right =
       let p = modulus n in
       let v = valueOf n x1 y1 x2 y2 in

@@ -7,6 +7,7 @@ use native.Mathlib.Nat.{le-of-lt, pow-suc, pow-zero, one-mul}
 use native.Mathlib.Omega.{arith}
 use borrow.Author.Tests.{eq-eqb}
 use lib.Dec.{eqb}
+use Rattle.field.proofs.Subtraction.{minus-plus}
 use Rattle.field.specs.Width.{modulus, listed}
 use Rattle.field.specs.Congruence.{Cong}
 use Rattle.field.specs.Inverse.{inverse}
@@ -23,7 +24,6 @@ use Rattle.protocol.specs.Clear.{sharedBits}
 use Rattle.protocol.proofs.Wraps.{inverseTotal, maskTotal, pow-times}
 use Rattle.protocol.specs.Change.{Shares, sharesOf, countOf}
 use Rattle.protocol.specs.Shift.{newMask, newValue, newInverse, newPower, newLeft, newRight, newProduct, shifted}
-use Rattle.protocol.proofs.Moves.{rest-plus}
 use Rattle.protocol.proofs.Pieces.{shifted-length, shifted-trailer, shifted-below, new-mask, new-value, new-inverse, new-power, new-left, new-right, new-product}
 use Rattle.protocol.proofs.Units.{unit}
 
@@ -68,13 +68,13 @@ module _ {n pair number side : ℕ} {own others : List ℕ} (m : Matched n pair 
   pub inverse-total : (g : ℕ) → g < groupCount n
       → Cong (modulus n) (newInverse s s′ own others g + groupInverse n (section n 1 others) g) (inverseTotal n own others g * down g)
   unfolding newInverse
-  inverse-total g less = rest-plus n l _ _ (le-of-lt (group-inverse-below (others-readable m) g less))
+  inverse-total g less = minus-plus n _ _ (le-of-lt (group-inverse-below (others-readable m) g less))
 
   pub power-total : (g k : ℕ) → g < groupCount n → 1 ≤ k → k ≤ n
       → Cong (modulus n) (newPower s s′ own others g k + groupPower n (section n 1 others) g k) ((maskTotal n own others g * up g) ^ k)
   unfolding newPower
   power-total g k less low high =
-      rest-plus n l _ _ (le-of-lt (group-power-below (others-readable m) g k less high))
+      minus-plus n _ _ (le-of-lt (group-power-below (others-readable m) g k less high))
       ⊙ cong-mul (dealt-power m g k less low high) cong-refl
       ⊙ cong-eq (sym (pow-times (maskTotal n own others g) (up g) k))
 
@@ -92,7 +92,7 @@ module _ {n pair number side : ℕ} {own others : List ℕ} (m : Matched n pair 
       → Cong (modulus n) (newValue s s′ own others j + squareValue (section n 0 others) j)
       ((newMask s s′ own others j + squareMask (section n 0 others) j) * (newMask s s′ own others j + squareMask (section n 0 others) j))
   unfolding newValue
-  square-meets j less = rest-plus n l _ _ (le-of-lt (square-value-below (others-readable m) j less))
+  square-meets j less = minus-plus n _ _ (le-of-lt (square-value-below (others-readable m) j less))
 
   powers-meet : (g k : ℕ) → g < groupCount n → 1 ≤ k → k ≤ n
       → Cong (modulus n) (newPower s s′ own others g k + groupPower n (section n 1 others) g k)
@@ -107,7 +107,7 @@ module _ {n pair number side : ℕ} {own others : List ℕ} (m : Matched n pair 
       → Cong (modulus n) (newProduct s s′ own others i + tripleProduct (section n 2 others) i)
       ((newLeft s s′ own others i + tripleLeft (section n 2 others) i) * (newRight s s′ own others i + tripleRight (section n 2 others) i))
   unfolding newProduct
-  triple-meets i less = rest-plus n l _ _ (le-of-lt (triple-product-below (others-readable m) i less))
+  triple-meets i less = minus-plus n _ _ (le-of-lt (triple-product-below (others-readable m) i less))
 
   pub matched-shifted : Matched n pair number side (shifted s s′ own others) others
   unfolding squarePair inversePair powerPair tripleGroup

@@ -12,6 +12,7 @@ use lib.ListN.{length, getD, List·getD-append}
 use Rattle.lists.specs.Tabulate.{tabulate}
 use Rattle.lists.proofs.Tabulate.{length-tabulate, getD-tabulate}
 use Rattle.lists.proofs.Sums.{sum-add}
+use Rattle.field.proofs.Subtraction.{minus-total}
 use Rattle.field.specs.Width.{modulus, listed}
 use Rattle.field.specs.Congruence.{Cong}
 use Rattle.field.proofs.Congruences.{cong-refl, cong-eq, _⊙_, cong-mod, cong-add, cong-mul}
@@ -35,7 +36,7 @@ use Rattle.protocol.specs.Levels.{levelMatch, levelOpened, wrapShare}
 use Rattle.protocol.specs.Rounds.{doubledOf, squaresOf, squareWord, lowProducts, lowSum, levelProducts, wrapProducts, halfShare, halfProduct, lastProduct, lastLeft, lastRight, answerShare, message, afterHearing}
 use Rattle.protocol.specs.Clear.{valueOf, sharedBits, lowSumOf, wrapOf, halfOf}
 use Rattle.protocol.proofs.Reading.{held-below}
-use Rattle.protocol.proofs.Totals.{masked-total, part, complement-total, exclusive-total}
+use Rattle.protocol.proofs.Totals.{part, complement-total, exclusive-total}
 use Rattle.protocol.proofs.Closings.{Heard, openings-heard, heard-after, closed-total}
 use Rattle.protocol.proofs.Matches.{count-total}
 use Rattle.protocol.proofs.Wraps.{inverseTotal, level-total, codes-wrap}
@@ -278,7 +279,7 @@ module _ {n pair number side : ℕ} {t1 t2 : List ℕ} (m : Matched n pair numbe
         ⊙ part n l (masked n h1 m1 + k1 + (masked n h2 m2 + k2)) (m1 + m2) (h + (1 - (h + u) % 2) * (1 - z)) (h * u)
         (cong-eq {b = (masked n h1 m1 + masked n h2 m2 + (m1 + m2)) + (k1 + k2)} (omega arith)
         ⊙ cong-add
-        (masked-total n l h1 h2 m1 m2 (le-of-lt (held-below n v1 (bothSlot n) l)) (le-of-lt (held-below n v2 (bothSlot n) l)) ⊙ hh)
+        (minus-total n h1 h2 m1 m2 (le-of-lt (held-below n v1 (bothSlot n) l)) (le-of-lt (held-below n v2 (bothSlot n) l)) ⊙ hh)
         (closed-total m (3 * n + 7 + 0) (omega arith) (lastLeft n side v1) (lastRight n side v1) (lastLeft n (other side) v2) (lastRight n (other side) v2)
         (message c v2 6) (message b v1 6) (0 + 0 * 2)
         (openings-heard c (lastProduct c v2) 0 (omega arith)) (openings-heard b (lastProduct b v1) 0 (omega arith))

@@ -6,22 +6,15 @@ use native.Mathlib.Nat.{le-of-lt, mod-lt}
 use native.Mathlib.Omega.{arith}
 use Rattle.field.specs.Width.{modulus, listed}
 use Rattle.field.specs.Congruence.{Cong}
+use Rattle.field.proofs.Subtraction.{minus-total}
 use Rattle.field.proofs.Widths.{bounds}
 use Rattle.field.proofs.Congruences.{cong-refl, cong-eq, cong-sym, _⊙_, cong-mod, cong-add, cong-cancel, cong-double}
 use Rattle.shares.specs.Side.{isSide, other}
-use Rattle.shares.specs.Share.{constantShare, masked}
+use Rattle.shares.specs.Share.{constantShare}
 use Rattle.shares.proofs.Sides.{constant-total}
-use Rattle.shares.proofs.Products.{masked-plus}
 use Rattle.protocol.specs.Tests.{complement, exclusive}
 
 module _ (n : ℕ) (l : listed n ≡ true) where
-  -- two masked shares and what masks them
-  pub masked-total : (v1 v2 a1 a2 : ℕ) → a1 ≤ modulus n → a2 ≤ modulus n
-      → Cong (modulus n) (masked n v1 a1 + masked n v2 a2 + (a1 + a2)) (v1 + v2)
-  masked-total v1 v2 a1 a2 l1 l2 =
-      cong-eq {b = (a1 + masked n v1 a1) + (a2 + masked n v2 a2)} (omega arith)
-      ⊙ cong-add (masked-plus n v1 a1 l1) (masked-plus n v2 a2 l2)
-
   -- from a sum, what one part of it is
   pub part : (a b c d : ℕ) → Cong (modulus n) (a + b) c → Cong (modulus n) b d → (e : ℕ) → e + d ≡ c → Cong (modulus n) a e
   part a b c d sum same e total =
@@ -33,7 +26,7 @@ module _ (n : ℕ) (l : listed n ≡ true) where
   unfolding complement
   complement-total side s v1 v2 v l1 l2 same bit =
       part _ (v1 + v2) 1 v
-      (masked-total (constantShare side 1) (constantShare (other side) 1) v1 v2 (le-of-lt l1) (le-of-lt l2)
+      (minus-total n (constantShare side 1) (constantShare (other side) 1) v1 v2 (le-of-lt l1) (le-of-lt l2)
       ⊙ cong-eq (constant-total side 1 s))
       same (1 - v) (omega arith)
 
@@ -45,6 +38,6 @@ module _ (n : ℕ) (l : listed n ≡ true) where
       let p = modulus n in
       let below : (x : ℕ) → x % p ≤ p = λ x. le-of-lt (mod-lt x (omega (arith, bounds l))) in
       part _ ((q1 + q1) % p + (q2 + q2) % p) u (2 * q)
-      (masked-total u1 u2 ((q1 + q1) % p) ((q2 + q2) % p) (below (q1 + q1)) (below (q2 + q2)) ⊙ hu)
+      (minus-total n u1 u2 ((q1 + q1) % p) ((q2 + q2) % p) (below (q1 + q1)) (below (q2 + q2)) ⊙ hu)
       (cong-add cong-mod cong-mod ⊙ cong-eq {b = 2 * (q1 + q2)} (omega arith) ⊙ cong-double hq)
       e total

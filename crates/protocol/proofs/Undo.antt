@@ -10,6 +10,7 @@ use lib.ListN.{getD, drop, take-append-drop}
 use lib.Seq.{drop-drop}
 use Rattle.lists.specs.Tabulate.{tabulate}
 use Rattle.lists.proofs.Tabulate.{tabulated}
+use Rattle.field.proofs.Subtraction.{minus-below, minus-unique}
 use Rattle.field.specs.Width.{listed}
 use Rattle.field.proofs.Congruences.{cong-refl, cong-eq, cong-sym, _⊙_, cong-mul, cong-pow}
 use Rattle.tape.specs.Layout.{section, sectionLength, sectionStart, bodyLength, squareCount, groupCount, tripleCount}
@@ -21,7 +22,7 @@ use Rattle.tape.proofs.Dealing.{own-readable, others-readable, dealt-square, de
 use Rattle.protocol.proofs.Wraps.{inverseTotal, maskTotal, pow-times}
 use Rattle.protocol.specs.Change.{Shares, sharesOf, squareShareOf, leftValue}
 use Rattle.protocol.specs.Shift.{moved, newMask, newValue, newInverse, newPower, newLeft, newRight, newProduct, squareWords, powerWords, tripleWords, shifted}
-use Rattle.protocol.proofs.Moves.{moved-back, rest-below, rest-unique}
+use Rattle.protocol.proofs.Moves.{moved-back}
 use Rattle.protocol.proofs.Pieces.{new-mask, new-inverse, new-power, new-left, new-right, shifted-tail}
 use Rattle.protocol.proofs.Rules.{down, up, units, inverse-total, power-total}
 use Rattle.protocol.proofs.Bounds.{square-share-most, left-most, right-most, right-same}
@@ -66,13 +67,13 @@ module _ {n pair number side : ℕ} {own others : List ℕ} (m : Matched n pair 
   unfolding newValue
   value-back j less =
       rw (mask-back j less)
-      (rest-unique n l _ _ _ (le-of-lt (square-value-below (others-readable m) j less)) (square-value-below (own-readable m) j less)
+      (minus-unique n _ _ _ l (le-of-lt (square-value-below (others-readable m) j less)) (square-value-below (own-readable m) j less)
       (dealt-square m j less .square))
 
   inverse-back : (g : ℕ) → g < groupCount n → newInverse s′ s t others g ≡ groupInverse n (section n 1 own) g
   unfolding newInverse
   inverse-back g less =
-      rest-unique n l _ _ _ (le-of-lt (group-inverse-below (others-readable m) g less)) (group-inverse-below (own-readable m) g less)
+      minus-unique n _ _ _ l (le-of-lt (group-inverse-below (others-readable m) g less)) (group-inverse-below (own-readable m) g less)
       (cong-sym
       (cong-mul (cong-eq (ap (λ (w : ℕ). w + groupInverse n (section n 1 others) g) (new-inverse s s′ own others g less)) ⊙ inverse-total m x y x′ y′ xo yo g less) cong-refl
       ⊙ cong-eq {b = inverseTotal n own others g * (down m x y x′ y′ xo yo g * up m x y x′ y′ xo yo g)} (omega arith)
@@ -85,7 +86,7 @@ module _ {n pair number side : ℕ} {own others : List ℕ} (m : Matched n pair 
       let r = maskTotal n own others g in
       let d = down m x y x′ y′ xo yo g in
       let u = up m x y x′ y′ xo yo g in
-      rest-unique n l _ _ _ (le-of-lt (group-power-below (others-readable m) g k less high)) (group-power-below (own-readable m) g k less high)
+      minus-unique n _ _ _ l (le-of-lt (group-power-below (others-readable m) g k less high)) (group-power-below (own-readable m) g k less high)
       (dealt-power m g k less low high
       ⊙ cong-sym
       (cong-mul (cong-eq (ap (λ (w : ℕ). w + groupPower n (section n 1 others) g k) (new-power s s′ own others g k less low high)) ⊙ power-total m x y x′ y′ xo yo g k less low high) cong-refl
@@ -109,14 +110,14 @@ module _ {n pair number side : ℕ} {own others : List ℕ} (m : Matched n pair 
         right-same s (newInverse s′ s t others) f inverse-back i,
       )
       (moved-back n l _ _ _ (right-most s l f (λ g lg. le-of-lt (group-inverse-below (own-readable m) g lg)) i)
-      (right-most s′ l h (λ g lg. le-of-lt (rest-below n l _ _)) i)
+      (right-most s′ l h (λ g lg. le-of-lt (minus-below n _ _ l)) i)
       (triple-right-below (own-readable m) i less))
 
   product-back : (i : ℕ) → i < tripleCount n → newProduct s′ s t others i ≡ tripleProduct (section n 2 own) i
   unfolding newProduct
   product-back i less =
       rw (left-back i less, right-back i less)
-      (rest-unique n l _ _ _ (le-of-lt (triple-product-below (others-readable m) i less)) (triple-product-below (own-readable m) i less)
+      (minus-unique n _ _ _ l (le-of-lt (triple-product-below (others-readable m) i less)) (triple-product-below (own-readable m) i less)
       (dealt-triple m i less .product))
 
   -- ---- section by section

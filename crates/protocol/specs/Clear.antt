@@ -1,7 +1,8 @@
 -- The values that the shares stand for, in the clear. No box holds one; the theorems speak of them.
-use Prim.Native.Nat.{ℕ, zero, suc, _+_, _-_, _*_, _/_, _%_}
+use Prim.Native.Nat.{ℕ, zero, suc, _+_, _*_, _/_, _%_}
 use lib.Dec.{leb, ltb}
 use Rattle.field.specs.Width.{modulus}
+use Rattle.field.specs.Subtraction.{minus}
 use Rattle.shares.specs.Side.{other}
 use Rattle.encoding.specs.Codes.{levelCode}
 use Rattle.encoding.specs.Matching.{indicator, sameBits}
@@ -11,7 +12,7 @@ use Rattle.protocol.specs.Tests.{doubled, lowBit}
 abbrev pub valueOf : ℕ → ℕ → ℕ → ℕ → ℕ → ℕ → ℕ
 valueOf n x1 y1 x2 y2 zero = (x1 + x2) % modulus n
 valueOf n x1 y1 x2 y2 (suc zero) = (y1 + y2) % modulus n
-valueOf n x1 y1 x2 y2 (suc (suc t)) = ((x1 + x2) % modulus n + (modulus n - (y1 + y2) % modulus n)) % modulus n
+valueOf n x1 y1 x2 y2 (suc (suc t)) = minus n ((x1 + x2) % modulus n) ((y1 + y2) % modulus n)
 
 -- how many bits the two codes of group g share: A − 1. The box of the given side has x1 and y1
 abbrev pub sharedBits : ℕ → ℕ → ℕ → ℕ → ℕ → ℕ → ℕ → ℕ

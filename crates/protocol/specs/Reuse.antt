@@ -1,12 +1,13 @@
 -- The fear of document 01: one tape in two jobs. Word by word, the difference of the two first messages is the difference of the two
 -- encodings of the doubled shares, whatever the tape. So whoever hears both learns how the shares differ; the tally is there against this.
-use Prim.Native.Nat.{ℕ, _+_, _-_, _%_, _<_}
+use Prim.Native.Nat.{ℕ, _<_}
 use mathlib.Core.Path.{_≡_}
 use mathlib.Core.Bool.{true}
 use mathlib.Core.List.{List, _++_}
 use lib.ListN.{getD}
 use Rattle.lists.specs.Tabulate.{tabulate}
-use Rattle.field.specs.Width.{listed, modulus}
+use Rattle.field.specs.Width.{listed}
+use Rattle.field.specs.Subtraction.{minus}
 use Rattle.shares.specs.Side.{other}
 use Rattle.shares.specs.Share.{constantShare}
 use Rattle.tape.specs.Layout.{squareCount}
@@ -14,10 +15,6 @@ use Rattle.protocol.specs.Tests.{doubled, lowBit}
 use Rattle.protocol.specs.Products.{party, alternating}
 use Rattle.protocol.specs.Squares.{bitDifference}
 use Rattle.protocol.specs.Rounds.{roundWords, message}
-
--- u − v modulo p
-abbrev pub difference : ℕ → ℕ → ℕ → ℕ
-difference n u v = (u + (modulus n - v)) % modulus n
 
 -- what round 1 masks, of a box's shares alone: the bit differences of the doubled shares' codes, then their low bits
 unfoldable pub encoded : ℕ → ℕ → ℕ → ℕ → List ℕ
@@ -29,5 +26,5 @@ encoded n side x y =
 abbrev pub GivesAway : ℕ → ℕ → List ℕ → Type 0
 GivesAway n side tape =
     listed n ≡ true → (x y x′ y′ : ℕ) (work work′ : List ℕ) (j : ℕ) → j < roundWords n 1
-    → difference n (getD (message (party n side x y tape) work 1) j 0) (getD (message (party n side x′ y′ tape) work′ 1) j 0)
-    ≡ difference n (getD (encoded n side x y) j 0) (getD (encoded n side x′ y′) j 0)
+    → minus n (getD (message (party n side x y tape) work 1) j 0) (getD (message (party n side x′ y′ tape) work′ 1) j 0)
+    ≡ minus n (getD (encoded n side x y) j 0) (getD (encoded n side x′ y′) j 0)

@@ -5,8 +5,9 @@ use lib.ListN.{getD}
 use lib.Seq.{sets}
 use Rattle.lists.specs.Tabulate.{tabulate}
 use Rattle.field.specs.Width.{modulus}
+use Rattle.field.specs.Subtraction.{minus}
 use Rattle.shares.specs.Side.{other}
-use Rattle.shares.specs.Share.{constantShare, masked}
+use Rattle.shares.specs.Share.{constantShare}
 use Rattle.tape.specs.Layout.{section, squareCount, groupCount}
 use Rattle.tape.specs.Letters.{groupInverse}
 use Rattle.protocol.specs.Tests.{doubled, lowBit, complement, exclusive}
@@ -109,7 +110,7 @@ lastProduct b work =
 -- the answer share: H − M + K
 unfoldable pub answerShare : Party → List ℕ → List ℕ → ℕ
 answerShare b work heard =
-    (masked (b .n) (held (b .n) work (halfSlot (b .n) 0)) (held (b .n) work (bothSlot (b .n)))
+    (minus (b .n) (held (b .n) work (halfSlot (b .n) 0)) (held (b .n) work (bothSlot (b .n)))
     + closing b (lastProduct b work) heard 0 0)
     % modulus (b .n)
 

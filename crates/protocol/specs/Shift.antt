@@ -1,12 +1,13 @@
 -- The map from a box's tape for one pair of shares to its tape for another, the other box's tape being fixed. Each mask moves with the
 -- value that it hides, each word that follows from an equation is made anew.
-use Prim.Native.Nat.{ℕ, _+_, _-_, _*_, _/_, _%_, _^_}
+use Prim.Native.Nat.{ℕ, _+_, _*_, _/_, _%_, _^_}
 use mathlib.Core.Bool.{cond}
 use mathlib.Core.List.{List, [], _∷_, _++_}
 use lib.Dec.{eqb}
 use lib.ListN.{getD, drop}
 use Rattle.lists.specs.Tabulate.{tabulate}
 use Rattle.field.specs.Width.{modulus}
+use Rattle.field.specs.Subtraction.{minus}
 use Rattle.field.specs.Inverse.{inverse}
 use Rattle.tape.specs.Layout.{section, sectionLength, bodyLength}
 use Rattle.tape.specs.Letters.{squareMask, squareValue, groupInverse, groupPower, tripleLeft, tripleRight, tripleProduct}
@@ -14,11 +15,7 @@ use Rattle.protocol.specs.Change.{Shares, squareShareOf, countOf, leftVa
 
 -- a mask word, moved by v′ − v
 unfoldable pub moved : ℕ → ℕ → ℕ → ℕ → ℕ
-moved n a v v′ = (a + (v′ + (modulus n - v))) % modulus n
-
--- the box's word of a total, the other box's word being given
-unfoldable pub rest : ℕ → ℕ → ℕ → ℕ
-rest n total others = (total + (modulus n - others)) % modulus n
+moved n a v v′ = (a + minus n v′ v) % modulus n
 
 -- s are the shares before, s′ those after; `own` is the box's tape and `others` the other box's
 module _ (s s′ : Shares) (own others : List ℕ) where
@@ -33,19 +30,19 @@ module _ (s s′ : Shares) (own others : List ℕ) where
   unfoldable pub newValue : ℕ → ℕ
   newValue j =
       let a = newMask j + squareMask (section width 0 others) j in
-      rest width (a * a) (squareValue (section width 0 others) j)
+      minus width (a * a) (squareValue (section width 0 others) j)
 
   -- ---- power groups: r is multiplied by ρ = A′ / A, w divided
 
   unfoldable pub newInverse : ℕ → ℕ
   newInverse g =
-      rest width
+      minus width
       ((groupInverse width (section width 1 own) g + groupInverse width (section width 1 others) g) * (countOf s g * inverse width (countOf s′ g)))
       (groupInverse width (section width 1 others) g)
 
   unfoldable pub newPower : ℕ → ℕ → ℕ
   newPower g k =
-      rest width
+      minus width
       ((groupPower width (section width 1 own) g k + groupPower width (section width 1 others) g k) * (countOf s′ g * inverse width (countOf s g)) ^ k)
       (groupPower width (section width 1 others) g k)
 
@@ -62,7 +59,7 @@ module _ (s s′ : Shares) (own others : List ℕ) where
 
   unfoldable pub newProduct : ℕ → ℕ
   newProduct i =
-      rest width
+      minus width
       ((newLeft i + tripleLeft (section width 2 others) i) * (newRight i + tripleRight (section width 2 others) i))
       (tripleProduct (section width 2 others) i)
 

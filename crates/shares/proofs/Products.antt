@@ -1,37 +1,21 @@
 -- With a dealt square or Beaver triple, the two boxes' shares add up to the square or the product. `side` is either box.
 use Prim.Native.Nat.{ℕ, _+_, _-_, _*_, _%_, _<_, _≤_}
-use mathlib.Core.Path.{_≡_, refl, sym, ap, _∙_}
+use mathlib.Core.Path.{_≡_, ap}
 use mathlib.Core.Bool.{true}
 use native.Mathlib.Nat.{mod-lt, add-comm}
 use native.Mathlib.Omega.{arith}
 use Rattle.field.specs.Width.{modulus, listed}
 use Rattle.field.specs.Congruence.{Cong}
 use Rattle.field.proofs.Widths.{bounds}
-use Rattle.field.proofs.Congruences.{cong-refl, cong-eq, cong-sym, _⊙_, cong-mod, cong-add, cong-mul, cong-negation}
+use Rattle.field.proofs.Subtraction.{plus-minus}
+use Rattle.field.proofs.Congruences.{cong-refl, cong-eq, _⊙_, cong-mod, cong-add, cong-mul}
 use Rattle.shares.specs.Side.{isSide, other}
-use Rattle.shares.specs.Share.{constantShare, masked, opened, squareShare, productShare}
+use Rattle.shares.specs.Share.{masked, opened, squareShare, productShare}
 use Rattle.shares.proofs.Sides.{constant-total}
-
--- ---- every word that is made is below p
-
-below : (n x : ℕ) → listed n ≡ true → x % modulus n < modulus n
-below n x l = mod-lt x (omega (arith, bounds l))
-
-pub masked-below : (n v a : ℕ) → listed n ≡ true → masked n v a < modulus n
-unfolding masked
-masked-below n v a l = below n _ l
-
-pub opened-below : (n s h : ℕ) → listed n ≡ true → opened n s h < modulus n
-unfolding opened
-opened-below n s h l = below n _ l
-
-pub square-below : (n side e a q : ℕ) → listed n ≡ true → squareShare n side e a q < modulus n
-unfolding squareShare
-square-below n side e a q l = below n _ l
 
 pub product-share-below : (n side e f a b c : ℕ) → listed n ≡ true → productShare n side e f a b c < modulus n
 unfolding productShare
-product-share-below n side e f a b c l = below n _ l
+product-share-below n side e f a b c l = mod-lt _ (omega (arith, bounds l))
 
 -- ---- opening
 
@@ -40,15 +24,6 @@ pub opened-both : (n s h : ℕ) → opened n s h ≡ opened n h s
 unfolding opened
 opened-both n s h = ap (λ (x : ℕ). x % modulus n) (add-comm s h)
 
--- a masked share and its mask add up to the share
-pub masked-plus : (n v a : ℕ) → a ≤ modulus n → Cong (modulus n) (a + masked n v a) v
-unfolding masked
-masked-plus n v a l =
-    cong-add cong-refl cong-mod
-    ⊙ cong-eq {b = v + (a + (modulus n - a))} (omega arith)
-    ⊙ cong-add cong-refl (cong-negation l)
-    ⊙ cong-eq (omega arith)
-
 -- what is opened, with the two mask words, adds up to the value
 pub opened-plus : (n v1 v2 a1 a2 : ℕ) → a1 ≤ modulus n → a2 ≤ modulus n
     → Cong (modulus n) (a1 + a2 + opened n (masked n v1 a1) (masked n v2 a2)) (v1 + v2)
@@ -56,7 +31,7 @@ unfolding opened
 opened-plus n v1 v2 a1 a2 l1 l2 =
     cong-add cong-refl cong-mod
     ⊙ cong-eq {b = (a1 + masked n v1 a1) + (a2 + masked n v2 a2)} (omega arith)
-    ⊙ cong-add (masked-plus n v1 a1 l1) (masked-plus n v2 a2 l2)
+    ⊙ cong-add (plus-minus n v1 a1 l1) (plus-minus n v2 a2 l2)
 
 -- ---- the shares' sum
 

@@ -1,16 +1,17 @@
 -- The share products of document 01, "The field and the shares", as one box works them out. All words are below p.
-use Prim.Native.Nat.{ℕ, _+_, _-_, _*_, _%_}
+use Prim.Native.Nat.{ℕ, _+_, _*_, _%_}
 use mathlib.Core.Bool.{cond}
 use lib.Dec.{eqb}
 use Rattle.field.specs.Width.{modulus}
+use Rattle.field.specs.Subtraction.{minus}
 
 -- a box's share of a public constant: box 1 alone adds it
 unfoldable pub constantShare : ℕ → ℕ → ℕ
 constantShare side c = cond (eqb side 1) c 0
 
 -- what a box sends to open v − a, a being its word of the mask
-unfoldable pub masked : ℕ → ℕ → ℕ → ℕ
-masked n v a = (v + (modulus n - a)) % modulus n
+abbrev pub masked : ℕ → ℕ → ℕ → ℕ
+masked n v a = minus n v a
 
 -- an opened value: the word that was sent and the word that was heard
 unfoldable pub opened : ℕ → ℕ → ℕ → ℕ

@@ -1,5 +1,6 @@
 -- `field::sub` meets its contract.
 use native.Mathlib.Omega.{arith}
+use Rattle.field.specs.Subtraction.{minus}
 use Rattle.field.proofs.Remainders.{remainder}
 use borrow.Author.Needs.{needs}
 use Rattle.field.proofs.sub.Statement.{statement}
@@ -15,9 +16,11 @@ add-result : tie.Need-add-result
 add-result c = search needs
 
 returns : tie.Need-returns
+unfolding minus
 returns c = remainder 1 (omega arith) (omega arith)
 
 returns-2 : tie.Need-returns-2
+unfolding minus
 returns-2 c = remainder 0 (omega arith) (omega arith)
 
 pub sub-spec : {M : Type 1} → statement M

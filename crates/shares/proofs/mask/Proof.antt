@@ -1,6 +1,5 @@
 -- `shares::mask` meets its contract: it is the field's difference.
 use borrow.Author.Needs.{needs}
-use Rattle.shares.specs.Share.{masked}
 use Rattle.shares.proofs.mask.Statement.{statement}
 use Rattle.shares.proofs.mask.Tie as tie
 
@@ -8,7 +7,6 @@ sub-requires : tie.Need-sub-requires
 sub-requires c κs = search needs
 
 returns : tie.Need-returns
-unfolding masked
 returns c = c .sub .ensures
 
 pub mask-spec : {M : Type 1} → statement M

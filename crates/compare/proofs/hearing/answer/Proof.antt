@@ -2,6 +2,7 @@
 use mathlib.Core.Path.{_∙_}
 use native.Mathlib.Omega.{arith}
 use borrow.Author.Needs.{needs}
+use Rattle.field.specs.Subtraction.{minus}
 use Rattle.shares.specs.Share.{masked}
 use Rattle.protocol.specs.Work.{held}
 use Rattle.protocol.specs.Products.{party}
@@ -58,7 +59,7 @@ add-requires : tie.Need-add-requires
 add-requires c κs = search needs
 
 returns : tie.Need-returns
-unfolding replyTo answerShare lastProduct held masked
+unfolding replyTo answerShare lastProduct held minus
 returns c =
     let difference = c .before in
     let h = difference .before in

@@ -1,6 +1,7 @@
 -- `steps::tests::tests_of` meets its contract.
 use mathlib.Core.Path.{refl}
 use borrow.Author.Needs.{needs}
+use Rattle.field.specs.Subtraction.{minus}
 use Rattle.shares.specs.Share.{masked}
 use Rattle.steps.proofs.tests.tests_of.Statement.{statement}
 use Rattle.steps.proofs.tests.tests_of.Tie as tie
@@ -18,7 +19,7 @@ add-requires-3 : tie.Need-add-requires-3
 add-requires-3 c κs = search needs
 
 returns : tie.Need-returns
-unfolding masked
+unfolding minus
 returns c =
     let d = c .before .before .before .sub .ensures .0 in
     let x = c .before .before .add .ensures .0 in
