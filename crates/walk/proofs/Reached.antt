@@ -49,12 +49,16 @@ marked-four = refl
 -- ---- a call that is its rule
 
 -- compared with the state before it
-pub told : {t : Tried} {r : Outcome} {s : State} {kept : Bool} {buffer : List ℕ} {rule : Result} → outcome r buffer ≡ rule
-    → (t .answer ≡ r .answer) × (t .kept ≡ true → (kept ≡ true) × (s ≡ r .state)) → Told t s rule
-told e h =
+pub told : {t : Tried} {r : Outcome} {s : State} {kept : Bool} {before buffer : List ℕ} {rule : Result} → outcome r buffer ≡ rule
+    → (t .answer ≡ r .answer) × (t .kept ≡ true → (kept ≡ true) × (s ≡ r .state)) × (kept ≡ true → s ≡ r .state → t .kept ≡ true)
+    → (kept ≡ true → before ≡ buffer) → (before ≡ buffer → kept ≡ true) → Told t s before rule
+told e h right left =
+    let state = ap (λ (x : Result). x .state) e in
+    let buffer = ap (λ (x : Result). x .buffer) e in
     record {
       reply = ap replyOf (h .0) ∙ ap (λ (x : Result). x .reply) e;
-      same = λ k. h .1 k .1 ∙ ap (λ (x : Result). x .state) e;
+      same = λ k. (h .1 k .1 ∙ state, right (h .1 k .0) ∙ buffer);
+      kept = λ s b. h .2 (left (b ∙ sym buffer)) (s ∙ sym state);
     }
 
 -- the box after it

@@ -3,6 +3,7 @@ use Prim.Native.Nat.{ℕ}
 use mathlib.Core.Bool.{cond, true}
 use mathlib.Core.List.{List, [], _∷_}
 use lib.Dec.{eqb}
+use lib.ListN.{replicate}
 use Rattle.tape.specs.Plain.{plainTape}
 use mathlib.Core.Path.{_≡_}
 use Rattle.rules.specs.Answers.{replyOf}
@@ -45,10 +46,15 @@ wordsOf s = s .n ∷ s .side ∷ s .pair ∷ s .tally ∷ phaseWords (s .phase)
 abbrev pub boxTape : ℕ → ℕ → List ℕ
 boxTape side number = plainTape 3 5 side number
 
--- what is told of a call in a state: the rule's reply, and nothing is called kept where the rule changes the state
-pub record Told (tried : Tried) (state : State) (rule : Result) : Type 0 where
+-- so many words of what stands in the buffers that a call is lent to write
+abbrev pub filler : ℕ → List ℕ
+filler count = replicate count 9
+
+-- what is told of a call in a state: the rule's reply, and it's called kept just when the rule leaves the state, and the buffer, as it was
+pub record Told (tried : Tried) (state : State) (buffer : List ℕ) (rule : Result) : Type 0 where
   pub reply : replyOf (tried .answer) ≡ rule .reply
-  pub same : tried .kept ≡ true → state ≡ rule .state
+  pub same : tried .kept ≡ true → (state ≡ rule .state) × (buffer ≡ rule .buffer)
+  pub kept : state ≡ rule .state → buffer ≡ rule .buffer → tried .kept ≡ true
 
 -- a tally of four fresh tapes
 abbrev pub freshTally : List ℕ

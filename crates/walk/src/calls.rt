@@ -4,13 +4,13 @@ use rules::state::Outcome;
 use rules::state::State;
 ghost use mathlib.Core.Path.{_≡_};
 ghost use mathlib.Core.Bool.{true, _&&_};
-ghost use Prim.Native.Nat.{ℕ, _<_};
+ghost use mathlib.Core.List.{[]};
 ghost use lib.Dec.{eqb};
-ghost use lib.ListN.{length, getD};
+ghost use lib.ListN.{length};
 ghost use Rattle.rules.specs.Answers.{replyOf};
 ghost use Rattle.exchange.specs.Opening.{refusalOf};
 ghost use Rattle.rules.specs.Calls.{wakeRule, startRule, speakRule, hearRule, dropRule};
-ghost use Rattle.walk.specs.Walk.{Told};
+ghost use Rattle.walk.specs.Walk.{filler, Told};
 
 // What stands in the buffers that a call is lent to write.
 pub const FILLER: u32 = 9;
@@ -31,7 +31,8 @@ pub fn is_refused(tried: Tried, number: u32) -> bool
 
 // Whether every word is still the filler.
 fn untouched(words: &[u32]) -> bool
-    ensures { λ r. ⌜ (r ≡ true → (j : ℕ) → j < length (now (words .entry)) → getD (now (words .entry)) j 0 ≡ 9) ⌝ }
+    ensures { λ r. ⌜ (r ≡ true → now (words .entry) ≡ filler (length (now (words .entry))))
+        × (now (words .entry) ≡ filler (length (now (words .entry))) → r ≡ true) ⌝ }
 {
     let mut i = 0;
     while i < words.len() {
@@ -44,7 +45,8 @@ fn untouched(words: &[u32]) -> bool
 }
 
 fn compared(before: State, outcome: Outcome, kept: bool) -> Tried
-    ensures { λ r. ⌜ (r .answer ≡ outcome .answer) × (r .kept ≡ true → (kept ≡ true) × (before ≡ outcome .state)) ⌝ }
+    ensures { λ r. ⌜ (r .answer ≡ outcome .answer) × (r .kept ≡ true → (kept ≡ true) × (before ≡ outcome .state))
+        × (kept ≡ true → before ≡ outcome .state → r .kept ≡ true) ⌝ }
 {
     let answer = outcome.answer;
     let after = outcome.state;
@@ -55,7 +57,7 @@ fn compared(before: State, outcome: Outcome, kept: bool) -> Tried
 }
 
 pub fn wake(state: State, n: u32, side: u32, tally: &[u8]) -> Tried
-    ensures { λ r. ⌜ Told r state (wakeRule state n side 5 (now (tally .entry))) ⌝ }
+    ensures { λ r. ⌜ Told r state (now (tally .entry)) (wakeRule state n side 5 (now (tally .entry))) ⌝ }
 {
     let r = limit_box::wake(state, n, side, crate::tapes::PAIR, tally);
     compared(state, r, true)
@@ -70,7 +72,7 @@ pub fn start(
     work: &[u32],
     tally: [u8; 4],
 ) -> Tried
-    ensures { λ r. ⌜ Told r state (startRule state number x y (now (tape .entry)) (now (work .entry)) tally) ⌝ }
+    ensures { λ r. ⌜ Told r state tally (startRule state number x y (now (tape .entry)) (now (work .entry)) tally) ⌝ }
 {
     let mut after = tally;
     let r = limit_box::start(state, number, x, y, tape, work, &mut after);
@@ -86,7 +88,8 @@ pub fn speak(
     work: &[u32],
     out: &mut [u32],
 ) -> Tried
-    ensures { λ r. ⌜ Told r state (speakRule state number round (now (tape .entry)) (now (work .entry)) (now (out .entry))) ⌝ }
+    ensures { λ r. ⌜ Told r state (filler (length (now (out .entry)))) (speakRule state number round (now (tape .entry)) (now (work .entry)) (now (out .entry))) ⌝ }
+    ensures left { λ _. ⌜ now (out .exit) ≡ speakRule state number round (now (tape .entry)) (now (work .entry)) (now (out .entry)) .buffer ⌝ }
 {
     let r = limit_box::speak(state, number, round, tape, work, &mut *out);
     compared(state, r, untouched(&*out))
@@ -101,14 +104,15 @@ pub fn hear(
     work: &mut [u32],
     incoming: &[u32],
 ) -> Tried
-    ensures { λ r. ⌜ Told r state (hearRule state number round (now (tape .entry)) (now (work .entry)) (now (incoming .entry))) ⌝ }
+    ensures { λ r. ⌜ Told r state (filler (length (now (work .entry)))) (hearRule state number round (now (tape .entry)) (now (work .entry)) (now (incoming .entry))) ⌝ }
+    ensures left { λ _. ⌜ now (work .exit) ≡ hearRule state number round (now (tape .entry)) (now (work .entry)) (now (incoming .entry)) .buffer ⌝ }
 {
     let r = limit_box::hear(state, number, round, tape, &mut *work, incoming);
     compared(state, r, untouched(&*work))
 }
 
 pub fn drop(state: State) -> Tried
-    ensures { λ r. ⌜ Told r state (dropRule state) ⌝ }
+    ensures { λ r. ⌜ Told r state [] (dropRule state) ⌝ }
 {
     let r = limit_box::drop(state);
     compared(state, r, true)

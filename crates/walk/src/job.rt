@@ -1,7 +1,10 @@
 // One whole job of both boxes: x = 5 + 5 = 3 and y = 1 + 3 = 4 modulo 7.
 use crate::bench;
+use crate::say::number;
 use crate::say::text;
 use rules::state::Answer;
+ghost use mathlib.Core.Path.{_≡_};
+ghost use Prim.Native.Nat.{_+_, _%_, _<_};
 
 // What a box answers at each step.
 fn answer_at(side: u32, step: u32) -> Answer {
@@ -15,7 +18,7 @@ fn answer_at(side: u32, step: u32) -> Answer {
 }
 
 fn answers(side: u32) {
-    crate::say::number(b"box ", side);
+    number(b"box ", side);
     text(b":");
     let mut step = 0;
     while step <= bench::LAST {
@@ -26,13 +29,42 @@ fn answers(side: u32) {
     text(b"\n");
 }
 
+// Two shares opened.
+fn opened(a: u32, b: u32) -> u32
+    ensures { λ r. ⌜ r ≡ (a + b) % 7 ⌝ }
+{
+    ((a as u64 + b as u64) % 7) as u32
+}
+
+// The words that both boxes' messages of a round open. The plain tapes' masks are 0, so these are the factors of its products.
+fn openings(round: u32)
+    requires { ⌜ round < 7 ⌝ }
+{
+    let pair = bench::reached(2 * round);
+    let one = pair.one;
+    let two = pair.two;
+    let o1 = one.out;
+    let o2 = two.out;
+    let count = crate::five::words(round);
+    number(b"round ", round);
+    text(b" opens");
+    let mut k = 0;
+    while k < count {
+        number(b" ", opened(o1[k], o2[k]));
+        k += 1;
+    }
+    text(b"\n");
+}
+
 pub fn lines() {
     text(b"a whole job, x 3 and y 4\n");
     answers(1);
     answers(2);
+    openings(4);
+    openings(5);
+    openings(6);
     let a = exchange::share_of(answer_at(1, bench::LAST));
     let b = exchange::share_of(answer_at(2, bench::LAST));
-    text(b"less ");
-    io::print_decimal(1, (a as u64 + b as u64) % 7);
+    number(b"less ", opened(a, b));
     text(b"\n");
 }

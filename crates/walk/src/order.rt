@@ -7,6 +7,10 @@ use crate::say::text;
 use crate::states;
 use crate::tapes;
 use rules::state::State;
+ghost use mathlib.Core.List.{[], _∷_};
+ghost use Rattle.lists.specs.Tabulate.{tabulate};
+ghost use Rattle.rules.specs.Calls.{startRule, speakRule, hearRule};
+ghost use Rattle.walk.specs.Walk.{boxTape, filler, Told};
 
 fn wakes() {
     let tally = [255u8; 4];
@@ -20,7 +24,10 @@ fn wakes() {
 }
 
 // A start with shares, tape and work that are refused, where byte 0 is spent.
-fn wrong_start(state: State, number: u32) -> Tried {
+fn wrong_start(state: State, number: u32) -> Tried
+    ensures { λ r. ⌜ Told r state (0 ∷ 255 ∷ 255 ∷ 255 ∷ [])
+        (startRule state number 7 7 (boxTape 2 0) (tabulate 99 (λ k. 0)) (0 ∷ 255 ∷ 255 ∷ 255 ∷ [])) ⌝ }
+{
     let tape = tapes::plain(2, 0);
     let work = [0u32; 99];
     calls::start(state, number, 7, 7, &tape, &work, [0, 255, 255, 255])
@@ -58,7 +65,9 @@ fn starts() {
 }
 
 // A speak with a tape, work and out that are refused.
-fn wrong_speak(state: State, number: u32) -> Tried {
+fn wrong_speak(state: State, number: u32) -> Tried
+    ensures { λ r. ⌜ Told r state (filler 32) (speakRule state number 1 (boxTape 2 0) (tabulate 99 (λ k. 0)) (filler 32)) ⌝ }
+{
     let tape = tapes::plain(2, 0);
     let work = [0u32; 99];
     let mut out = [FILLER; 32];
@@ -86,7 +95,9 @@ fn speaks() {
 }
 
 // A hear with a tape, work and words that are refused.
-fn wrong_hear(state: State, number: u32) -> Tried {
+fn wrong_hear(state: State, number: u32) -> Tried
+    ensures { λ r. ⌜ Told r state (filler 99) (hearRule state number 1 (boxTape 2 0) (filler 99) (tabulate 32 (λ k. 7))) ⌝ }
+{
     let tape = tapes::plain(2, 0);
     let mut work = [FILLER; 99];
     let incoming = [7u32; 32];

@@ -6,6 +6,10 @@ use crate::five::speak_on;
 use crate::say::line;
 use crate::states;
 use crate::tapes;
+ghost use Rattle.lists.specs.Tabulate.{tabulate};
+ghost use Rattle.rules.specs.Calls.{speakRule};
+ghost use Rattle.rules.specs.declared.state.Turn.the-variants.{Speak};
+ghost use Rattle.walk.specs.Walk.{jobState, filler, Told};
 
 fn turns() {
     line(b"speak, asleep: ", speak_on(states::asleep(), 0, 1));
@@ -17,7 +21,9 @@ fn turns() {
 }
 
 // The speak that is due, lent this tape.
-fn on_tape(tape: &[u32]) -> Tried {
+fn on_tape(tape: &[u32]) -> Tried
+    ensures { λ r. ⌜ Told r (jobState 4 (Speak 1)) (filler 33) (speakRule (jobState 4 (Speak 1)) 0 1 (now (tape .entry)) (tabulate 100 (λ k. 0)) (filler 33)) ⌝ }
+{
     let work = [0u32; 100];
     let mut out = [FILLER; 33];
     speak(states::opened(), 0, 1, tape, &work, &mut out)

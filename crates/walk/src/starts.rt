@@ -2,6 +2,8 @@
 use crate::calls::Tried;
 use crate::calls::start;
 use crate::say::line;
+use crate::say::number;
+use crate::say::text;
 use crate::states;
 use crate::tapes;
 use rules::state::State;
@@ -14,7 +16,7 @@ ghost use Rattle.walk.specs.Walk.{idleState, boxTape, freshTally, Told};
 
 // With a fresh tally.
 fn on_number(state: State, number: u32) -> Tried
-    ensures { λ r. ⌜ Told r state (startRule state number 5 1 (boxTape 1 number) (tabulate 100 (λ k. 0)) freshTally) ⌝ }
+    ensures { λ r. ⌜ Told r state freshTally (startRule state number 5 1 (boxTape 1 number) (tabulate 100 (λ k. 0)) freshTally) ⌝ }
 {
     crate::five::start_on(state, number, [255u8; 4])
 }
@@ -35,7 +37,8 @@ fn states_and_numbers() {
 
 // A start where that byte is tape 0's.
 pub fn on_byte(byte: u8) -> Tried
-    ensures { λ r. ⌜ Told r (idleState 4) (startRule (idleState 4) 0 5 1 (boxTape 1 0) (tabulate 100 (λ k. 0)) (byte ∷ 255 ∷ 255 ∷ 255 ∷ [])) ⌝ }
+    ensures { λ r. ⌜ Told r (idleState 4) (byte ∷ 255 ∷ 255 ∷ 255 ∷ [])
+        (startRule (idleState 4) 0 5 1 (boxTape 1 0) (tabulate 100 (λ k. 0)) (byte ∷ 255 ∷ 255 ∷ 255 ∷ [])) ⌝ }
 {
     let tape = tapes::plain(1, 0);
     let work = [0u32; 100];
@@ -50,7 +53,9 @@ fn spent_bytes() {
 }
 
 // A start with those shares, and that work.
-fn on_shares(x: u32, y: u32, work: &[u32]) -> Tried {
+fn on_shares(x: u32, y: u32, work: &[u32]) -> Tried
+    ensures { λ r. ⌜ Told r (idleState 4) freshTally (startRule (idleState 4) 0 x y (boxTape 1 0) (now (work .entry)) freshTally) ⌝ }
+{
     let tape = tapes::plain(1, 0);
     start(states::idle(), 0, x, y, &tape, work, [255u8; 4])
 }
@@ -65,7 +70,7 @@ fn shares_and_room() {
 
 // A start on number 0 that is lent this tape.
 fn on_tape(tape: &[u32]) -> Tried
-    ensures { λ r. ⌜ Told r (idleState 4) (startRule (idleState 4) 0 5 1 (now (tape .entry)) (tabulate 100 (λ k. 0)) freshTally) ⌝ }
+    ensures { λ r. ⌜ Told r (idleState 4) freshTally (startRule (idleState 4) 0 5 1 (now (tape .entry)) (tabulate 100 (λ k. 0)) freshTally) ⌝ }
 {
     let work = [0u32; 100];
     start(states::idle(), 0, 5, 1, tape, &work, [255u8; 4])
@@ -81,7 +86,7 @@ fn tape_lengths() {
 // Another word in one place of the tape.
 pub fn on_changed(place: usize, word: u32) -> Tried
     requires { ⌜ place < 148 ⌝ }
-    ensures { λ r. ⌜ Told r (idleState 4) (startRule (idleState 4) 0 5 1 (set (boxTape 1 0) place word) (tabulate 100 (λ k. 0)) freshTally) ⌝ }
+    ensures { λ r. ⌜ Told r (idleState 4) freshTally (startRule (idleState 4) 0 5 1 (set (boxTape 1 0) place word) (tabulate 100 (λ k. 0)) freshTally) ⌝ }
 {
     let tape = tapes::changed(place, word);
     on_tape(&tape)
@@ -100,10 +105,27 @@ fn trailers() {
     line(b"start, tape of n 5: ", on_changed(147, 5));
 }
 
+fn byte(b: u8) {
+    number(b" ", b as u32);
+}
+
+// A start that is taken marks its tape's byte, and no other.
+fn mark() {
+    let b = crate::bench::first(1);
+    let tally = b.tally;
+    text(b"start, the tally after it:");
+    byte(tally[0]);
+    byte(tally[1]);
+    byte(tally[2]);
+    byte(tally[3]);
+    text(b"\n");
+}
+
 pub fn lines() {
     states_and_numbers();
     spent_bytes();
     shares_and_room();
     tape_lengths();
     trailers();
+    mark();
 }

@@ -144,7 +144,7 @@ fn round_of(turn: Turn) -> u32
 }
 
 fn same_words(a: &[u32], b: &[u32]) -> bool
-    ensures { λ r. ⌜ (r ≡ true → now (a .entry) ≡ now (b .entry)) ⌝ }
+    ensures { λ r. ⌜ (r ≡ true → now (a .entry) ≡ now (b .entry)) × (now (a .entry) ≡ now (b .entry) → r ≡ true) ⌝ }
 {
     if a.len() != b.len() {
         return false;
@@ -160,7 +160,7 @@ fn same_words(a: &[u32], b: &[u32]) -> bool
 }
 
 pub fn same(a: State, b: State) -> bool
-    ensures { λ r. ⌜ (r ≡ true → a ≡ b) ⌝ }
+    ensures { λ r. ⌜ (r ≡ true → a ≡ b) × (a ≡ b → r ≡ true) ⌝ }
 {
     let left = words(a);
     let right = words(b);

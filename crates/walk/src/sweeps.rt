@@ -3,8 +3,8 @@
 use crate::calls::is_refused;
 use crate::say::text;
 ghost use mathlib.Core.Path.{_≡_};
-ghost use Prim.Native.Nat.{_<_, _≤_};
-ghost use Rattle.walk.specs.Sweeps.{placesOf};
+ghost use Prim.Native.Nat.{_<_};
+ghost use Rattle.walk.specs.Sweeps.{placesOf, refusedAt, refusedCount};
 
 pub enum Sweep {
     Bytes,
@@ -26,6 +26,7 @@ fn places(sweep: Sweep) -> usize
 // Whether the call is refused as it must be, with nothing changed.
 fn refused_at(sweep: Sweep, place: usize) -> bool
     requires { ⌜ place < placesOf sweep ⌝ }
+    ensures { λ r. ⌜ r ≡ refusedAt sweep place ⌝ }
 {
     match sweep {
         Sweep::Bytes => is_refused(crate::starts::on_byte(place as u8), 8),
@@ -36,7 +37,7 @@ fn refused_at(sweep: Sweep, place: usize) -> bool
 
 // At how many places it is.
 fn count(sweep: Sweep) -> usize
-    ensures { λ r. ⌜ r ≤ placesOf sweep ⌝ }
+    ensures { λ r. ⌜ r ≡ refusedCount sweep ⌝ }
 {
     let all = places(sweep);
     let mut right = 0;

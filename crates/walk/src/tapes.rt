@@ -2,6 +2,9 @@
 ghost use mathlib.Core.Path.{_≡_};
 ghost use Prim.Native.Nat.{_<_};
 ghost use lib.ListN.{length, set};
+ghost use mathlib.Core.List.{_++_};
+ghost use Rattle.lists.specs.Tabulate.{tabulate};
+ghost use Rattle.tape.specs.Layout.{trailer};
 ghost use Rattle.walk.specs.Walk.{boxTape};
 
 pub const PAIR: u32 = 5;
@@ -30,7 +33,7 @@ pub fn changed(place: usize, word: u32) -> [u32; 148]
 
 // A tape with a word too few before its trailer, which is right.
 pub fn short() -> [u32; 147]
-    ensures { λ r. ⌜ length r ≡ 147 ⌝ }
+    ensures { λ r. ⌜ (length r ≡ 147) × (r ≡ tabulate 140 (λ k. 0) ++ trailer 3 5 1 0) ⌝ }
 {
     let mut tape = [0u32; 147];
     tape[140] = 141;
@@ -45,7 +48,7 @@ pub fn short() -> [u32; 147]
 
 // A tape with a word too many before its trailer, which is right.
 pub fn long() -> [u32; 149]
-    ensures { λ r. ⌜ length r ≡ 149 ⌝ }
+    ensures { λ r. ⌜ (length r ≡ 149) × (r ≡ tabulate 142 (λ k. 0) ++ trailer 3 5 1 0) ⌝ }
 {
     let mut tape = [0u32; 149];
     tape[142] = 141;

@@ -24,8 +24,9 @@ compared-requires c κs = search needs
 
 returns : tie.Need-returns
 returns c =
-    let called = c .before .before .before .before .before in
-    told (called .start .ensures) (c .compared .ensures)
+    let same = c .before in
+    let called = same .before .before .before .before in
+    told (called .start .ensures) (c .compared .ensures) (same .same .ensures .0) (same .same .ensures .1)
 
 pub start-spec : {M : Type 1} → statement M
 start-spec =

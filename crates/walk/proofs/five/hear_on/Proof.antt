@@ -31,7 +31,7 @@ returns : tie.Need-returns
 returns c =
     let h = c .before in
     let w = h .before .before .before .before in
-    rw (w .before .plain .ensures .1, w .words .ensures .1) at (h .hear .ensures)
+    rw (w .before .plain .ensures .1, w .words .ensures .1) at (h .hear .ensures .0)
 
 pub hear-on-spec : {M : Type 1} → statement M
 hear-on-spec =

@@ -21,7 +21,7 @@ speak-requires c κs = search needs
 returns : tie.Need-returns
 returns c =
     let s = c .before in
-    rw (s .before .before .before .before .plain .ensures .1) at (s .speak .ensures)
+    rw (s .before .before .before .before .plain .ensures .1) at (s .speak .ensures .0)
 
 pub speak-on-spec : {M : Type 1} → statement M
 speak-on-spec =

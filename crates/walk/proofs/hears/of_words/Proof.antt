@@ -22,7 +22,7 @@ returns : tie.Need-returns
 returns c =
     let h = c .before in
     let s = h .before .before .before in
-    rw (s .spoken .ensures, s .before .plain .ensures .1) at (h .hear .ensures)
+    rw (s .spoken .ensures, s .before .plain .ensures .1) at (h .hear .ensures .0)
 
 pub of-words-spec : {M : Type 1} → statement M
 of-words-spec =

@@ -1,7 +1,8 @@
 -- `walk::states::same_words` meets its contract: every word that was passed is the same in both.
 use Prim.Native.Nat.{ℕ, _≤_, _<_, _-_}
 use mathlib.Core.Bool.{false≢true}
-use mathlib.Core.Path.{_≡_}
+use mathlib.Core.List.{List}
+use mathlib.Core.Path.{_≡_, refl, ap}
 use lib.ListN.{length, getD}
 use lib.Seq.{ext-getD}
 use borrow.Author.Count.{below-more}
@@ -16,7 +17,7 @@ abbrev μ-loop : tie.MeasureT-loop
 μ-loop a b i₀ i = length a - i
 
 returns : tie.Need-returns Inv-loop μ-loop
-returns c = λ e. absurd (false≢true e)
+returns c = (λ e. absurd (false≢true e), λ e. absurd (c .if1 .taken (ap length e)))
 
 loop-holds : tie.Need-loop-holds Inv-loop μ-loop
 loop-holds c = search needs
@@ -34,7 +35,9 @@ shared-slice-read-if2-2 : tie.Need-shared-slice-read-if2-2 Inv-loop μ-loop
 shared-slice-read-if2-2 c = search needs
 
 returns-2 : tie.Need-returns-2 Inv-loop μ-loop
-returns-2 c = λ e. absurd (false≢true e)
+returns-2 c =
+    let i = c .before .before .before .before .loop .i in
+    (λ e. absurd (false≢true e), λ e. absurd (c .if2 .taken (ap (λ (l : List ℕ). getD l i 0) e)))
 
 add-i : tie.Need-add-i Inv-loop μ-loop
 add-i c = search needs
@@ -49,7 +52,7 @@ returns-3 : tie.Need-returns-3 Inv-loop μ-loop
 returns-3 c =
     let l = c .before in
     let s = l .before .before in
-    λ e. ext-getD 0 (s .args .a .now) (s .args .b .now) (search needs) (λ i h. l .loop .inv .1 i (search needs))
+    (λ e. ext-getD 0 (s .args .a .now) (s .args .b .now) (search needs) (λ i h. l .loop .inv .1 i (search needs)), λ e. refl)
 
 pub same-words-spec : {M : Type 1} → statement M
 same-words-spec =

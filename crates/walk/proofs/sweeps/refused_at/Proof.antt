@@ -1,6 +1,13 @@
--- `walk::sweeps::refused_at` is safe: a place of the sweep is a byte, a place of the tape, or a place of the words.
+-- `walk::sweeps::refused_at` meets its contract: a place of the sweep is a byte, a place of the tape, or a place of the words.
 use native.Mathlib.Omega.{arith}
 use borrow.Author.Needs.{needs}
+use mathlib.Core.List.{[], _∷_}
+use mathlib.Core.Path.{_∙_}
+use lib.ListN.{set}
+use Rattle.lists.specs.Tabulate.{tabulate}
+use Rattle.rules.specs.declared.state.Turn.the-variants.{Hear}
+use Rattle.walk.specs.Walk.{idleState, jobState, boxTape, freshTally, filler}
+use Rattle.walk.proofs.Refused.{start-refused, hear-refused}
 use Rattle.walk.proofs.sweeps.refused_at.Statement.{statement}
 use Rattle.walk.proofs.sweeps.refused_at.Tie as tie
 
@@ -35,13 +42,25 @@ is-refused-requires-3 : tie.Need-is-refused-requires-3
 is-refused-requires-3 c κs = search needs
 
 returns : tie.Need-returns
-returns c = search needs
+returns c =
+    let b = c .before in
+    let p = b .before .before .before .args .place in
+    rw (b .before .enum-told .given .1)
+    (c .is-refused .ensures ∙ start-refused (idleState 4) 0 5 1 (boxTape 1 0) (tabulate 100 (λ k. 0)) (p ∷ 255 ∷ 255 ∷ 255 ∷ []) 8 (omega arith) (b .on-byte .ensures))
 
 returns-2 : tie.Need-returns-2
-returns-2 c = search needs
+returns-2 c =
+    let b = c .before in
+    let p = b .before .before .before .args .place in
+    rw (b .before .enum-told2 .given .1)
+    (c .is-refused2 .ensures ∙ start-refused (idleState 4) 0 5 1 (set (boxTape 1 0) p 7) (tabulate 100 (λ k. 0)) freshTally 10 (omega arith) (b .on-changed .ensures))
 
 returns-3 : tie.Need-returns-3
-returns-3 c = search needs
+returns-3 c =
+    let b = c .before in
+    let p = b .before .before .before .args .place in
+    rw (b .before .enum-told3 .given .1)
+    (c .is-refused3 .ensures ∙ hear-refused (jobState 4 (Hear 1)) 0 1 (boxTape 1 0) (filler 100) (set (tabulate 33 (λ k. 0)) p 7) 13 (omega arith) (b .of-high .ensures))
 
 pub refused-at-spec : {M : Type 1} → statement M
 refused-at-spec =
