@@ -1,5 +1,5 @@
 -- X < v just when some level has equal codes, and then one level has; and a pair of shares wraps just when X < v, for X = p − 1 − v1.
-use Prim.Native.Nat.{ℕ, zero, suc, _+_, _-_, _/_, _%_, _^_, _<_, _≤_}
+use Prim.Native.Nat.{ℕ, zero, suc, _+_, _/_, _%_, _^_, _<_, _≤_}
 use mathlib.Core.Path.{_≡_, refl, sym, _∙_}
 use mathlib.Core.Bool.{Bool, true, false, cond}
 use native.Mathlib.Nat.{div-one}
@@ -8,7 +8,7 @@ use borrow.Author.Tests.{ltb-true, leb-true, eqb-true, eqb-false, lt-ltb, le-ltb
 use lib.Dec.{eqb, ltb, leb}
 use Rattle.lists.proofs.Sums.{sum-first}
 use Rattle.field.specs.Width.{modulus}
-use Rattle.encoding.specs.Codes.{bitOf, rangeCode, pointCode}
+use Rattle.encoding.specs.Codes.{bitOf, rangeCode, pointCode, wrapBound}
 use Rattle.encoding.specs.Matching.{indicator, matchingLevels}
 use Rattle.encoding.proofs.Halves.{shifted, half-below}
 use Rattle.encoding.proofs.Counts.{count, indicator-most, indicator-true, count-one, count-two, count-some}
@@ -88,8 +88,8 @@ module _ (n X v : ℕ) (hX : X < modulus n) (hv : v < modulus n) where
 
 -- ---- the wrap
 
-pub wrap-less : (n v1 v2 : ℕ) → v1 < modulus n → leb (modulus n) (v1 + v2) ≡ ltb (modulus n - 1 - v1) v2
+pub wrap-less : (n v1 v2 : ℕ) → v1 < modulus n → leb (modulus n) (v1 + v2) ≡ ltb (wrapBound n v1) v2
 wrap-less n v1 v2 h =
-    same-truth (leb (modulus n) (v1 + v2)) (ltb (modulus n - 1 - v1) v2)
-    (λ e. lt-ltb (modulus n - 1 - v1) v2 (omega (arith, leb-true (modulus n) (v1 + v2) e)))
-    (λ e. le-leb (modulus n) (v1 + v2) (omega (arith, ltb-true (modulus n - 1 - v1) v2 e)))
+    same-truth (leb (modulus n) (v1 + v2)) (ltb (wrapBound n v1) v2)
+    (λ e. lt-ltb (wrapBound n v1) v2 (omega (arith, leb-true (modulus n) (v1 + v2) e)))
+    (λ e. le-leb (modulus n) (v1 + v2) (omega (arith, ltb-true (wrapBound n v1) v2 e)))

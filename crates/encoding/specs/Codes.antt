@@ -16,6 +16,10 @@ rangeCode n X level = cond (eqb (bitOf X level) 0) (X / 2 ^ level + 1) (2 ^ n - 
 unfoldable pub pointCode : ℕ → ℕ → ℕ
 pointCode v level = v / 2 ^ level
 
--- a box's code at a level, from its share v. Box 1 encodes X = p − 1 − v
+-- document 01's X, from box 1's share: the pair wraps just when box 2's share is above it
+abbrev pub wrapBound : ℕ → ℕ → ℕ
+wrapBound n v = modulus n - 1 - v
+
+-- a box's code at a level, from its share v. Box 1 encodes X
 unfoldable pub levelCode : ℕ → ℕ → ℕ → ℕ → ℕ
-levelCode n side v level = cond (eqb side 1) (rangeCode n (modulus n - 1 - v) level) (pointCode v level)
+levelCode n side v level = cond (eqb side 1) (rangeCode n (wrapBound n v) level) (pointCode v level)

@@ -1,5 +1,5 @@
 -- Rounds 2 and 3: from d = A · w to the share of P(A), and over the levels to the wrap of the pair.
-use Prim.Native.Nat.{ℕ, zero, suc, _+_, _-_, _*_, _^_, _<_, _≤_}
+use Prim.Native.Nat.{ℕ, zero, suc, _+_, _*_, _^_, _<_, _≤_}
 use mathlib.Core.Path.{_≡_, refl, sym, ap, _∙_}
 use mathlib.Core.Bool.{Bool, true, false}
 use mathlib.Core.List.{List}
@@ -21,10 +21,10 @@ use Rattle.tape.specs.Layout.{section, groupCount}
 use Rattle.tape.specs.Letters.{groupInverse, groupPower}
 use Rattle.tape.specs.Dealt.{Matched}
 use Rattle.tape.proofs.Dealing.{own-side, dealt-inverse, dealt-power}
-use Rattle.encoding.specs.Codes.{levelCode, rangeCode, pointCode}
-use Rattle.encoding.specs.Matching.{indicator, matchingLevels}
+use Rattle.encoding.specs.Codes.{levelCode}
+use Rattle.encoding.specs.Matching.{indicator}
 use Rattle.encoding.specs.Polynomial.{coefficient, polynomial}
-use Rattle.encoding.proofs.Levels.{matching, wrap-less}
+use Rattle.encoding.proofs.EqualCodes.{wrap-levels}
 use Rattle.protocol.specs.Levels.{levelMatch}
 
 pub pow-times : (a b k : ℕ) → (a * b) ^ k ≡ a ^ k * b ^ k
@@ -84,23 +84,17 @@ eqb-both a b = go (eqb a b) refl
     go true e = sym (eq-eqb b a (sym (eqb-true a b e)))
     go false e = sym (ne-eqb b a (λ q. eqb-false a b e (sym q)))
 
--- box 1 first
-range-first : (n v1 v2 : ℕ) → v1 < modulus n → v2 < modulus n
-    → sum n (λ i. indicator (eqb (rangeCode n (modulus n - 1 - v1) i) (pointCode v2 i))) ≡ indicator (leb (modulus n) (v1 + v2))
-unfolding matchingLevels
-range-first n v1 v2 l1 l2 = matching n (modulus n - 1 - v1) v2 (omega arith) l2 ∙ ap indicator (sym (wrap-less n v1 v2 l1))
-
 -- the number of levels with equal codes says whether the pair wraps, whichever box is named first
 pub codes-wrap : (n side v1 v2 : ℕ) → isSide side ≡ true → v1 < modulus n → v2 < modulus n
     → sum n (λ i. indicator (eqb (levelCode n side v1 i) (levelCode n (other side) v2 i))) ≡ indicator (leb (modulus n) (v1 + v2))
-unfolding levelCode other
+unfolding other
 codes-wrap n side v1 v2 s l1 l2 =
     each-side
     (λ s. sum n (λ i. indicator (eqb (levelCode n s v1 i) (levelCode n (other s) v2 i))) ≡ indicator (leb (modulus n) (v1 + v2)))
-    (range-first n v1 v2 l1 l2)
-    (sum-same n (λ i. indicator (eqb (pointCode v1 i) (rangeCode n (modulus n - 1 - v2) i)))
-    (λ i. indicator (eqb (rangeCode n (modulus n - 1 - v2) i) (pointCode v1 i)))
-    (λ i l. ap indicator (eqb-both (pointCode v1 i) (rangeCode n (modulus n - 1 - v2) i)))
-    ∙ range-first n v2 v1 l2 l1
+    (wrap-levels n v1 v2 l1 l2)
+    (sum-same n (λ i. indicator (eqb (levelCode n 2 v1 i) (levelCode n 1 v2 i)))
+    (λ i. indicator (eqb (levelCode n 1 v2 i) (levelCode n 2 v1 i)))
+    (λ i l. ap indicator (eqb-both (levelCode n 2 v1 i) (levelCode n 1 v2 i)))
+    ∙ wrap-levels n v2 v1 l2 l1
     ∙ ap (λ (x : ℕ). indicator (leb (modulus n) x)) (add-comm v2 v1))
     side s

@@ -9,6 +9,15 @@ use Rattle.encoding.specs.Codes.{rangeCode, pointCode, levelCode}
 use Rattle.encoding.proofs.codes.level_code.Statement.{statement}
 use Rattle.encoding.proofs.codes.level_code.Tie as tie
 
+-- the equation, before what the differences ask: another X fails here
+returns : tie.Need-returns
+unfolding levelCode
+returns c =
+    let s = c .before .before .before in
+    let a = s .args in
+    rw (eq-eqb (a .side) 1 (c .before .before .if1 .taken))
+    (c .range-code .ensures ∙ ap (λ (p : ℕ). rangeCode (a .n) (p - 1 - a .v) (a .level)) (c .before .modulus-of .ensures))
+
 modulus-of-requires : tie.Need-modulus-of-requires
 modulus-of-requires c κs = search needs
 
@@ -23,14 +32,6 @@ range-code-requires c κs = search needs
 
 shr-result : tie.Need-shr-result
 shr-result c = omega (arith, bounds (c .before .pre .0))
-
-returns : tie.Need-returns
-unfolding levelCode
-returns c =
-    let s = c .before .before .before in
-    let a = s .args in
-    rw (eq-eqb (a .side) 1 (c .before .before .if1 .taken))
-    (c .range-code .ensures ∙ ap (λ (p : ℕ). rangeCode (a .n) (p - 1 - a .v) (a .level)) (c .before .modulus-of .ensures))
 
 returns-2 : tie.Need-returns-2
 unfolding levelCode pointCode
