@@ -26,19 +26,20 @@ high n x b l =
     let wide : 64 ≤ 61 + n = omega arith in
     shr-lt 61 n (lt-of-lt-of-le l (pow-mono wide))
 
-add-result : tie.Need-add-result
-add-result c =
-    let n = c .before .args .n in
-    let x = c .before .args .x in
-    let b = bounds {n = n} (c .before .pre) in
-    omega (arith, and-le-r x (c .modulus-of .result), high n x b (c .before .fits .x .fits))
-
+-- the equation, before what the sum asks: a wrong fold fails here
 returns : tie.Need-returns
 unfolding modulus
 returns c =
     let n = c .before .args .n in
     let x = c .before .args .x in
     rw (c .modulus-of .ensures) (ap (λ (y : ℕ). y + x / 2 ^ n) (and-mask x n))
+
+add-result : tie.Need-add-result
+add-result c =
+    let n = c .before .args .n in
+    let x = c .before .args .x in
+    let b = bounds {n = n} (c .before .pre) in
+    omega (arith, and-le-r x (c .modulus-of .result), high n x b (c .before .fits .x .fits))
 
 pub folded-spec : {M : Type 1} → statement M
 folded-spec = tie.close (tie.spec modulus-of-requires cast-p shr-result add-result returns)

@@ -55,6 +55,20 @@ speak-requires c κs =
       (go .room, go .out-room),
     )
 
+-- the answer, before what its count asks: a wrong count fails here
+returns-2 : tie.Need-returns-2
+unfolding speakRule
+returns-2 c =
+    let spoken = c .before .before .before .before in
+    let own = spoken .before .before .shares-in .ensures in
+    let told = spoken .before .before .before in
+    let a = start told .args in
+    let s = a .state in
+    let next = due-turned s (a .number) (Speak (a .round)) (Hear (a .round)) (passed told .turn .due) in
+    let state : c .in-phase .result ≡ inPhase s (turned (s .phase) (Hear (a .round))) = c .in-phase .ensures ∙ rw (own .0, own .1, next) refl in
+    rw (c .before .words-of .ensures, state, spoken .speak .ensures, own .0, own .1)
+    (sym (passed-outcome _ _ _ _ _ (told .enum-told .given .1) (told .before .before .speak-check .ensures)))
+
 words-of-requires : tie.Need-words-of-requires
 words-of-requires c κs = passed (c .before .before .before .before .before) .turn .sound .width
 
@@ -78,19 +92,6 @@ returns c =
 
 same-length-2 : tie.Need-same-length-2
 same-length-2 c = search needs
-
-returns-2 : tie.Need-returns-2
-unfolding speakRule
-returns-2 c =
-    let spoken = c .before .before .before .before in
-    let own = spoken .before .before .shares-in .ensures in
-    let told = spoken .before .before .before in
-    let a = start told .args in
-    let s = a .state in
-    let next = due-turned s (a .number) (Speak (a .round)) (Hear (a .round)) (passed told .turn .due) in
-    let state : c .in-phase .result ≡ inPhase s (turned (s .phase) (Hear (a .round))) = c .in-phase .ensures ∙ rw (own .0, own .1, next) refl in
-    rw (c .before .words-of .ensures, state, spoken .speak .ensures, own .0, own .1)
-    (sym (passed-outcome _ _ _ _ _ (told .enum-told .given .1) (told .before .before .speak-check .ensures)))
 
 pub speak-spec : {M : Type 1} → statement M
 speak-spec =

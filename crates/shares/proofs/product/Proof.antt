@@ -1,5 +1,5 @@
 -- `shares::product` meets its contract: the sum of the four products is below 4p², so one reduction serves.
-use mathlib.Core.Path.{_≡_, ap, _∙_}
+use mathlib.Core.Path.{_≡_, refl, ap, _∙_}
 use Prim.Native.Nat.{ℕ, _+_, _*_, _%_, _<_}
 use native.Mathlib.Omega.{arith}
 use borrow.Author.Needs.{needs}
@@ -9,6 +9,25 @@ use Rattle.shares.specs.Share.{productShare}
 use Rattle.shares.proofs.Sides.{constant-times}
 use Rattle.shares.proofs.product.Statement.{statement}
 use Rattle.shares.proofs.product.Tie as tie
+
+-- the equation, before what the sums ask: a wrong formula fails here
+returns : tie.Need-returns
+unfolding productShare
+returns c =
+    let s = c .before .before .before .before .before in
+    let a = s .args in
+    let r = c .reduce-wide .ensures in (
+      r .0
+          ∙ ap (λ (x : ℕ). x % modulus (a .n))
+          (rw (
+            c .before .before .before .before .wide-mul .ensures,
+            c .before .before .before .wide-mul2 .ensures,
+            c .before .wide-mul3 .ensures,
+            c .before .before .constant .ensures .0,
+            constant-times (a .side) (a .e) (a .f),
+          ) refl),
+      r .1,
+    )
 
 wide-mul-requires : tie.Need-wide-mul-requires
 wide-mul-requires c κs = search needs
@@ -55,24 +74,6 @@ add-reduce-wide c = omega (arith, bounds (c .before .before .before .before .pre
 
 reduce-wide-requires : tie.Need-reduce-wide-requires
 reduce-wide-requires c κs = (c .before .before .before .before .pre .0, total c)
-
-returns : tie.Need-returns
-unfolding productShare
-returns c =
-    let s = c .before .before .before .before .before in
-    let a = s .args in
-    let r = c .reduce-wide .ensures in (
-      r .0
-          ∙ ap (λ (x : ℕ). x % modulus (a .n))
-          (rw (
-            c .before .before .before .before .wide-mul .ensures,
-            c .before .before .before .wide-mul2 .ensures,
-            c .before .wide-mul3 .ensures,
-            c .before .before .constant .ensures .0,
-            constant-times (a .side) (a .e) (a .f),
-          )),
-      r .1,
-    )
 
 pub product-spec : {M : Type 1} → statement M
 product-spec =

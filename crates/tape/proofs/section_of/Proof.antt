@@ -1,6 +1,6 @@
 -- `tape::section_of` meets its contract: the trailer's distance leads back to the section's start.
 use Prim.Native.Nat.{ℕ, _+_, _-_, _<_}
-use mathlib.Core.Path.{_≡_}
+use mathlib.Core.Path.{_≡_, refl}
 use mathlib.Core.List.{List}
 use native.Mathlib.Nat.{add-sub-cancel-left}
 use native.Mathlib.Omega.{arith}
@@ -77,7 +77,7 @@ returns : tie.Need-returns
 unfolding section
 returns c =
     let s = c .before .before .before .before in
-    rw (start (s .pre .0) (s .args .which) (s .pre .1), c .before .section-words .ensures, add-sub-cancel-left)
+    rw (c .before .section-words .ensures, add-sub-cancel-left, ← start (s .pre .0) (s .args .which) (s .pre .1)) refl
 
 pub section-of-spec : {M : Type 1} → statement M
 section-of-spec =

@@ -1,5 +1,5 @@
 -- `limit_box::checks::start_check` meets its contract: the rule's grounds, in its order.
-use mathlib.Core.Path.{_≡_, refl}
+use mathlib.Core.Path.{_≡_, refl, sym, ap, _∙_}
 use mathlib.Core.Bool.{true, false, not}
 use native.Mathlib.Omega.{arith}
 use borrow.Author.Tests.{eq-eqb, ne-eqb, lt-ltb, le-ltb, le-leb, lt-leb}
@@ -44,7 +44,7 @@ x-fits : (c : tie.Else6) → let a = start (c .before .before .before .before .b
 x-fits c = rw (← c .before .in-range .ensures) (c .if6 .left)
 
 y-fits : (c : tie.Else7) → let a = start (c .before .before .before .before .before .before .before .before .before .before .before .before) .args in not (ltb (a .y) (modulus (a .state .n))) ≡ false
-y-fits c = rw (← c .before .in-range2 .ensures) (c .if7 .left)
+y-fits c = ap not (sym (c .before .in-range2 .ensures)) ∙ c .if7 .left
 
 ordered : (c : tie.Else8)
     → let a = start (c .before .before .before .before .before .before .before .before .before .before .before .before .before .before) .args in

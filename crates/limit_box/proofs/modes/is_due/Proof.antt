@@ -26,10 +26,13 @@ returns-2 c = search needs
 returns-3 : tie.Need-returns-3
 returns-3 c =
     let t = c .before in
-    rw (t .before .before .phase .given .1, eq-eqb _ _ (t .if1 .taken)) (c .same-turn .ensures)
+    let known = t .before .before in
+    rw (known .phase .given .1, eq-eqb (known .before .before .args .number) (known .phase .given .0 .1 .0) (t .if1 .taken)) (c .same-turn .ensures)
 
 returns-4 : tie.Need-returns-4
-returns-4 c = rw (c .before .before .phase .given .1, ne-eqb _ _ (c .if1 .left)) refl
+returns-4 c =
+    let known = c .before .before in
+    rw (known .phase .given .1, ne-eqb (known .before .before .args .number) (known .phase .given .0 .1 .0) (c .if1 .left)) refl
 
 pub is-due-spec : {M : Type 1} → statement M
 is-due-spec =

@@ -6,7 +6,7 @@ use Rattle.limit_box.proofs.modes.round_fits.Statement.{statement}
 use Rattle.limit_box.proofs.modes.round_fits.Tie as tie
 
 returns : tie.Need-returns
-returns c = rw (le-leb _ _ (c .if1 .taken)) refl
+returns c = rw (le-leb 1 (c .before .args .round) (c .if1 .taken)) refl
 
 returns-2 : tie.Need-returns-2
 returns-2 c = rw (lt-leb 1 (c .before .args .round) (omega (arith, c .if1 .left))) refl

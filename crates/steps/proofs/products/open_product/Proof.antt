@@ -1,8 +1,12 @@
 -- `steps::products::open_product` meets its contract.
-use mathlib.Core.Path.{ap, _∙_}
+use mathlib.Core.Path.{refl}
 use borrow.Author.Needs.{needs}
 use Rattle.steps.proofs.products.open_product.Statement.{statement}
 use Rattle.steps.proofs.products.open_product.Tie as tie
+
+-- the equation, before what the places ask: a wrong word fails here
+returns : tie.Need-returns
+returns c = rw (c .before .before .mask .ensures .0, c .mask2 .ensures .0) refl
 
 mul-mask : tie.Need-mul-mask
 mul-mask c = search needs
@@ -52,9 +56,6 @@ slice-write-out-2 c = search needs
 
 same-length : tie.Need-same-length
 same-length c = search needs
-
-returns : tie.Need-returns
-returns c = rw (c .before .before .mask .ensures .0, c .mask2 .ensures .0)
 
 pub open-product-spec : {M : Type 1} → statement M
 open-product-spec =
