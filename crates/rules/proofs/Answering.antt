@@ -11,12 +11,11 @@ use lib.ListN.{length, getD}
 use lib.Seq.{getD-set-other}
 use Rattle.field.specs.Width.{listed}
 use Rattle.shares.specs.Side.{isSide}
-use Rattle.rules.specs.Answers.{refused}
 use Rattle.rules.specs.Tally.{tallyFits, tapesOf, isFresh, marked}
 use Rattle.rules.specs.Modes.{inRange, modeOf, isAsleep, inJob, asleepState}
 use Rattle.rules.specs.Grounds.{Ground, firstOf, wakeGround, startGround, speakGround, hearGround, dropGround}
 use Rattle.rules.specs.Calls.{wakeRule, startRule}
-use Rattle.rules.specs.Answering.{Call, wake, start, speak, hear, drop, groundOf, resultOf, isWake, isRefused, orderOf, groundsOf}
+use Rattle.rules.specs.AnyCall.{Call, wake, start, speak, hear, drop, groundOf, resultOf, isWake, isRefused, orderOf, groundsOf}
 use Rattle.rules.specs.Answering.{Opens, TakesJob, Answering}
 use Rattle.rules.specs.declared.state.Phase.the-variants.{Asleep}
 use Rattle.rules.specs.declared.state.State.{State}

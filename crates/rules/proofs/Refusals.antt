@@ -10,7 +10,7 @@ use Rattle.rules.specs.Answers.{refused}
 use Rattle.rules.specs.Modes.{modeOf, isAsleep}
 use Rattle.rules.specs.Grounds.{wakeGround, startGround, speakGround, hearGround, dropGround}
 use Rattle.rules.specs.Calls.{Result, unless, wakeRule, startRule, speakRule, hearRule, dropRule}
-use Rattle.rules.specs.Answering.{Call, wake, start, speak, hear, drop, groundOf, resultOf, bufferOf, isWake, isRefused}
+use Rattle.rules.specs.AnyCall.{Call, wake, start, speak, hear, drop, groundOf, resultOf, bufferOf, isWake, isRefused}
 use Rattle.rules.specs.declared.state.State.{State}
 
 -- ---- refused, or not

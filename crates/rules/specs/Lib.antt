@@ -3,4 +3,5 @@ pub mod Tally
 pub mod Modes
 pub mod Grounds
 pub mod Calls
+pub mod AnyCall
 pub mod Answering
