@@ -52,20 +52,18 @@ begun-right {n} {pair} {number} {x1} {y1} {x2} {y2} {t1} {t2} {w1} {w2} {k1} {k2
 
 -- ---- of a whole job
 
--- where no part of a job is refused
-record Taken (first second : ℕ) (room : Bool) : Type 0 where
+-- neither box was refused
+record Taken (first second : ℕ) : Type 0 where
   none1 : first ≡ 0
   none2 : second ≡ 0
-  enough : room ≡ true
 
-taken : (first second : ℕ) (room : Bool) → cond (eqb first 0) (cond (eqb second 0) (cond room 0 12) second) first ≡ 0 → Taken first second room
-taken first second room = go (eqb first 0) (eqb second 0) room refl refl
+taken : (first second : ℕ) (room : Bool) → cond (eqb first 0) (cond (eqb second 0) (cond room 0 12) second) first ≡ 0 → Taken first second
+taken first second room = go (eqb first 0) (eqb second 0) refl refl
   where
-    go : (a b t : Bool) → eqb first 0 ≡ a → eqb second 0 ≡ b → cond a (cond b (cond t 0 12) second) first ≡ 0 → Taken first second t
-    go true true true ea eb e = record { none1 = eqb-true first 0 ea; none2 = eqb-true second 0 eb; enough = refl }
-    go true true false ea eb e = absurd (omega (arith, e))
-    go true false t ea eb e = absurd (eqb-false second 0 eb e)
-    go false b t ea eb e = absurd (eqb-false first 0 ea e)
+    go : (a b : Bool) → eqb first 0 ≡ a → eqb second 0 ≡ b → cond a (cond b (cond room 0 12) second) first ≡ 0 → Taken first second
+    go true true ea eb e = record { none1 = eqb-true first 0 ea; none2 = eqb-true second 0 eb }
+    go true false ea eb e = absurd (eqb-false second 0 eb e)
+    go false b ea eb e = absurd (eqb-false first 0 ea e)
 
 pub job-right : (n pair number : ℕ) (one two : Lent) → jobRefusal n pair number one two ≡ 0 → Dealt n pair number (one .tape) (two .tape)
     → jobOf n pair number one two .less ≡ indicator (ltb ((one .x + two .x) % modulus n) ((one .y + two .y) % modulus n))
@@ -75,6 +73,21 @@ job-right n pair number one two zero m =
     let ready1 = begun-ready n 1 pair number (one .x) (one .y) (one .tape) (one .work) (one .tally) (t .none1) in
     let ready2 = begun-ready n 2 pair number (two .x) (two .y) (two .tape) (two .work) (two .tally) (t .none2) in
     rw zero (begun-right ready1 ready2 m)
+
+-- where its tapes are dealt, or it is refused
+pub job-answer : (n pair number : ℕ) (one two : Lent) → (jobRefusal n pair number one two ≡ 0 → Dealt n pair number (one .tape) (two .tape))
+    → jobOf n pair number one two .less
+    ≡ cond (eqb (jobRefusal n pair number one two) 0) (indicator (ltb ((one .x + two .x) % modulus n) ((one .y + two .y) % modulus n))) 0
+unfolding jobOf
+job-answer n pair number one two dealt = go (eqb (jobRefusal n pair number one two) 0) refl
+  where
+    less : ℕ
+    less = indicator (ltb ((one .x + two .x) % modulus n) ((one .y + two .y) % modulus n))
+
+    go : (t : Bool) → eqb (jobRefusal n pair number one two) 0 ≡ t
+        → jobOf n pair number one two .less ≡ cond (eqb (jobRefusal n pair number one two) 0) less 0
+    go true e = let zero = eqb-true (jobRefusal n pair number one two) 0 e in job-right n pair number one two zero (dealt zero) ∙ rw e
+    go false e = rw e
 
 -- of what came of it
 pub ended-right : (n pair number : ℕ) (one two : Lent) (v : Verdict) (k1 k2 : List ℕ) → ended v k1 k2 ≡ jobOf n pair number one two

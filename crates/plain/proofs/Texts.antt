@@ -9,7 +9,7 @@ use lib.ListN.{length, getD, take}
 use lib.Seq.{sets}
 use Rattle.lines.specs.Reading.{isFive, fiveOf}
 use Rattle.lines.proofs.Runs.{sets-read}
-use Rattle.plain.specs.Printed.{plainRefusal, plainLess, refusedText, answerText, textFor, printed}
+use Rattle.plain.specs.Printed.{plainRefusal, plainLess, plainAnswer, refusedText, answerText, textFor, printed}
 
 -- a text at the front of out, read back
 pub shown : (out now : List ℕ) (r : ℕ) (text : List ℕ) → now ≡ sets out 0 text → r ≡ length text → r ≤ length out → take r now ≡ text
@@ -35,6 +35,8 @@ module _ (n x1 x2 y1 y2 : ℕ) where
   unfolding textFor
   turned-down k e some = rw (← e, ne-eqb k 0 some) refl
 
-  pub taken : (less : ℕ) → plainRefusal n x1 x2 y1 y2 ≡ 0 → less ≡ plainLess n x1 x2 y1 y2 → textFor n x1 x2 y1 y2 ≡ answerText n less
-  unfolding textFor
-  taken less none right = rw (none, right) refl
+  pub taken : (less : ℕ) → plainRefusal n x1 x2 y1 y2 ≡ 0 → less ≡ plainAnswer n x1 x2 y1 y2 → textFor n x1 x2 y1 y2 ≡ answerText n less
+  unfolding textFor plainAnswer
+  taken less none right =
+      let bit : less ≡ plainLess n x1 x2 y1 y2 = right ∙ rw none in
+      rw (none, bit) refl

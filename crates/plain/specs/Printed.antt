@@ -21,6 +21,10 @@ plainRefusal n x1 x2 y1 y2 =
 unfoldable pub plainLess : ℕ → ℕ → ℕ → ℕ → ℕ → ℕ
 plainLess n x1 x2 y1 y2 = indicator (ltb ((x1 + x2) % modulus n) ((y1 + y2) % modulus n))
 
+-- the answer, and 0 where there is a refusal
+unfoldable pub plainAnswer : ℕ → ℕ → ℕ → ℕ → ℕ → ℕ
+plainAnswer n x1 x2 y1 y2 = cond (eqb (plainRefusal n x1 x2 y1 y2) 0) (plainLess n x1 x2 y1 y2) 0
+
 -- `refused `, the number, a newline
 unfoldable pub refusedText : ℕ → List ℕ
 refusedText k = (114 ∷ 101 ∷ 102 ∷ 117 ∷ 115 ∷ 101 ∷ 100 ∷ 32 ∷ []) ++ decimal k ++ (10 ∷ [])

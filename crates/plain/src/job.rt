@@ -8,7 +8,7 @@ ghost use lib.ListN.{length};
 ghost use Rattle.field.specs.Width.{listed};
 ghost use Rattle.tape.specs.Layout.{tapeLength};
 ghost use Rattle.tape.specs.Plain.{plainTape};
-ghost use Rattle.plain.specs.Printed.{plainRefusal, plainLess};
+ghost use Rattle.plain.specs.Printed.{plainRefusal, plainAnswer};
 
 const PAIR: u32 = 1;
 
@@ -17,8 +17,8 @@ const NUMBER: u32 = 0;
 // Each box has one fresh tape, and room for any width to 13.
 fn on_tapes(n: u32, one: Shares, two: Shares, t1: &[u32], t2: &[u32]) -> Verdict
     requires { ⌜ (n ≤ 13) × (listed n ≡ true → (now t1 ≡ plainTape n 1 1 0) × (now t2 ≡ plainTape n 1 2 0)) ⌝ }
-    ensures refused { λ r. ⌜ r .refusal ≡ plainRefusal n (one .x) (two .x) (one .y) (two .y) ⌝ }
-    ensures right { λ r. ⌜ (r .refusal ≡ 0 → r .less ≡ plainLess n (one .x) (two .x) (one .y) (two .y)) ⌝ }
+    ensures { λ r. ⌜ (r .refusal ≡ plainRefusal n (one .x) (two .x) (one .y) (two .y))
+        × (r .less ≡ plainAnswer n (one .x) (two .x) (one .y) (two .y)) ⌝ }
 {
     let mut w1 = [0u32; 220];
     let mut w2 = [0u32; 220];
@@ -53,8 +53,8 @@ fn blank() -> [u32; 1708]
 // On plain tapes of a listed width.
 fn dealt(n: u32, one: Shares, two: Shares, t1: &mut [u32], t2: &mut [u32]) -> Verdict
     requires { ⌜ (n ≤ 13) × (listed n ≡ true) × (length (now t1) ≡ tapeLength n) × (length (now t2) ≡ tapeLength n) ⌝ }
-    ensures refused { λ r. ⌜ r .refusal ≡ plainRefusal n (one .x) (two .x) (one .y) (two .y) ⌝ }
-    ensures right { λ r. ⌜ (r .refusal ≡ 0 → r .less ≡ plainLess n (one .x) (two .x) (one .y) (two .y)) ⌝ }
+    ensures { λ r. ⌜ (r .refusal ≡ plainRefusal n (one .x) (two .x) (one .y) (two .y))
+        × (r .less ≡ plainAnswer n (one .x) (two .x) (one .y) (two .y)) ⌝ }
 {
     dealer::plain(n, PAIR, 1, NUMBER, &mut *t1);
     dealer::plain(n, PAIR, 2, NUMBER, &mut *t2);
@@ -64,8 +64,8 @@ fn dealt(n: u32, one: Shares, two: Shares, t1: &mut [u32], t2: &mut [u32]) -> Ve
 // No tape is dealt for a width that is not listed: the boxes refuse it when they wake.
 pub fn verdict(n: u32, one: Shares, two: Shares) -> Verdict
     requires { ⌜ n ≤ 13 ⌝ }
-    ensures refused { λ r. ⌜ r .refusal ≡ plainRefusal n (one .x) (two .x) (one .y) (two .y) ⌝ }
-    ensures right { λ r. ⌜ (r .refusal ≡ 0 → r .less ≡ plainLess n (one .x) (two .x) (one .y) (two .y)) ⌝ }
+    ensures { λ r. ⌜ (r .refusal ≡ plainRefusal n (one .x) (two .x) (one .y) (two .y))
+        × (r .less ≡ plainAnswer n (one .x) (two .x) (one .y) (two .y)) ⌝ }
 {
     let mut t1 = blank();
     let mut t2 = blank();

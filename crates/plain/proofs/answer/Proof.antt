@@ -116,7 +116,7 @@ returns-4 c =
     let call = one .before .before in
     let a = start call .args in
     let none = sym (judged .verdict .ensures .0) ∙ go .if3 .left in
-    let text = sym (read one ∙ taken _ _ _ _ _ _ none (judged .verdict .ensures .1 (go .if3 .left))) in (
+    let text = sym (read one ∙ taken _ _ _ _ _ _ none (judged .verdict .ensures .1)) in (
       shown (a .out .now) (put .last .1 .1 .0) (put .result) _ (put .ensures .0 .0) (put .ensures .0 .1) (omega (arith, put .ensures .1, start call .pre)) ∙ text,
       omega (arith, put .ensures .1),
     )
