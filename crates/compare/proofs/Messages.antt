@@ -24,7 +24,6 @@ use Rattle.protocol.specs.Work.{halfSlot, workLength, held}
 use Rattle.protocol.specs.Products.{Party, Products, triplesOf, openLeft, openRight, alternating, openings}
 use Rattle.protocol.specs.Squares.{bitDifference, squareOpening}
 use Rattle.protocol.specs.Rounds.{squaresOf, powersOf, doubledOf, squareWord, lowProducts, levelProducts, wrapProducts, halfProduct, lastLeft, lastRight, lastProduct, message}
-use Rattle.protocol.proofs.Turns.{no-round}
 
 -- ---- products opened side by side
 
@@ -91,16 +90,6 @@ module _ (b : Party) (work : List ℕ) where
       ≡ sets out 0 (message b work 6)
   unfolding message lastProduct
   last-message out = opens-one b (lastProduct b work) out refl
-
-  -- any other round
-  pub no-message : (round : ℕ)
-      → (round ≡ 1 → ⊥) → (round ≡ 2 → ⊥) → (round ≡ 3 → ⊥) → (round ≡ 4 → ⊥) → (round ≡ 5 → ⊥) → (round ≡ 6 → ⊥)
-      → message b work round ≡ []
-  unfolding message
-  no-message =
-      no-round (tabulate (squareCount (b .n)) (squareWord b) ++ openings b (lowProducts b)) (openings b (levelProducts b work))
-      (tabulate (groupCount (b .n)) (λ g. held (b .n) work g)) (openings b (wrapProducts b work)) (openings b (halfProduct b work))
-      (openings b (lastProduct b work)) []
 
 -- ---- round 1
 

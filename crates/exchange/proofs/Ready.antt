@@ -11,7 +11,7 @@ use lib.Seq.{sets}
 use Rattle.lists.proofs.Tests.{and-left, and-right}
 use Rattle.field.specs.Width.{modulus}
 use Rattle.protocol.specs.Work.{workLength}
-use Rattle.protocol.specs.Rounds.{roundWords, message, afterHearing, answerShare}
+use Rattle.protocol.specs.Rounds.{lastRound, roundWords, message, afterHearing, answerShare}
 use Rattle.protocol.proofs.Lengths.{after-length}
 use Rattle.rules.specs.Answers.{spoke, share, replyOf}
 use Rattle.rules.specs.Tally.{tapesOf}
@@ -107,15 +107,15 @@ module _ (s : State) (number round : ℕ) (tape work : List ℕ) (r : Ready s nu
 
   module _ (words : List ℕ) (a : Outcome) (work′ : List ℕ) where
     -- such a hear gave the answer share, if the round was the last
-    pub heard-last : round ≡ 6 → outcome a work′ ≡ heardAfter s tape work round words → replyOf (a .answer) ≡ share (answerShare (partyOf s tape) work words)
+    pub heard-last : round ≡ lastRound → outcome a work′ ≡ heardAfter s tape work round words → replyOf (a .answer) ≡ share (answerShare (partyOf s tape) work words)
     unfolding heardAfter
     heard-last six e = ap (λ (q : Result). q .reply) e ∙ rw six
 
     -- and before the last the box is ready for the next
-    pub heard-next : round < 6 → outcome a work′ ≡ heardAfter s tape work round words → Next s number round tape work words (a .state) work′
+    pub heard-next : round < lastRound → outcome a work′ ≡ heardAfter s tape work round words → Next s number round tape work words (a .state) work′
     unfolding heardAfter
     heard-next more e =
-        let other = ne-eqb round 6 (λ six. omega (arith, six, more)) in
+        let other = ne-eqb round lastRound (λ six. omega (arith, six, more)) in
         let state : a .state ≡ inPhase s (turned (s .phase) (Speak (round + 1))) = ap (λ (q : Result). q .state) e ∙ rw other in
         let after : work′ ≡ afterHearing (partyOf s tape) work round words = ap (λ (q : Result). q .buffer) e ∙ rw other in
         let room : workLength (s .n) ≤ length work′ = omega (arith, ap length after, after-length (partyOf s tape) work words round, r .room) in

@@ -7,7 +7,7 @@ use lib.Dec.{eqb}
 use lib.ListN.{length}
 use Rattle.tape.specs.Order.{inOrder}
 use Rattle.protocol.specs.Work.{workLength}
-use Rattle.protocol.specs.Rounds.{afterHearing, answerShare}
+use Rattle.protocol.specs.Rounds.{lastRound, afterHearing, answerShare}
 use Rattle.protocol.specs.Exchange.{Both, exchanged, answerOwn, answerOthers}
 use Rattle.rules.specs.Answers.{heard, share}
 use Rattle.rules.specs.Modes.{inRange}
@@ -27,7 +27,7 @@ pub record Ready (s : State) (number : ℕ) (turn : Turn) (tape work : List ℕ)
 -- what a box gives after a round in which it was ready to speak and heard those words
 unfoldable pub heardAfter : State → List ℕ → List ℕ → ℕ → List ℕ → Result
 heardAfter s tape work round words =
-    cond (eqb round 6)
+    cond (eqb round lastRound)
     (record {
       reply = share (answerShare (partyOf s tape) work words);
       state = inPhase s Idle;

@@ -12,7 +12,7 @@ use Rattle.field.specs.Width.{listed, modulus}
 use Rattle.tape.specs.Order.{inOrder}
 use Rattle.tape.proofs.Keys.{order-key}
 use Rattle.protocol.specs.Work.{workLength}
-use Rattle.protocol.specs.Rounds.{afterHearing, answerShare}
+use Rattle.protocol.specs.Rounds.{earlierRounds, lastRound, afterHearing, answerShare}
 use Rattle.protocol.proofs.Live.{Live, message-live, after-live, answer-live}
 use Rattle.protocol.proofs.Lengths.{after-length}
 use Rattle.rules.specs.Answers.{heard, share}
@@ -65,7 +65,7 @@ module _ (g : Setting) (book : Box → Key → Lending) where
     pub width : listed (e .key .width) ≡ true
     pub heard : ℕ
     pub round-is : e .round ≡ suc heard
-    pub early : heard < 6
+    pub early : heard < lastRound
     pub x-fits : book (e .box) (e .key) .x < modulus (e .key .width)
     pub words : e .spoken ≡ sentBy (g .tapes) book (e .box) (e .key) (e .round)
 
@@ -179,7 +179,7 @@ module _ (g : Setting) (book : Box → Key → Lending) where
     pub job : m .state .phase ≡ Job turn number x y
     pub inside : InJob b (m .state) (m .work) turn number x y
     pub width : listed (m .state .n) ≡ true
-    pub early : inside .heard < 6
+    pub early : inside .heard < lastRound
     pub x-fits : book b (keyAt (m .state) number) .x < modulus (m .state .n)
     pub y-fits : book b (keyAt (m .state) number) .y < modulus (m .state .n)
     pub party-is : partyOf (m .state) tape ≡ partyAt (g .tapes) book b (keyAt (m .state) number)
@@ -276,19 +276,19 @@ module _ (g : Setting) (book : Box → Key → Lending) where
         (sentBy (g .tapes) book (otherBox b) (keyAt (m .state) number) (suc (i .heard))) (i .room) (holding-room (g .tapes) book b (keyAt (m .state) number) (i .heard)) (i .heard) (i .live))
 
     -- the answer share of the last round
-    answer-last : round ≡ 6 → answerShare (partyOf (m .state) tape) (m .work) words ≡ answerBy (g .tapes) book b (keyAt (m .state) number)
+    answer-last : round ≡ lastRound → answerShare (partyOf (m .state) tape) (m .work) words ≡ answerBy (g .tapes) book b (keyAt (m .state) number)
     answer-last e =
         let i = j .inside in
-        let five : i .heard ≡ 5 = omega (arith, i .count) in
-        let live : Live (m .state .n) 5 (m .work) (holding (g .tapes) book b (keyAt (m .state) number) 5) =
+        let five : i .heard ≡ earlierRounds = omega (arith, i .count) in
+        let live : Live (m .state .n) earlierRounds (m .work) (holding (g .tapes) book b (keyAt (m .state) number) earlierRounds) =
         subst (λ (k : ℕ). Live (m .state .n) k (m .work) (holding (g .tapes) book b (keyAt (m .state) number) k)) five (i .live) in
         rw (j .party-is, true-words, e)
-        (answer-live (partyAt (g .tapes) book b (keyAt (m .state) number)) (m .work) (holding (g .tapes) book b (keyAt (m .state) number) 5)
-        (sentBy (g .tapes) book (otherBox b) (keyAt (m .state) number) 6) live
+        (answer-live (partyAt (g .tapes) book b (keyAt (m .state) number)) (m .work) (holding (g .tapes) book b (keyAt (m .state) number) earlierRounds)
+        (sentBy (g .tapes) book (otherBox b) (keyAt (m .state) number) lastRound) live
         ∙ sym (answer-is (g .tapes) book b (keyAt (m .state) number)))
 
     hear-goes : Heard b m number round words
-        (cond (eqb round 6)
+        (cond (eqb round lastRound)
         (record {
           reply = share (answerShare (partyOf (m .state) tape) (m .work) words);
           state = inPhase (m .state) Idle;
@@ -299,12 +299,12 @@ module _ (g : Setting) (book : Box → Key → Lending) where
           state = inPhase (m .state) (turned (m .state .phase) (Speak (round + 1)));
           buffer = afterHearing (partyOf (m .state) tape) (m .work) round words;
         }))
-    hear-goes = go (eqb round 6) refl
+    hear-goes = go (eqb round lastRound) refl
       where
         work′ : List ℕ
         work′ = afterHearing (partyOf (m .state) tape) (m .work) round words
 
-        go : (t : Bool) → eqb round 6 ≡ t
+        go : (t : Bool) → eqb round lastRound ≡ t
             → Heard b m number round words
             (cond t
             (record { reply = share (answerShare (partyOf (m .state) tape) (m .work) words); state = inPhase (m .state) Idle; buffer = work′ })
@@ -312,7 +312,7 @@ module _ (g : Setting) (book : Box → Key → Lending) where
         go true e =
             record {
               holds = record { holds = settle b _ work′ tt };
-              answer = record { value = _; said-is = refl; width = j .width; is = answer-last (eqb-true round 6 e); x-fits = j .x-fits; y-fits = j .y-fits; silent = refl };
+              answer = record { value = _; said-is = refl; width = j .width; is = answer-last (eqb-true round lastRound e); x-fits = j .x-fits; y-fits = j .y-fits; silent = refl };
             }
         go false e =
             record {

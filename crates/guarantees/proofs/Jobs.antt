@@ -8,7 +8,7 @@ use lib.ListN.{length, length-replicate}
 use Rattle.field.specs.Width.{listed}
 use Rattle.tape.specs.Order.{inOrder}
 use Rattle.protocol.specs.Work.{workLength}
-use Rattle.protocol.specs.Rounds.{message, afterHearing, answerShare}
+use Rattle.protocol.specs.Rounds.{earlierRounds, lastRound, message, afterHearing, answerShare}
 use Rattle.protocol.specs.Exchange.{Both, exchanged, sentOwn, sentOthers, answerOwn, answerOthers}
 use Rattle.protocol.proofs.Lengths.{after-length}
 use Rattle.guarantees.specs.Boxes.{Box, box1, box2, sideOf, otherBox}
@@ -45,7 +45,7 @@ module _ (tapes : Box → ℕ → ℕ → List ℕ) (book : Box → Key → Lend
   holding-next box2 key r = refl
 
   pub answer-is : (b : Box) (key : Key)
-      → answerBy tapes book b key ≡ answerShare (partyAt tapes book b key) (holding b key 5) (sentBy tapes book (otherBox b) key 6)
+      → answerBy tapes book b key ≡ answerShare (partyAt tapes book b key) (holding b key earlierRounds) (sentBy tapes book (otherBox b) key lastRound)
   unfolding answerOwn answerOthers sentOwn sentOthers
   answer-is box1 key = refl
   answer-is box2 key = refl

@@ -12,7 +12,7 @@ use Rattle.rules.specs.Answers.{fresh, started, heard, share, refused}
 use Rattle.rules.specs.Tally.{tapesOf, isFresh, marked, cutMarked}
 use Rattle.rules.specs.Grounds.{wakeGround, startGround, speakGround, hearGround, dropGround}
 use Rattle.rules.specs.declared.state.State.{State}
-use Rattle.protocol.specs.Rounds.{answerShare}
+use Rattle.protocol.specs.Rounds.{lastRound, answerShare}
 use Rattle.rules.specs.Calls.{Result, partyOf, wakeRule, startRule, speakRule, hearRule, dropRule}
 use Rattle.rules.proofs.Marks.{marked-spent, marked-other, cut-other}
 use Rattle.guarantees.specs.Boxes.{Box, box1, box2}
@@ -90,7 +90,7 @@ hear-opens : (s : State) (number round : ℕ) (tape work words : List ℕ) → i
 unfolding hearRule
 hear-opens s number round tape work words =
     decide (λ r. isOpening (kindOf (replied (r .reply))) ≡ false) (hearGround s number round tape work words) s work _
-    (λ z. last (eqb round 6) (answerShare (partyOf s tape) work words) _ _ _) refl
+    (λ z. last (eqb round lastRound) (answerShare (partyOf s tape) work words) _ _ _) refl
   where
     last : (t : Bool) (v : ℕ) (s1 s2 : State) (buffer : List ℕ)
         → isOpening

@@ -7,6 +7,7 @@ use lib.ListN.{length-replicate}
 use Rattle.shares.specs.Side.{other}
 use Rattle.protocol.specs.Work.{workLength}
 use Rattle.protocol.specs.Products.{Party}
+use Rattle.protocol.specs.Rounds.{lastRound}
 use Rattle.protocol.specs.Exchange.{Both, exchanged, sentOwn, sentOthers, answerOwn, answerOthers}
 use Rattle.protocol.specs.Pairing.{Roomy, LooksAlike}
 use Rattle.guarantees.specs.Boxes.{Box, box1, box2, sideOf, otherBox}
@@ -50,19 +51,19 @@ roomy n = record { own = le-of-eq (sym (length-replicate (workLength n) 0)); oth
 module _ (tapes tapes′ : Box → ℕ → ℕ → List ℕ) (book book′ : Box → Key → Lending) (key : Key) where
   pub sent-alike : (b : Box) → tapes (otherBox b) (key .number) (key .width) ≡ tapes′ (otherBox b) (key .number) (key .width) → book (otherBox b) key ≡ book′ (otherBox b) key
       → KeyAlike b tapes tapes′ book book′ key
-      → (c : Box) (r : ℕ) → r < 6 → sentBy tapes book c key (suc r) ≡ sentBy tapes′ book′ c key (suc r)
+      → (c : Box) (r : ℕ) → r < lastRound → sentBy tapes book c key (suc r) ≡ sentBy tapes′ book′ c key (suc r)
   unfolding other
-  sent-alike box1 te be k box1 r l = rw (← te, ← be) (k .mine (blank (key .width)) (blank (key .width)) (roomy (key .width)) (roomy (key .width)) r l)
-  sent-alike box1 te be k box2 r l = rw (← te, ← be) (k .theirs (blank (key .width)) (blank (key .width)) (roomy (key .width)) (roomy (key .width)) r l)
+  sent-alike box1 te be k box1 r l = rw (← te, ← be) (k .own-same (blank (key .width)) (blank (key .width)) (roomy (key .width)) (roomy (key .width)) r l)
+  sent-alike box1 te be k box2 r l = rw (← te, ← be) (k .other-same (blank (key .width)) (blank (key .width)) (roomy (key .width)) (roomy (key .width)) r l)
   sent-alike box2 te be k box1 r l =
       rw (← te, ← be)
       (sym (others-swap (partyAt tapes book box1 key) (partyAt tapes book box2 key) (blank (key .width)) r)
-      ∙ k .theirs (blank (key .width)) (blank (key .width)) (roomy (key .width)) (roomy (key .width)) r l
+      ∙ k .other-same (blank (key .width)) (blank (key .width)) (roomy (key .width)) (roomy (key .width)) r l
       ∙ others-swap (partyAt tapes book box1 key) (partyAt tapes′ book′ box2 key) (blank (key .width)) r)
   sent-alike box2 te be k box2 r l =
       rw (← te, ← be)
       (sym (own-swap (partyAt tapes book box1 key) (partyAt tapes book box2 key) (blank (key .width)) r)
-      ∙ k .mine (blank (key .width)) (blank (key .width)) (roomy (key .width)) (roomy (key .width)) r l
+      ∙ k .own-same (blank (key .width)) (blank (key .width)) (roomy (key .width)) (roomy (key .width)) r l
       ∙ own-swap (partyAt tapes book box1 key) (partyAt tapes′ book′ box2 key) (blank (key .width)) r)
 
   pub answer-alike : (b : Box) → tapes (otherBox b) (key .number) (key .width) ≡ tapes′ (otherBox b) (key .number) (key .width) → book (otherBox b) key ≡ book′ (otherBox b) key

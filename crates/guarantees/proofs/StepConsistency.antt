@@ -8,7 +8,7 @@ use lib.ListN.{length, length-take}
 use lib.Seq.{length-sets}
 use borrow.Author.Tests.{eqb-true}
 use Rattle.lists.proofs.Tabulate.{length-tabulate}
-use Rattle.protocol.specs.Rounds.{afterHearing}
+use Rattle.protocol.specs.Rounds.{lastRound, afterHearing}
 use Rattle.protocol.proofs.Lengths.{after-length}
 use Rattle.rules.specs.Answers.{refused}
 use Rattle.rules.specs.Modes.{modeOf}
@@ -152,7 +152,7 @@ module _ {s s′ : State} (t : LowState s s′) where
   hear-low number round tape tape′ work work′ incoming incoming′ room e =
       unless-low SameLength _ _ s s′ work work′ _ _ e t room
       (λ passed.
-      choice-low SameLength (eqb round 6) _ _ _ _
+      choice-low SameLength (eqb round lastRound) _ _ _ _
       (record { state = in-phase t (same Idle); reply = refl; buffer = lengths })
       (record { state = in-phase t (turned-low (Speak (round + 1)) (t .phase)); reply = refl; buffer = lengths }))
     where

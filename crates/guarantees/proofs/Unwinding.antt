@@ -6,6 +6,7 @@ use mathlib.Core.List.{List, [], _∷_, _++_, map}
 use native.Mathlib.Omega.{arith}
 use lib.ListN.{length}
 use Rattle.field.specs.Width.{listed}
+use Rattle.protocol.specs.Rounds.{lastRound}
 use Rattle.rules.specs.Grounds.{wordsFit}
 use Rattle.guarantees.specs.Boxes.{Box, box1, box2, otherBox}
 use Rattle.guarantees.specs.Keys.{Key}
@@ -73,7 +74,7 @@ module _ (b : Box) (g g′ : Setting) (pair : ℕ) (book book′ : Box → Key �
   pub record Alike : Type 0 where
     pub orders : InOrder g pair
     pub orders′ : InOrder g′ pair
-    pub sent : (c : Box) (key : Key) (r : ℕ) → listed (key .width) ≡ true → r < 6
+    pub sent : (c : Box) (key : Key) (r : ℕ) → listed (key .width) ≡ true → r < lastRound
         → sentBy (g .tapes) book c key (suc r) ≡ sentBy (g′ .tapes) book′ c key (suc r)
     pub answered : (key : Key) → listed (key .width) ≡ true
         → answerBy (g .tapes) book (otherBox b) key ≡ answerBy (g′ .tapes) book′ (otherBox b) key

@@ -4,7 +4,7 @@ use mathlib.Core.Path.{_≡_, refl, sym, ap, _∙_}
 use mathlib.Core.List.{List, _++_}
 use native.Mathlib.Omega.{arith}
 use borrow.Author.Tests.{eq-eqb, ne-eqb}
-use Rattle.protocol.specs.Rounds.{afterHearing, answerShare, replyTo}
+use Rattle.protocol.specs.Rounds.{lastRound, afterHearing, answerShare, replyTo}
 use Rattle.rules.specs.Answers.{numberOf}
 use Rattle.rules.specs.Grounds.{Ground, firstOf, hearGround}
 use Rattle.rules.specs.Calls.{Result, outcome, unless, inPhase, partyOf, turned, hearRule}
@@ -62,16 +62,16 @@ passed-outcome check ground s buffer goes e told =
 -- ---- the outcome of a hear that goes on: after the last round, and before
 
 module _ (s : State) (number round : ℕ) (tape work incoming : List ℕ) (goes : hearGround s number round tape work incoming ≡ 0) where
-  pub last-outcome : (v : ℕ) (next : State) (after : List ℕ) → round ≡ 6 → v ≡ replyTo (partyOf s tape) work round incoming
+  pub last-outcome : (v : ℕ) (next : State) (after : List ℕ) → round ≡ lastRound → v ≡ replyTo (partyOf s tape) work round incoming
       → next ≡ inPhase s Idle → after ≡ afterHearing (partyOf s tape) work round incoming
       → outcome (record { answer = ShareOf v; state = next }) after ≡ hearRule s number round tape work incoming
   unfolding hearRule replyTo
   last-outcome v next after six reply closed heard =
       let share : v ≡ answerShare (partyOf s tape) work incoming = rw six at reply in
-      rw (goes, eq-eqb round 6 six, share, closed, heard) refl
+      rw (goes, eq-eqb round lastRound six, share, closed, heard) refl
 
-  pub more-outcome : (next : State) (after : List ℕ) → (round ≡ 6 → ⊥) → next ≡ inPhase s (turned (s .phase) (Speak (round + 1)))
+  pub more-outcome : (next : State) (after : List ℕ) → (round ≡ lastRound → ⊥) → next ≡ inPhase s (turned (s .phase) (Speak (round + 1)))
       → after ≡ afterHearing (partyOf s tape) work round incoming
       → outcome (record { answer = Heard; state = next }) after ≡ hearRule s number round tape work incoming
   unfolding hearRule
-  more-outcome next after other due heard = rw (goes, ne-eqb round 6 other, due, heard) refl
+  more-outcome next after other due heard = rw (goes, ne-eqb round lastRound other, due, heard) refl

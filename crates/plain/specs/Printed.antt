@@ -6,7 +6,7 @@ use lib.Dec.{eqb, leb, ltb}
 use lib.ListN.{getD}
 use Rattle.field.specs.Width.{listed, modulus}
 use Rattle.encoding.specs.Matching.{indicator}
-use Rattle.protocol.specs.Rounds.{roundWords}
+use Rattle.protocol.specs.Rounds.{lastRound, roundWords}
 use Rattle.lines.specs.Reading.{isFive, fiveOf}
 use Rattle.lines.specs.Writing.{decimal}
 
@@ -38,7 +38,7 @@ counts n (suc r) = counts n r ++ (32 ∷ []) ++ decimal (roundWords n (suc r))
 unfoldable pub answerText : ℕ → ℕ → List ℕ
 answerText n less =
     (114 ∷ 111 ∷ 117 ∷ 110 ∷ 100 ∷ 115 ∷ [])
-    ++ counts n 6
+    ++ counts n lastRound
     ++ (10 ∷ 108 ∷ 101 ∷ 115 ∷ 115 ∷ 32 ∷ [])
     ++ decimal less
     ++ (10 ∷ [])

@@ -19,7 +19,7 @@ use Rattle.protocol.specs.Clear.{valueOf}
 use Rattle.protocol.specs.Exchange.{Both, exchanged, sentOwn, sentOthers, answerOthers}
 use Rattle.protocol.proofs.Halves.{indicator-bit}
 use Rattle.protocol.proofs.Stages.{left-total, right-total}
-use Rattle.protocol.proofs.Right.{rooms-1, rooms-2, rooms-3, rooms-4, rooms-5, counts, levels, sums, wraps, halves-4, halves-5, both}
+use Rattle.protocol.proofs.Right.{rooms, counts, levels, sums, wraps, halves-4, halves-5, both}
 use Rattle.protocol.proofs.Live.{Live, message-live, after-live, answer-live}
 use Rattle.protocol.specs.Change.{Shares, sharesOf, halvesOf}
 use Rattle.protocol.specs.Shift.{shifted}
@@ -41,16 +41,16 @@ module _ {n pair number side : ℕ} {own others : List ℕ} (m : Matched n pair 
 
   last-left : Cong (modulus n) (lastLeft n side (Z .own) + lastLeft n (other side) (Z .others)) (1 - (halvesOf q 0 + halvesOf q 1) % 2)
   last-left =
-      let r = rooms-5 m x y xo yo ly lyo w room room-o in
+      let r = rooms m x y xo yo ly lyo w room room-o 5 in
       let h = halves-5 m x y xo yo ly lyo w room room-o in
-      left-total m x y xo yo (Z .own) (Z .others) (r .mine) (r .theirs) (halvesOf q 0) (halvesOf q 1) (halvesOf q 2) (bit 0) (bit 1) (bit 2)
+      left-total m x y xo yo (Z .own) (Z .others) (r .own) (r .other) (halvesOf q 0) (halvesOf q 1) (halvesOf q 2) (bit 0) (bit 1) (bit 2)
       (h 0 (omega arith)) (h 1 (omega arith)) (h 2 (omega arith)) (both m x y xo yo ly lyo w room room-o)
 
   last-right : Cong (modulus n) (lastRight n side (Z .own) + lastRight n (other side) (Z .others)) (1 - halvesOf q 2)
   last-right =
-      let r = rooms-5 m x y xo yo ly lyo w room room-o in
+      let r = rooms m x y xo yo ly lyo w room room-o 5 in
       let h = halves-5 m x y xo yo ly lyo w room room-o in
-      right-total m x y xo yo (Z .own) (Z .others) (r .mine) (r .theirs) (halvesOf q 0) (halvesOf q 1) (halvesOf q 2) (bit 0) (bit 1) (bit 2)
+      right-total m x y xo yo (Z .own) (Z .others) (r .own) (r .other) (halvesOf q 0) (halvesOf q 1) (halvesOf q 2) (bit 0) (bit 1) (bit 2)
       (h 0 (omega arith)) (h 1 (omega arith)) (h 2 (omega arith)) (both m x y xo yo ly lyo w room room-o)
 
 module _ {n pair number side : ℕ} {own others : List ℕ} (m : Matched n pair number side own others) (x y x′ y′ xo yo : ℕ)
@@ -91,18 +91,18 @@ module _ {n pair number side : ℕ} {own others : List ℕ} (m : Matched n pair 
   -- after r rounds: the other box goes on with the same, and the next messages are the same
   pub record Alike (r : ℕ) : Type 0 where
     pub live : Live n r (X r .others) (Y r .others)
-    pub mine : message b (X r .own) (suc r) ≡ message b′ (Y r .own) (suc r)
-    pub theirs : message c (X r .others) (suc r) ≡ message c (Y r .others) (suc r)
+    pub own-same : message b (X r .own) (suc r) ≡ message b′ (Y r .own) (suc r)
+    pub other-same : message c (X r .others) (suc r) ≡ message c (Y r .others) (suc r)
 
   -- what the other box holds after the next round
   next-live : (r : ℕ) → workLength n ≤ length (X r .others) → workLength n ≤ length (Y r .others) → Alike r → Live n (suc r) (X (suc r) .others) (Y (suc r) .others)
   unfolding exchanged
   next-live r room room′ h =
-      rw (h .mine) (after-live c l (X r .others) (Y r .others) (message b′ (Y r .own) (suc r)) room room′ r (h .live))
+      rw (h .own-same) (after-live c l (X r .others) (Y r .others) (message b′ (Y r .own) (suc r)) room room′ r (h .live))
 
   -- a round's record, from the box's own message
   alike : (r : ℕ) → Live n r (X r .others) (Y r .others) → message b (X r .own) (suc r) ≡ message b′ (Y r .own) (suc r) → Alike r
-  alike r live mine = record { live = live; mine = mine; theirs = message-live c r (X r .others) (Y r .others) live }
+  alike r live same = record { live = live; own-same = same; other-same = message-live c r (X r .others) (Y r .others) live }
 
   pub alike-0 : Alike 0
   unfolding exchanged
@@ -120,7 +120,7 @@ module _ {n pair number side : ℕ} {own others : List ℕ} (m : Matched n pair 
 
   live-2 : Live n 2 (X 2 .others) (Y 2 .others)
   live-2 =
-      next-live 1 (rooms-1 m x y xo yo ly lyo w room room-o .theirs) (rooms-1 m′ x′ y′ xo yo ly′ lyo w′ room′ room-o′ .theirs) alike-1
+      next-live 1 (rooms m x y xo yo ly lyo w room room-o 1 .other) (rooms m′ x′ y′ xo yo ly′ lyo w′ room′ room-o′ 1 .other) alike-1
 
   pub alike-2 : Alike 2
   alike-2 =
@@ -130,7 +130,7 @@ module _ {n pair number side : ℕ} {own others : List ℕ} (m : Matched n pair 
 
   live-3 : Live n 3 (X 3 .others) (Y 3 .others)
   live-3 =
-      next-live 2 (rooms-2 m x y xo yo ly lyo w room room-o .theirs) (rooms-2 m′ x′ y′ xo yo ly′ lyo w′ room′ room-o′ .theirs) alike-2
+      next-live 2 (rooms m x y xo yo ly lyo w room room-o 2 .other) (rooms m′ x′ y′ xo yo ly′ lyo w′ room′ room-o′ 2 .other) alike-2
 
   pub alike-3 : Alike 3
   alike-3 =
@@ -142,7 +142,7 @@ module _ {n pair number side : ℕ} {own others : List ℕ} (m : Matched n pair 
 
   live-4 : Live n 4 (X 4 .others) (Y 4 .others)
   live-4 =
-      next-live 3 (rooms-3 m x y xo yo ly lyo w room room-o .theirs) (rooms-3 m′ x′ y′ xo yo ly′ lyo w′ room′ room-o′ .theirs) alike-3
+      next-live 3 (rooms m x y xo yo ly lyo w room room-o 3 .other) (rooms m′ x′ y′ xo yo ly′ lyo w′ room′ room-o′ 3 .other) alike-3
 
   pub alike-4 : Alike 4
   alike-4 =
@@ -152,7 +152,7 @@ module _ {n pair number side : ℕ} {own others : List ℕ} (m : Matched n pair 
 
   live-5 : Live n 5 (X 5 .others) (Y 5 .others)
   live-5 =
-      next-live 4 (rooms-4 m x y xo yo ly lyo w room room-o .theirs) (rooms-4 m′ x′ y′ xo yo ly′ lyo w′ room′ room-o′ .theirs) alike-4
+      next-live 4 (rooms m x y xo yo ly lyo w room room-o 4 .other) (rooms m′ x′ y′ xo yo ly′ lyo w′ room′ room-o′ 4 .other) alike-4
 
   pub alike-5 : Alike 5
   unfolding lastLeft lastRight
@@ -177,11 +177,11 @@ module _ {n pair number side : ℕ} {own others : List ℕ} (m : Matched n pair 
 
   pub same-own : (r : ℕ) → r < 6 → sentOwn b c w (suc r) ≡ sentOwn b′ c w′ (suc r)
   unfolding sentOwn
-  same-own r less = all-alike r less .mine
+  same-own r less = all-alike r less .own-same
 
   pub same-others : (r : ℕ) → r < 6 → sentOthers b c w (suc r) ≡ sentOthers b′ c w′ (suc r)
   unfolding sentOthers
-  same-others r less = all-alike r less .theirs
+  same-others r less = all-alike r less .other-same
 
   pub same-answer : answerOthers b c w ≡ answerOthers b′ c w′
   unfolding answerOthers

@@ -1,7 +1,7 @@
 -- A round's message has as many words as the table says, and hearing keeps work's length.
-use Prim.Native.Nat.{ℕ, zero, suc, _+_, _*_, _≤_}
+use Prim.Native.Nat.{ℕ, _+_, _*_, _≤_}
 use mathlib.Core.Path.{_≡_, refl, ap, ap₂, _∙_}
-use mathlib.Core.List.{List}
+use mathlib.Core.List.{List, []}
 use mathlib.Core.Bool.{true}
 use native.Mathlib.Nat.{mul-le-mul-right}
 use native.Mathlib.Omega.{arith}
@@ -14,21 +14,18 @@ use Rattle.field.specs.Width.{listed}
 use Rattle.field.proofs.Widths.{bounds}
 use Rattle.tape.proofs.Sizes.{small}
 use Rattle.tape.specs.Layout.{squareCount, groupCount}
+use Rattle.protocol.proofs.ByRound.{at-each, at-both}
 use Rattle.protocol.specs.Work.{held}
 use Rattle.protocol.specs.Products.{Party, Products, openLeft, openRight, openings, alternating}
-use Rattle.protocol.specs.Rounds.{squareWord, lowProducts, levelProducts, wrapProducts, halfProduct, lastProduct, roundWords, message, afterHearing}
+use Rattle.protocol.specs.Rounds.{squareWord, lowProducts, levelProducts, wrapProducts, halfProduct, lastProduct, wordTable, roundWords, messageTable, message, hearingTable, afterHearing}
 
 -- no round has more words than the first
 pub most-words : (n round : ℕ) → listed n ≡ true → roundWords n round ≤ roundWords n 1
 unfolding roundWords
-most-words n zero l = omega arith
-most-words n (suc zero) l = omega arith
-most-words n (suc (suc zero)) l = omega (arith, mul-le-mul-right n (bounds l .least))
-most-words n (suc (suc (suc zero))) l = omega (arith, mul-le-mul-right n (bounds l .least))
-most-words n (suc (suc (suc (suc zero)))) l = omega arith
-most-words n (suc (suc (suc (suc (suc zero))))) l = omega arith
-most-words n (suc (suc (suc (suc (suc (suc zero)))))) l = omega arith
-most-words n (suc (suc (suc (suc (suc (suc (suc round))))))) l = omega arith
+most-words n round l =
+    let square = mul-le-mul-right n (bounds l .least) in
+    at-each (λ (k : ℕ). k ≤ 3 * (n * n) + 6) (wordTable n) 0
+    (omega arith, (omega (arith, square), (omega (arith, square), (omega arith, (omega arith, (omega arith, tt)))))) (omega arith) round
 
 first-words : (n : ℕ) → roundWords n 1 ≡ 3 * (n * n) + 6
 unfolding roundWords
@@ -43,28 +40,32 @@ openings-length q ps = length-tabulate (ps .count * 2) (alternating (openLeft q 
 
 pub message-length : (q : Party) (work : List ℕ) (round : ℕ) → length (message q work round) ≡ roundWords (q .n) round
 unfolding message roundWords lowProducts levelProducts wrapProducts halfProduct lastProduct
-message-length q work zero = refl
-message-length q work (suc zero) =
-    length-append (tabulate (squareCount (q .n)) (squareWord q)) (openings q (lowProducts q))
-    ∙ ap₂ _+_ (length-tabulate (squareCount (q .n)) (squareWord q)) (openings-length q (lowProducts q))
-message-length q work (suc (suc zero)) = openings-length q (levelProducts q work) ∙ omega arith
-message-length q work (suc (suc (suc zero))) = length-tabulate (groupCount (q .n)) (λ g. held (q .n) work g)
-message-length q work (suc (suc (suc (suc zero)))) = openings-length q (wrapProducts q work)
-message-length q work (suc (suc (suc (suc (suc zero))))) = openings-length q (halfProduct q work)
-message-length q work (suc (suc (suc (suc (suc (suc zero)))))) = openings-length q (lastProduct q work)
-message-length q work (suc (suc (suc (suc (suc (suc (suc round))))))) = refl
+message-length q work round =
+    at-both (λ (l : List ℕ) (k : ℕ). length l ≡ k) (messageTable q work) (wordTable (q .n)) [] 0 (
+      length-append (tabulate (squareCount (q .n)) (squareWord q)) (openings q (lowProducts q))
+          ∙ ap₂ _+_ (length-tabulate (squareCount (q .n)) (squareWord q)) (openings-length q (lowProducts q)),
+      (
+        openings-length q (levelProducts q work) ∙ omega arith,
+        (
+          length-tabulate (groupCount (q .n)) (λ g. held (q .n) work g),
+          (
+            openings-length q (wrapProducts q work),
+            (
+              openings-length q (halfProduct q work),
+              (openings-length q (lastProduct q work), tt),
+            ),
+          ),
+        ),
+      ),
+    )
+    refl round
 
 -- hearing keeps work's length
 pub after-length : (q : Party) (work heard : List ℕ) (round : ℕ) → length (afterHearing q work round heard) ≡ length work
 unfolding afterHearing
-after-length q work heard zero = refl
-after-length q work heard (suc zero) = simp length-sets
-after-length q work heard (suc (suc zero)) = simp length-sets
-after-length q work heard (suc (suc (suc zero))) = simp length-sets
-after-length q work heard (suc (suc (suc (suc zero)))) = simp length-sets
-after-length q work heard (suc (suc (suc (suc (suc zero))))) = simp length-sets
-after-length q work heard (suc (suc (suc (suc (suc (suc zero)))))) = refl
-after-length q work heard (suc (suc (suc (suc (suc (suc (suc round))))))) = refl
+after-length q work heard round =
+    at-each (λ (l : List ℕ). length l ≡ length work) (hearingTable q work heard) work
+    (simp length-sets, (simp length-sets, (simp length-sets, (simp length-sets, (simp length-sets, (refl, tt)))))) refl round
 
 -- the front of out, where a message was put, is the message
 pub message-front : (q : Party) (work out : List ℕ) (round : ℕ) → roundWords (q .n) round ≤ length out

@@ -7,7 +7,7 @@ pub mod Wraps
 pub mod Halves
 pub mod Sums
 pub mod Values
-pub mod Turns
+pub mod ByRound
 pub mod Below
 pub mod Slots
 pub mod Stages

@@ -1,5 +1,5 @@
 -- Words below p: those that a function gives, and those of a message of any round. What is read past the end is 0, which is below p too.
-use Prim.Native.Nat.{ℕ, zero, suc, _+_, _-_, _*_, _%_, _<_}
+use Prim.Native.Nat.{ℕ, _+_, _-_, _*_, _%_, _<_}
 use mathlib.Core.Path.{_≡_}
 use mathlib.Core.Bool.{Bool, true, false, cond}
 use mathlib.Core.List.{List, [], _++_}
@@ -16,9 +16,10 @@ use Rattle.field.specs.Width.{modulus, listed}
 use Rattle.field.proofs.Widths.{bounds}
 use Rattle.tape.specs.Layout.{squareCount, groupCount}
 use Rattle.protocol.specs.Words.{Below}
+use Rattle.protocol.proofs.ByRound.{at-each}
 use Rattle.protocol.specs.Work.{held}
 use Rattle.protocol.specs.Products.{Party, Products, openLeft, openRight, alternating, openings}
-use Rattle.protocol.specs.Rounds.{squareWord, lowProducts, levelProducts, wrapProducts, halfProduct, lastProduct, message}
+use Rattle.protocol.specs.Rounds.{squareWord, lowProducts, levelProducts, wrapProducts, halfProduct, lastProduct, messageTable, message}
 use Rattle.protocol.proofs.Reading.{held-below}
 
 -- words that a function below p gives
@@ -63,13 +64,21 @@ module _ (b : Party) where
 
     pub message-below : (work : List ℕ) (round : ℕ) → Below (modulus (b .n)) (message b work round)
     unfolding message
-    message-below work zero = none-below
-    message-below work (suc zero) =
-        append-below (tabulate (squareCount (b .n)) (squareWord b)) (openings b (lowProducts b)) squares-below (openings-below (lowProducts b))
-    message-below work (suc (suc zero)) = openings-below (levelProducts b work)
-    message-below work (suc (suc (suc zero))) =
-        tabulated-below (groupCount (b .n)) (λ g. held (b .n) work g) (λ g. held-below (b .n) work g l)
-    message-below work (suc (suc (suc (suc zero)))) = openings-below (wrapProducts b work)
-    message-below work (suc (suc (suc (suc (suc zero))))) = openings-below (halfProduct b work)
-    message-below work (suc (suc (suc (suc (suc (suc zero)))))) = openings-below (lastProduct b work)
-    message-below work (suc (suc (suc (suc (suc (suc (suc round))))))) = none-below
+    message-below work round =
+        at-each (Below (modulus (b .n))) (messageTable b work) [] (
+          append-below (tabulate (squareCount (b .n)) (squareWord b)) (openings b (lowProducts b)) squares-below (openings-below (lowProducts b)),
+          (
+            openings-below (levelProducts b work),
+            (
+              tabulated-below (groupCount (b .n)) (λ g. held (b .n) work g) (λ g. held-below (b .n) work g l),
+              (
+                openings-below (wrapProducts b work),
+                (
+                  openings-below (halfProduct b work),
+                  (openings-below (lastProduct b work), tt),
+                ),
+              ),
+            ),
+          ),
+        )
+        none-below round

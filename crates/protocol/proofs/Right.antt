@@ -1,5 +1,5 @@
 -- The answer is right: the two answer shares of an exchange add up, modulo p, to 1 if x < y and to 0 otherwise.
-use Prim.Native.Nat.{ℕ, _+_, _*_, _%_, _<_, _≤_}
+use Prim.Native.Nat.{ℕ, zero, suc, _+_, _*_, _%_, _<_, _≤_}
 use mathlib.Core.Path.{_≡_}
 use mathlib.Core.Bool.{true}
 use mathlib.Core.List.{List}
@@ -23,7 +23,7 @@ use Rattle.protocol.specs.Clear.{valueOf, sharedBits, lowSumOf, wrapOf, 
 use Rattle.protocol.proofs.Halves.{compared, modulus-odd, indicator-bit}
 use Rattle.protocol.proofs.Wraps.{inverseTotal}
 use Rattle.protocol.proofs.Values.{value-below}
-use Rattle.protocol.proofs.Slots.{length-1, length-2, length-3, length-4, length-5}
+use Rattle.protocol.proofs.Lengths.{after-length}
 use Rattle.protocol.proofs.Stages.{count-total-1, sum-total-1, level-total-2, sum-total-2, wrap-total-3, sum-total-3, half-total-4, both-total-5, half-total-5, answer-total}
 
 module _ {n pair number side : ℕ} {t1 t2 : List ℕ} (m : Matched n pair number side t1 t2) (x1 y1 x2 y2 : ℕ)
@@ -47,47 +47,16 @@ module _ {n pair number side : ℕ} {t1 t2 : List ℕ} (m : Matched n pair numbe
 
   -- work keeps its length over the rounds
   pub record Rooms (r : ℕ) : Type 0 where
-    pub mine : workLength n ≤ length (o r)
-    pub theirs : workLength n ≤ length (t r)
+    pub own : workLength n ≤ length (o r)
+    pub other : workLength n ≤ length (t r)
 
-  pub rooms-1 : Rooms 1
+  pub rooms : (r : ℕ) → Rooms r
   unfolding exchanged
-  rooms-1 =
+  rooms zero = record { own = room1; other = room2 }
+  rooms (suc r) =
       record {
-        mine = rw (length-1 b l (w .own) (message c (w .others) 1) room1) room1;
-        theirs = rw (length-1 c l (w .others) (message b (w .own) 1) room2) room2;
-      }
-
-  pub rooms-2 : Rooms 2
-  unfolding exchanged
-  rooms-2 =
-      record {
-        mine = rw (length-2 b l (o 1) (message c (t 1) 2) (rooms-1 .mine)) (rooms-1 .mine);
-        theirs = rw (length-2 c l (t 1) (message b (o 1) 2) (rooms-1 .theirs)) (rooms-1 .theirs);
-      }
-
-  pub rooms-3 : Rooms 3
-  unfolding exchanged
-  rooms-3 =
-      record {
-        mine = rw (length-3 b l (o 2) (message c (t 2) 3) (rooms-2 .mine)) (rooms-2 .mine);
-        theirs = rw (length-3 c l (t 2) (message b (o 2) 3) (rooms-2 .theirs)) (rooms-2 .theirs);
-      }
-
-  pub rooms-4 : Rooms 4
-  unfolding exchanged
-  rooms-4 =
-      record {
-        mine = rw (length-4 b l (o 3) (message c (t 3) 4) (rooms-3 .mine)) (rooms-3 .mine);
-        theirs = rw (length-4 c l (t 3) (message b (o 3) 4) (rooms-3 .theirs)) (rooms-3 .theirs);
-      }
-
-  pub rooms-5 : Rooms 5
-  unfolding exchanged
-  rooms-5 =
-      record {
-        mine = rw (length-5 b l (o 4) (message c (t 4) 5) (rooms-4 .mine)) (rooms-4 .mine);
-        theirs = rw (length-5 c l (t 4) (message b (o 4) 5) (rooms-4 .theirs)) (rooms-4 .theirs);
+        own = rw (after-length b (o r) (message c (t r) (suc r)) (suc r)) (rooms r .own);
+        other = rw (after-length c (t r) (message b (o r) (suc r)) (suc r)) (rooms r .other);
       }
 
   -- what both hold in a slot adds up to
@@ -101,37 +70,37 @@ module _ {n pair number side : ℕ} {t1 t2 : List ℕ} (m : Matched n pair numbe
 
   pub levels : (g : ℕ) → g < groupCount n → Adds 2 g ((1 + sharedBits n side x1 y1 x2 y2 g) * inverseTotal n t1 t2 g)
   unfolding exchanged
-  levels g less = level-total-2 m x1 y1 x2 y2 (o 1) (t 1) (rooms-1 .mine) (rooms-1 .theirs) g _ less (counts g less)
+  levels g less = level-total-2 m x1 y1 x2 y2 (o 1) (t 1) (rooms 1 .own) (rooms 1 .other) g _ less (counts g less)
 
   -- S, up to round 3
   pub sums : (k : ℕ) → k < 3 → Adds 3 (sumSlot n k) (lowSumOf n x1 y1 x2 y2 k)
   unfolding exchanged
   sums k less =
-      cong-eq (sum-total-3 m x1 y1 x2 y2 (o 2) (t 2) (rooms-2 .mine) (rooms-2 .theirs) k less)
-      ⊙ cong-eq (sum-total-2 m x1 y1 x2 y2 (o 1) (t 1) (rooms-1 .mine) (rooms-1 .theirs) k)
+      cong-eq (sum-total-3 m x1 y1 x2 y2 (o 2) (t 2) (rooms 2 .own) (rooms 2 .other) k less)
+      ⊙ cong-eq (sum-total-2 m x1 y1 x2 y2 (o 1) (t 1) (rooms 1 .own) (rooms 1 .other) k)
       ⊙ sum-total-1 m x1 y1 x2 y2 (w .own) (w .others) room1 room2 k less
 
   -- the wraps, after round 3
   pub wraps : (k : ℕ) → k < 3 → Adds 3 (wrapSlot n k) (wrapOf n x1 y1 x2 y2 k)
   unfolding exchanged
   wraps k less =
-      wrap-total-3 m x1 y1 x2 y2 (o 2) (t 2) (rooms-2 .mine) (rooms-2 .theirs) k less
+      wrap-total-3 m x1 y1 x2 y2 (o 2) (t 2) (rooms 2 .own) (rooms 2 .other) k less
       levels
 
   -- the half tests, after round 4 and kept by round 5
   pub halves-4 : (k : ℕ) → k < 3 → Adds 4 (halfSlot n k) (halfOf n x1 y1 x2 y2 k)
   unfolding exchanged
   halves-4 k less =
-      half-total-4 m x1 y1 x2 y2 (o 3) (t 3) (rooms-3 .mine) (rooms-3 .theirs) k less ly1 ly2 (sums k less) (wraps k less)
+      half-total-4 m x1 y1 x2 y2 (o 3) (t 3) (rooms 3 .own) (rooms 3 .other) k less ly1 ly2 (sums k less) (wraps k less)
 
   pub halves-5 : (k : ℕ) → k < 3 → Adds 5 (halfSlot n k) (halfOf n x1 y1 x2 y2 k)
   unfolding exchanged
-  halves-5 k less = cong-eq (half-total-5 m x1 y1 x2 y2 (o 4) (t 4) (rooms-4 .mine) (rooms-4 .theirs) k less) ⊙ halves-4 k less
+  halves-5 k less = cong-eq (half-total-5 m x1 y1 x2 y2 (o 4) (t 4) (rooms 4 .own) (rooms 4 .other) k less) ⊙ halves-4 k less
 
   pub both : Adds 5 (bothSlot n) (halfOf n x1 y1 x2 y2 0 * halfOf n x1 y1 x2 y2 1)
   unfolding exchanged
   both =
-      both-total-5 m x1 y1 x2 y2 (o 4) (t 4) (rooms-4 .mine) (rooms-4 .theirs) _ _ (halves-4 0 (omega arith)) (halves-4 1 (omega arith))
+      both-total-5 m x1 y1 x2 y2 (o 4) (t 4) (rooms 4 .own) (rooms 4 .other) _ _ (halves-4 0 (omega arith)) (halves-4 1 (omega arith))
 
   pub right : Cong (modulus n) (answerOwn b c w + answerOthers b c w) (indicator (ltb ((x1 + x2) % modulus n) ((y1 + y2) % modulus n)))
   unfolding minus answerOwn answerOthers sentOwn sentOthers
@@ -139,7 +108,7 @@ module _ {n pair number side : ℕ} {t1 t2 : List ℕ} (m : Matched n pair numbe
       let p = modulus n in
       let v = valueOf n x1 y1 x2 y2 in
       let bit : (k : ℕ) → half p (v k) ≤ 1 = λ k. indicator-bit (ltb (2 * v k) p) in
-      answer-total m x1 y1 x2 y2 (o 5) (t 5) (rooms-5 .mine) (rooms-5 .theirs)
+      answer-total m x1 y1 x2 y2 (o 5) (t 5) (rooms 5 .own) (rooms 5 .other)
       (half p (v 0)) (half p (v 1)) (half p (v 2)) (bit 0) (bit 1) (bit 2)
       (halves-5 0 (omega arith)) (halves-5 1 (omega arith)) (halves-5 2 (omega arith)) both
       (indicator (ltb (v 0) (v 1)))

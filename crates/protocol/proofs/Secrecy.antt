@@ -24,8 +24,8 @@ module _ (n pair number side xo yo : ℕ) (others : List ℕ) (lyo : yo < modulu
         undone = λ own m. undone m x y x′ y′ xo yo;
         alike = λ own m.
             record {
-              mine = λ w w′ r r′. same-own m x y x′ y′ xo yo ly ly′ lyo w w′ (r .own) (r .others) (r′ .own) (r′ .others);
-              theirs = λ w w′ r r′. same-others m x y x′ y′ xo yo ly ly′ lyo w w′ (r .own) (r .others) (r′ .own) (r′ .others);
+              own-same = λ w w′ r r′. same-own m x y x′ y′ xo yo ly ly′ lyo w w′ (r .own) (r .others) (r′ .own) (r′ .others);
+              other-same = λ w w′ r r′. same-others m x y x′ y′ xo yo ly ly′ lyo w w′ (r .own) (r .others) (r′ .own) (r′ .others);
               answer = λ w w′ r r′. same-answer m x y x′ y′ xo yo ly ly′ lyo w w′ (r .own) (r .others) (r′ .own) (r′ .others);
             };
       }

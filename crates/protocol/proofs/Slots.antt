@@ -26,10 +26,6 @@ module _ (q : Party) (l : listed (q .n) ≡ true) (work heard : List ℕ) (room 
   abbrev first : List ℕ
   first = sets work 0 (tabulate (groupCount (q .n)) counts)
 
-  pub length-1 : length (afterHearing q work 1 heard) ≡ length work
-  unfolding afterHearing
-  length-1 = length-sets first (sumSlot (q .n) 0) (tabulate 3 (lowSum q heard)) ∙ length-sets work 0 (tabulate (groupCount (q .n)) counts)
-
   pub count-1 : (g : ℕ) → g < groupCount (q .n)
       → held (q .n) (afterHearing q work 1 heard) g ≡ matchCount (q .n) (q .side) (doubledOf q) (squaresOf q) heard g
   unfolding afterHearing
@@ -49,10 +45,6 @@ module _ (q : Party) (l : listed (q .n) ≡ true) (work heard : List ℕ) (room 
   abbrev levels : ℕ → ℕ
   levels = closing q (levelProducts q work) heard 0
 
-  pub length-2 : length (afterHearing q work 2 heard) ≡ length work
-  unfolding afterHearing
-  length-2 = length-sets work 0 (tabulate (groupCount (q .n)) levels)
-
   pub level-2 : (g : ℕ) → g < groupCount (q .n)
       → held (q .n) (afterHearing q work 2 heard) g ≡ closing q (levelProducts q work) heard 0 g
   unfolding afterHearing
@@ -68,10 +60,6 @@ module _ (q : Party) (l : listed (q .n) ≡ true) (work heard : List ℕ) (room 
   abbrev wraps : ℕ → ℕ
   wraps = wrapShare (q .n) (q .side) (powersOf q) work heard
 
-  pub length-3 : length (afterHearing q work 3 heard) ≡ length work
-  unfolding afterHearing
-  length-3 = length-sets work (wrapSlot (q .n) 0) (tabulate 3 wraps)
-
   pub wrap-3 : (t : ℕ) → t < 3
       → held (q .n) (afterHearing q work 3 heard) (wrapSlot (q .n) t) ≡ wrapShare (q .n) (q .side) (powersOf q) work heard t
   unfolding afterHearing
@@ -84,10 +72,6 @@ module _ (q : Party) (l : listed (q .n) ≡ true) (work heard : List ℕ) (room 
   sum-3 t less = held-beside (q .n) work (wrapSlot (q .n) 0) 3 wraps (sumSlot (q .n) t) (inl (omega arith))
 
   -- round 4: the half tests
-  pub length-4 : length (afterHearing q work 4 heard) ≡ length work
-  unfolding afterHearing
-  length-4 = length-sets work (halfSlot (q .n) 0) (tabulate 3 (halfShare q work heard))
-
   pub half-4 : (t : ℕ) → t < 3 → held (q .n) (afterHearing q work 4 heard) (halfSlot (q .n) t) ≡ halfShare q work heard t
   unfolding afterHearing
   half-4 t less =
@@ -97,10 +81,6 @@ module _ (q : Party) (l : listed (q .n) ≡ true) (work heard : List ℕ) (room 
   -- round 5: M
   abbrev both : ℕ → ℕ
   both i = closing q (halfProduct q work) heard 0 0
-
-  pub length-5 : length (afterHearing q work 5 heard) ≡ length work
-  unfolding afterHearing
-  length-5 = length-sets work (bothSlot (q .n)) (tabulate 1 both)
 
   pub both-5 : held (q .n) (afterHearing q work 5 heard) (bothSlot (q .n)) ≡ closing q (halfProduct q work) heard 0 0
   unfolding afterHearing

@@ -2,7 +2,7 @@
 use Prim.Native.Nat.{ℕ, zero, suc}
 use mathlib.Core.List.{List}
 use Rattle.protocol.specs.Products.{Party}
-use Rattle.protocol.specs.Rounds.{message, afterHearing, answerShare}
+use Rattle.protocol.specs.Rounds.{earlierRounds, lastRound, message, afterHearing, answerShare}
 
 -- the work of both boxes
 pub record Both : Type 0 where
@@ -30,7 +30,7 @@ sentOthers b c w (suc r) = message c (exchanged b c w r .others) (suc r)
 
 -- the two answer shares, after the last round was heard
 unfoldable pub answerOwn : Party → Party → Both → ℕ
-answerOwn b c w = answerShare b (exchanged b c w 5 .own) (sentOthers b c w 6)
+answerOwn b c w = answerShare b (exchanged b c w earlierRounds .own) (sentOthers b c w lastRound)
 
 unfoldable pub answerOthers : Party → Party → Both → ℕ
-answerOthers b c w = answerShare c (exchanged b c w 5 .others) (sentOwn b c w 6)
+answerOthers b c w = answerShare c (exchanged b c w earlierRounds .others) (sentOwn b c w lastRound)

@@ -9,6 +9,7 @@ use Rattle.tape.specs.Layout.{bodyLength}
 use Rattle.tape.specs.Dealt.{Matched}
 use Rattle.protocol.specs.Work.{workLength}
 use Rattle.protocol.specs.Products.{party}
+use Rattle.protocol.specs.Rounds.{lastRound}
 use Rattle.protocol.specs.Exchange.{Both, sentOwn, sentOthers, answerOthers}
 
 -- both works are long enough
@@ -19,10 +20,10 @@ pub record Roomy (n : ℕ) (w : Both) : Type 0 where
 -- two tapes of the box of `side`, one for shares x and y, one for x′ and y′, look the same to the other box, which has xo, yo and its tape:
 -- every message of every round of both boxes is the same, and so is the other box's answer share, whatever work held at first
 pub record LooksAlike (n side x y x′ y′ xo yo : ℕ) (others own own′ : List ℕ) : Type 0 where
-  pub mine : (w w′ : Both) → Roomy n w → Roomy n w′ → (r : ℕ) → r < 6
+  pub own-same : (w w′ : Both) → Roomy n w → Roomy n w′ → (r : ℕ) → r < lastRound
       → sentOwn (party n side x y own) (party n (other side) xo yo others) w (suc r)
       ≡ sentOwn (party n side x′ y′ own′) (party n (other side) xo yo others) w′ (suc r)
-  pub theirs : (w w′ : Both) → Roomy n w → Roomy n w′ → (r : ℕ) → r < 6
+  pub other-same : (w w′ : Both) → Roomy n w → Roomy n w′ → (r : ℕ) → r < lastRound
       → sentOthers (party n side x y own) (party n (other side) xo yo others) w (suc r)
       ≡ sentOthers (party n side x′ y′ own′) (party n (other side) xo yo others) w′ (suc r)
   pub answer : (w w′ : Both) → Roomy n w → Roomy n w′

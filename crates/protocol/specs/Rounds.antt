@@ -1,6 +1,8 @@
 -- The six rounds of document 01: what a box sends in each, and what it holds after hearing each.
-use Prim.Native.Nat.{ℕ, _+_, _*_, _%_}
+use Prim.Native.Nat.{ℕ, suc, _+_, _*_, _%_}
+use mathlib.Core.Bool.{cond}
 use mathlib.Core.List.{List, [], _∷_, _++_}
+use lib.Dec.{eqb}
 use lib.ListN.{getD}
 use lib.Seq.{sets}
 use Rattle.lists.specs.Tabulate.{tabulate}
@@ -116,39 +118,51 @@ answerShare b work heard =
 
 -- ---- by the round's number; any other round sends nothing and changes nothing
 
+-- how many rounds come before the last one
+abbrev pub earlierRounds : ℕ
+earlierRounds = 5
+
+abbrev pub lastRound : ℕ
+lastRound = suc earlierRounds
+
 abbrev pub atRound : {A : Type 0} → ℕ → List A → A → A
 atRound round rounds none = getD (none ∷ rounds) round none
 
--- how many words a round opens
-unfoldable pub roundWords : ℕ → ℕ → ℕ
-roundWords n round = atRound round ((3 * (n * n) + 6) ∷ (6 * n) ∷ (3 * n) ∷ 6 ∷ 2 ∷ 2 ∷ []) 0
+-- how many words each round opens
+abbrev pub wordTable : ℕ → List ℕ
+wordTable n = (3 * (n * n) + 6) ∷ (6 * n) ∷ (3 * n) ∷ 6 ∷ 2 ∷ 2 ∷ []
 
--- the words that a box sends
-unfoldable pub message : Party → List ℕ → ℕ → List ℕ
-message b work round =
-    atRound round
-    ((tabulate (squareCount (b .n)) (squareWord b) ++ openings b (lowProducts b))
+unfoldable pub roundWords : ℕ → ℕ → ℕ
+roundWords n round = atRound round (wordTable n) 0
+
+-- the words that a box sends in each
+abbrev pub messageTable : Party → List ℕ → List (List ℕ)
+messageTable b work =
+    (tabulate (squareCount (b .n)) (squareWord b) ++ openings b (lowProducts b))
     ∷ openings b (levelProducts b work)
     ∷ tabulate (groupCount (b .n)) (λ g. held (b .n) work g)
     ∷ openings b (wrapProducts b work)
     ∷ openings b (halfProduct b work)
     ∷ openings b (lastProduct b work)
-    ∷ [])
-    []
+    ∷ []
 
--- work after the round's words were heard: the named words replaced, all others as they were
-unfoldable pub afterHearing : Party → List ℕ → ℕ → List ℕ → List ℕ
-afterHearing b work round heard =
-    atRound round
-    (sets (sets work 0 (tabulate (groupCount (b .n)) (matchCount (b .n) (b .side) (doubledOf b) (squaresOf b) heard))) (sumSlot (b .n) 0) (tabulate 3 (lowSum b heard))
+unfoldable pub message : Party → List ℕ → ℕ → List ℕ
+message b work round = atRound round (messageTable b work) []
+
+-- work after each was heard: the named words replaced, all others as they were
+abbrev pub hearingTable : Party → List ℕ → List ℕ → List (List ℕ)
+hearingTable b work heard =
+    sets (sets work 0 (tabulate (groupCount (b .n)) (matchCount (b .n) (b .side) (doubledOf b) (squaresOf b) heard))) (sumSlot (b .n) 0) (tabulate 3 (lowSum b heard))
     ∷ sets work 0 (tabulate (groupCount (b .n)) (closing b (levelProducts b work) heard 0))
     ∷ sets work (wrapSlot (b .n) 0) (tabulate 3 (wrapShare (b .n) (b .side) (powersOf b) work heard))
     ∷ sets work (halfSlot (b .n) 0) (tabulate 3 (halfShare b work heard))
     ∷ sets work (bothSlot (b .n)) (closing b (halfProduct b work) heard 0 0 ∷ [])
     ∷ work
-    ∷ [])
-    work
+    ∷ []
+
+unfoldable pub afterHearing : Party → List ℕ → ℕ → List ℕ → List ℕ
+afterHearing b work round heard = atRound round (hearingTable b work heard) work
 
 -- what comes back: the answer share after the last round, and 0 before
 unfoldable pub replyTo : Party → List ℕ → ℕ → List ℕ → ℕ
-replyTo b work round heard = atRound round (0 ∷ 0 ∷ 0 ∷ 0 ∷ 0 ∷ answerShare b work heard ∷ []) 0
+replyTo b work round heard = cond (eqb round lastRound) (answerShare b work heard) 0

@@ -7,6 +7,7 @@ use native.Mathlib.Omega.{arith}
 use borrow.Author.Tests.{lt-ltb, le-leb, ne-eqb, eqb-true, eqb-false, not-false}
 use lib.Dec.{eqb}
 use Rattle.field.specs.Width.{modulus}
+use Rattle.protocol.specs.Rounds.{lastRound}
 use Rattle.rules.specs.Answers.{dropped}
 use Rattle.rules.specs.Tally.{tapesOf}
 use Rattle.rules.specs.Modes.{roundOf, roundFits, inRange, modeOf, isAsleep, inJob}
@@ -101,22 +102,22 @@ HearMoves s number round tape work incoming =
     Moves (s .n) (modeOf s) (hear number round tape work incoming) (hearRule s number round tape work incoming .reply)
     (modeOf (hearRule s number round tape work incoming .state))
 
-heard-job : (s : State) (number round : ℕ) (tape work incoming : List ℕ) → hearGround s number round tape work incoming ≡ 0 → (round ≡ 6 → ⊥)
+heard-job : (s : State) (number round : ℕ) (tape work incoming : List ℕ) → hearGround s number round tape work incoming ≡ 0 → (round ≡ lastRound → ⊥)
     → (t : TurnPassed s number (Hear round) tape) → modeOf (hearRule s number round tape work incoming .state) ≡ Job (Speak (round + 1)) number (t .due .x) (t .due .y)
 unfolding hearRule
 heard-job s number round tape work incoming z other t =
     let last = t .range .last in
-    rw (z, ne-eqb round 6 other)
+    rw (z, ne-eqb round lastRound other)
     (turned-job s t (Speak (round + 1)) (rw (le-leb 1 (round + 1) (omega arith), le-leb (round + 1) 6 (omega arith))))
 
 -- before the last round
-hear-goes-on : (s : State) (number round : ℕ) (tape work incoming : List ℕ) → hearGround s number round tape work incoming ≡ 0 → (round ≡ 6 → ⊥)
+hear-goes-on : (s : State) (number round : ℕ) (tape work incoming : List ℕ) → hearGround s number round tape work incoming ≡ 0 → (round ≡ lastRound → ⊥)
     → HearMoves s number round tape work incoming
 unfolding hearRule HearMoves
 hear-goes-on s number round tape work incoming z other =
     let t = hear-passed s number round tape work incoming z .turn in
-    let less : round < 6 = omega (arith, t .range .last) in
-    rw (found-job s t, heard-job s number round tape work incoming z other t, z, ne-eqb round 6 other) (hears less)
+    let less : round < lastRound = omega (arith, t .range .last) in
+    rw (found-job s t, heard-job s number round tape work incoming z other t, z, ne-eqb round lastRound other) (hears less)
 
 hear-ends : (s : State) (number : ℕ) (tape work incoming : List ℕ) → hearGround s number 6 tape work incoming ≡ 0
     → HearMoves s number 6 tape work incoming
@@ -127,11 +128,11 @@ hear-ends s number tape work incoming z =
 
 hear-moves : (s : State) (number round : ℕ) (tape work incoming : List ℕ) → hearGround s number round tape work incoming ≡ 0
     → HearMoves s number round tape work incoming
-hear-moves s number round tape work incoming z = go (eqb round 6) refl
+hear-moves s number round tape work incoming z = go (eqb round lastRound) refl
   where
-    go : (t : Bool) → eqb round 6 ≡ t → HearMoves s number round tape work incoming
+    go : (t : Bool) → eqb round lastRound ≡ t → HearMoves s number round tape work incoming
     go true e =
-        subst (λ (r : ℕ). hearGround s number r tape work incoming ≡ 0 → HearMoves s number r tape work incoming) (sym (eqb-true round 6 e))
+        subst (λ (r : ℕ). hearGround s number r tape work incoming ≡ 0 → HearMoves s number r tape work incoming) (sym (eqb-true round lastRound e))
         (hear-ends s number tape work incoming) z
     go false e = hear-goes-on s number round tape work incoming z (eqb-false round 6 e)
 
@@ -173,5 +174,5 @@ keeps s (wake n side pair tally) e = absurd (true≢false e)
 keeps s (start number x y tape work tally) e = same-box (startGround s number x y tape work tally) s tally _ refl
 keeps s (speak number round tape work out) e = same-box (speakGround s number round tape work out) s out _ refl
 keeps s (hear number round tape work incoming) e =
-    same-box (hearGround s number round tape work incoming) s work _ (either-box (eqb round 6) s _ _ refl refl)
+    same-box (hearGround s number round tape work incoming) s work _ (either-box (eqb round lastRound) s _ _ refl refl)
 keeps s drop e = same-box (dropGround s) s [] _ refl

@@ -6,6 +6,7 @@ use mathlib.Core.Bool.{Bool, true, false, not, cond, true≢false, false≢true}
 use mathlib.Core.List.{List, []}
 use borrow.Author.Tests.{eq-eqb, ne-eqb}
 use lib.Dec.{eqb}
+use Rattle.protocol.specs.Rounds.{lastRound}
 use Rattle.rules.specs.Answers.{refused}
 use Rattle.rules.specs.Modes.{modeOf, isAsleep}
 use Rattle.rules.specs.Grounds.{wakeGround, startGround, speakGround, hearGround, dropGround}
@@ -42,7 +43,7 @@ tells s (wake n side pair tally) = told (wakeGround s n side tally) s tally _ re
 tells s (start number x y tape work tally) = told (startGround s number x y tape work tally) s tally _ refl
 tells s (speak number round tape work out) = told (speakGround s number round tape work out) s out _ refl
 tells s (hear number round tape work incoming) =
-    told (hearGround s number round tape work incoming) s work _ (hear-answers (eqb round 6) _ _ refl refl)
+    told (hearGround s number round tape work incoming) s work _ (hear-answers (eqb round lastRound) _ _ refl refl)
 tells s drop = told (dropGround s) s [] _ refl
 
 -- ---- asleep, and awake

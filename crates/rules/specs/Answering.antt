@@ -6,7 +6,7 @@ use mathlib.Core.List.{List, map}
 use lib.ListN.{length, getD}
 use Rattle.field.specs.Width.{listed}
 use Rattle.shares.specs.Side.{isSide}
-use Rattle.protocol.specs.Rounds.{roundWords}
+use Rattle.protocol.specs.Rounds.{lastRound, roundWords}
 use Rattle.rules.specs.Answers.{Reply, fresh, started, spoke, heard, share, dropped, refused}
 use Rattle.rules.specs.Tally.{tallyFits, isFresh, freshCount}
 use Rattle.rules.specs.Modes.{inRange, modeOf, isAsleep, inJob, asleepState}
@@ -52,10 +52,10 @@ pub data Moves (n : ℕ) : Phase → Call → Reply → Phase → Type 0 where
   opens : {number x y : ℕ} {tape work tally : List ℕ} → Moves n Idle (start number x y tape work tally) started (Job (Speak 1) number x y)
   speaks : {number round x y : ℕ} {tape work out : List ℕ}
       → Moves n (Job (Speak round) number x y) (speak number round tape work out) (spoke (roundWords n round)) (Job (Hear round) number x y)
-  hears : {number round x y : ℕ} {tape work incoming : List ℕ} → round < 6
+  hears : {number round x y : ℕ} {tape work incoming : List ℕ} → round < lastRound
       → Moves n (Job (Hear round) number x y) (hear number round tape work incoming) heard (Job (Speak (round + 1)) number x y)
   ends : {number x y answer : ℕ} {tape work incoming : List ℕ}
-      → Moves n (Job (Hear 6) number x y) (hear number 6 tape work incoming) (share answer) Idle
+      → Moves n (Job (Hear lastRound) number x y) (hear number lastRound tape work incoming) (share answer) Idle
   drops : {number x y : ℕ} {turn : Turn} → Moves n (Job turn number x y) drop dropped Idle
 
 -- a start takes a job: the state is awake, the tape is fresh in a lent tally of the state's length, and the tally that is left differs in its byte alone

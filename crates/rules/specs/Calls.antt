@@ -6,7 +6,7 @@ use lib.Dec.{eqb}
 use lib.ListN.{length}
 use lib.Seq.{sets}
 use Rattle.protocol.specs.Products.{Party, party}
-use Rattle.protocol.specs.Rounds.{roundWords, message, afterHearing, answerShare}
+use Rattle.protocol.specs.Rounds.{lastRound, roundWords, message, afterHearing, answerShare}
 use Rattle.rules.specs.Answers.{Reply, fresh, started, spoke, heard, share, dropped, refused, replyOf}
 use Rattle.rules.specs.Tally.{marked, freshCount}
 use Rattle.rules.specs.Grounds.{wakeGround, startGround, speakGround, hearGround, dropGround}
@@ -82,7 +82,7 @@ speakRule s number round tape work out =
 unfoldable pub hearRule : State → ℕ → ℕ → List ℕ → List ℕ → List ℕ → Result
 hearRule s number round tape work incoming =
     unless (hearGround s number round tape work incoming) s work
-    (cond (eqb round 6)
+    (cond (eqb round lastRound)
     (record {
       reply = share (answerShare (partyOf s tape) work incoming);
       state = inPhase s Idle;

@@ -4,6 +4,7 @@ use mathlib.Core.Bool.{Bool, true, false, _&&_, cond}
 use lib.Dec.{eqb, leb, ltb}
 use Rattle.field.specs.Width.{listed, modulus}
 use Rattle.shares.specs.Side.{isSide}
+use Rattle.protocol.specs.Rounds.{lastRound}
 use Rattle.rules.specs.Tally.{tallyFits, tapesOf}
 use Rattle.rules.specs.declared.state.Turn.{Turn}
 use Rattle.rules.specs.declared.state.Turn.the-variants.{Speak, Hear}
@@ -16,7 +17,7 @@ roundOf (Speak round) = round
 roundOf (Hear round) = round
 
 abbrev pub roundFits : ℕ → Bool
-roundFits round = leb 1 round && leb round 6
+roundFits round = leb 1 round && leb round lastRound
 
 abbrev pub phaseFits : ℕ → ℕ → Phase → Bool
 phaseFits n tally Asleep = true

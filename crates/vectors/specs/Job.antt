@@ -8,7 +8,7 @@ use lib.ListN.{getD, replicate}
 use Rattle.field.specs.Width.{listed}
 use Rattle.tape.specs.Layout.{tapeLength}
 use Rattle.protocol.specs.Products.{Party, party}
-use Rattle.protocol.specs.Rounds.{message}
+use Rattle.protocol.specs.Rounds.{lastRound, message}
 use Rattle.protocol.specs.Exchange.{Both, exchanged, answerOwn, answerOthers}
 use Rattle.exchange.specs.Opening.{refusalOf, begun}
 use Rattle.exchange.specs.Boxes.{works}
@@ -25,7 +25,7 @@ messagesTo b c w (suc r) = messagesTo b c w r ++ messages b c (exchanged b c w r
 
 -- all six rounds, then both answer shares
 abbrev pub transcript : Party → Party → Both → List ℕ
-transcript b c w = messagesTo b c w 6 ++ (answerOwn b c w ∷ answerOthers b c w ∷ [])
+transcript b c w = messagesTo b c w lastRound ++ (answerOwn b c w ∷ answerOthers b c w ∷ [])
 
 -- zeros to work in, and a tally of which no tape is used
 unfoldable pub blankWork : List ℕ

@@ -7,7 +7,8 @@ use lib.ListN.{length}
 use Rattle.field.specs.Width.{modulus}
 use Rattle.field.proofs.Widths.{bounds}
 use Rattle.protocol.specs.Rounds.{roundWords, afterHearing, replyTo}
-use Rattle.protocol.proofs.Turns.{no-round}
+use Rattle.protocol.specs.Products.{party}
+use Rattle.protocol.proofs.ByRound.{no-reply, no-hearing}
 use Rattle.compare.proofs.Sound.{sound}
 use Rattle.compare.proofs.Heard.{levels-closed, wraps-closed}
 use Rattle.compare.proofs.hearing.hear.Statement.{statement}
@@ -166,13 +167,13 @@ returns-6 c =
     ((rw (m .match .keys6) (c .answer .ensures .0 (a .x) (a .y)), rw (m .match .keys6)), c .answer .ensures .1)
 
 returns-7 : tie.Need-returns-7
-unfolding replyTo afterHearing
 returns-7 c =
     let s = c .before .before .before .before in
-    let r = c .match .rest in (
+    let a = s .args in
+    let b = party (a .n) (a .side) (a .x) (a .y) (a .tape .now) in (
       (
-        sym (no-round _ _ _ _ _ _ _ (s .args .round) (r .0 .0 .0 .0 .0 .1) (r .0 .0 .0 .0 .1) (r .0 .0 .0 .1) (r .0 .0 .1) (r .0 .1) (r .1)),
-        sym (no-round _ _ _ _ _ _ _ (s .args .round) (r .0 .0 .0 .0 .0 .1) (r .0 .0 .0 .0 .1) (r .0 .0 .0 .1) (r .0 .0 .1) (r .0 .1) (r .1)),
+        sym (no-reply (a .round) (c .match .rest) b (a .work .now) (a .heard .now)),
+        sym (no-hearing (a .round) (c .match .rest) b (a .work .now) (a .heard .now)),
       ),
       none s,
     )

@@ -10,7 +10,8 @@ use Rattle.tape.proofs.Sections.{section-length}
 use Rattle.protocol.specs.Products.{party}
 use Rattle.protocol.specs.Rounds.{roundWords, message}
 use Rattle.compare.proofs.Parts.{section-words}
-use Rattle.compare.proofs.Messages.{level-message, wrap-message, half-message, no-message}
+use Rattle.protocol.proofs.ByRound.{no-message}
+use Rattle.compare.proofs.Messages.{level-message, wrap-message, half-message}
 use Rattle.compare.proofs.speaking.speak.Statement.{statement}
 use Rattle.compare.proofs.speaking.speak.Tie as tie
 
@@ -224,11 +225,9 @@ returns-6 c =
 returns-7 : tie.Need-returns-7
 returns-7 c =
     let a = c .before .before .before .before .args in
-    let not = c .match .rest in
     sym
     (ap (λ (ws : List ℕ). sets (a .out .now) 0 ws)
-    (no-message (party (a .n) (a .side) (a .x) (a .y) (a .tape .now)) (a .work .now) (a .round)
-    (not .0 .0 .0 .0 .0 .1) (not .0 .0 .0 .0 .1) (not .0 .0 .0 .1) (not .0 .0 .1) (not .0 .1) (not .1)))
+    (no-message (a .round) (c .match .rest) (party (a .n) (a .side) (a .x) (a .y) (a .tape .now)) (a .work .now)))
 
 pub speak-spec : {M : Type 1} → statement M
 speak-spec =

@@ -5,7 +5,7 @@ use native.Mathlib.Omega.{arith}
 use borrow.Author.Needs.{needs}
 use Rattle.tape.proofs.Sizes.{small}
 use Rattle.protocol.specs.Rounds.{roundWords}
-use Rattle.protocol.proofs.Turns.{no-round}
+use Rattle.protocol.proofs.ByRound.{no-words}
 use Rattle.compare.proofs.words.words_of.Statement.{statement}
 use Rattle.compare.proofs.words.words_of.Tie as tie
 
@@ -49,13 +49,8 @@ unfolding roundWords
 returns-6 c = rw (c .match .keys6)
 
 returns-7 : tie.Need-returns-7
-unfolding roundWords
 returns-7 c =
-    let n = c .before .args .n in
-    let not = c .match .rest in
-    sym
-    (no-round (3 * (n * n) + 6) (6 * n) (3 * n) 6 2 2 0 (c .before .args .round)
-    (not .0 .0 .0 .0 .0 .1) (not .0 .0 .0 .0 .1) (not .0 .0 .0 .1) (not .0 .0 .1) (not .0 .1) (not .1))
+    sym (no-words (c .before .args .round) (c .match .rest) (c .before .args .n))
 
 pub words-of-spec : {M : Type 1} → statement M
 words-of-spec =

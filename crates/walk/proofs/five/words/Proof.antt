@@ -1,7 +1,7 @@
 -- `walk::five::words` meets its contract: each arm is a round's number, and the last is none of them.
 use mathlib.Core.Path.{sym}
 use native.Mathlib.Omega.{arith}
-use Rattle.protocol.proofs.Turns.{no-round}
+use Rattle.protocol.proofs.ByRound.{no-words}
 use Rattle.protocol.specs.Rounds.{roundWords}
 use Rattle.walk.proofs.five.words.Statement.{statement}
 use Rattle.walk.proofs.five.words.Tie as tie
@@ -31,14 +31,7 @@ unfolding roundWords
 returns-6 c = (omega arith, rw (c .match .keys6))
 
 returns-7 : tie.Need-returns-7
-unfolding roundWords
-returns-7 c =
-    let not = c .match .rest in (
-      omega arith,
-      sym
-          (no-round 33 18 9 6 2 2 0 (c .before .args .round)
-          (not .0 .0 .0 .0 .0 .1) (not .0 .0 .0 .0 .1) (not .0 .0 .0 .1) (not .0 .0 .1) (not .0 .1) (not .1)),
-    )
+returns-7 c = (omega arith, sym (no-words (c .before .args .round) (c .match .rest) 3))
 
 pub words-spec : {M : Type 1} → statement M
 words-spec =
