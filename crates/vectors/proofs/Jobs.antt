@@ -3,6 +3,7 @@ use Prim.Native.Nat.{ℕ}
 use mathlib.Core.Path.{_≡_, sym, ap, _∙_}
 use mathlib.Core.Bool.{true, false, _&&_}
 use mathlib.Core.List.{List}
+use borrow.Author.Tests.{eq-eqb, ne-eqb}
 use lib.Dec.{eqb}
 use lib.ListN.{getD}
 use Rattle.lists.proofs.Tests.{and-false}
@@ -68,12 +69,17 @@ module _ (text : List ℕ) (from n pair number x1 y1 x2 y2 : ℕ) where
       tapes-told width one two = rw (← first, ← second, width, one, two)
 
 -- c read the seven numbers at the front
-module _ (text : List ℕ) (c : Cursor) (head : c ≡ readTo 7 text 0) where
-  pub agreed-none : c .ok ≡ false → false ≡ agreed text
+module _ (w : ℕ) (text : List ℕ) (c : Cursor) (head : c ≡ readTo 7 text 0) where
+  pub agreed-none : c .ok ≡ false → false ≡ agreed w text
   unfolding agreed
   agreed-none e = rw (← head, e)
 
-  pub agreed-told : c .ok ≡ true → (h : List ℕ) → h ≡ numbersFrom 7 text 0
-      → tapesTold text (c .at) (getD h 0 0) (getD h 1 0) (getD h 2 0) (getD h 3 0) (getD h 4 0) (getD h 5 0) (getD h 6 0) ≡ agreed text
-  unfolding agreed
-  agreed-told ok h e = rw (← head, ok, e)
+  module _ (h : List ℕ) (e : h ≡ numbersFrom 7 text 0) where
+    pub agreed-other : (getD h 0 0 ≡ w → ⊥) → false ≡ agreed w text
+    unfolding agreed
+    agreed-other other = rw (← head, ← e, and-false (c .ok) (ne-eqb _ _ other))
+
+    pub agreed-told : c .ok ≡ true → getD h 0 0 ≡ w
+        → tapesTold text (c .at) (getD h 0 0) (getD h 1 0) (getD h 2 0) (getD h 3 0) (getD h 4 0) (getD h 5 0) (getD h 6 0) ≡ agreed w text
+    unfolding agreed
+    agreed-told ok same = rw (← head, ← e, ok, eq-eqb _ _ same)

@@ -1,5 +1,5 @@
 -- What a text must say of a job: its numbers are the job's, then all that both boxes send, then their answer shares.
-use Prim.Native.Nat.{ℕ, zero, suc}
+use Prim.Native.Nat.{ℕ, zero, suc, _+_, _/_, _%_}
 use mathlib.Core.Path.{_≡_}
 use mathlib.Core.Bool.{Bool, true, _&&_}
 use mathlib.Core.List.{List, [], _∷_, _++_}
@@ -54,14 +54,18 @@ tapesTold text from n pair number x1 y1 x2 y2 =
     let t2 = numbersFrom (tapeLength n) text (first .at) in
     listed n && first .ok && second .ok && jobTold text (second .at) n pair number x1 y1 x2 y2 t1 t2
 
--- a text has n, pair and tape number, the shares x1 y1 x2 y2, both tapes, both messages of each round, both answer shares
-unfoldable pub agreed : List ℕ → Bool
-agreed text =
+-- a text of width w has n, pair and tape number, the shares x1 y1 x2 y2, both tapes, both messages of each round, both answer shares
+unfoldable pub agreed : ℕ → List ℕ → Bool
+agreed w text =
     let head = readTo 7 text 0 in
     let h = numbersFrom 7 text 0 in
-    head .ok && tapesTold text (head .at) (getD h 0 0) (getD h 1 0) (getD h 2 0) (getD h 3 0) (getD h 4 0) (getD h 5 0) (getD h 6 0)
+    head .ok && eqb (getD h 0 0) w && tapesTold text (head .at) (getD h 0 0) (getD h 1 0) (getD h 2 0) (getD h 3 0) (getD h 4 0) (getD h 5 0) (getD h 6 0)
 
--- there is a text that agrees
-pub record Agreeing : Type 0 where
+-- there is a text of width w that agrees
+pub record Agreeing (w : ℕ) : Type 0 where
   pub text : List ℕ
-  pub agrees : agreed text ≡ true
+  pub agrees : agreed w text ≡ true
+
+-- the bytes of job-WW-K.txt, where WW is w in two digits
+abbrev pub nameOf : ℕ → ℕ → List ℕ
+nameOf w k = 106 ∷ 111 ∷ 98 ∷ 45 ∷ (48 + w / 10 % 10) ∷ (48 + w % 10) ∷ 45 ∷ (48 + k % 10) ∷ 46 ∷ 116 ∷ 120 ∷ 116 ∷ []

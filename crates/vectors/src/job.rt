@@ -15,21 +15,40 @@ ghost use Rattle.exchange.specs.Opening.{shareOf};
 ghost use Rattle.exchange.specs.Boxes.{heardAfter, works};
 ghost use Rattle.vectors.specs.Numbers.{spelled};
 ghost use Rattle.vectors.specs.Due.{Due};
-ghost use Rattle.vectors.specs.Job.{messages, transcript, blankWork, unusedTally, jobTold, tapesTold, agreed, Agreeing};
+ghost use Rattle.vectors.specs.Job.{messages, transcript, blankWork, unusedTally, jobTold, tapesTold, agreed, Agreeing, nameOf};
 
-// How many of a width's jobs agree. The files' names are job-WW-K.txt.
-pub fn agreed_of(w: u64, count: u8) -> u64
+// The file of a width's job: job-WW-K.txt.
+fn name_of(w: u32, k: u8) -> [u8; 12]
+    ensures { λ r. ⌜ (length r ≡ 12) × (r ≡ nameOf w k) ⌝ }
+{
+    let tens = 48 + ((w / 10) % 10) as u8;
+    let ones = 48 + (w % 10) as u8;
+    [
+        106,
+        111,
+        98,
+        45,
+        tens,
+        ones,
+        45,
+        48 + k % 10,
+        46,
+        116,
+        120,
+        116,
+    ]
+}
+
+// How many of a width's jobs agree.
+pub fn agreed_of(w: u32, count: u8) -> u64
     ensures { λ r. ⌜ r ≤ count ⌝ }
 {
-    let mut name = [106u8, 111, 98, 45, 48, 48, 45, 49, 46, 116, 120, 116];
-    name[4] = 48 + ((w / 10) % 10) as u8;
-    name[5] = 48 + (w % 10) as u8;
     let mut agreed: u64 = 0;
     let mut k: u8 = 0;
     while k < count {
         k += 1;
-        name[7] = 48 + k % 10;
-        if agrees(&name) {
+        let name = name_of(w, k);
+        if agrees(&name, w) {
             agreed += 1;
         }
     }
@@ -38,8 +57,8 @@ pub fn agreed_of(w: u64, count: u8) -> u64
 
 // Whether the file is there and every word of its job is as the boxes give it. Which text was read cannot be said; true is
 // answered only of one that agrees.
-fn agrees(name: &[u8]) -> bool
-    ensures { λ r. ⌜ (r ≡ true → Agreeing) ⌝ }
+fn agrees(name: &[u8], w: u32) -> bool
+    ensures { λ r. ⌜ (r ≡ true → Agreeing w) ⌝ }
 {
     let fd = os::open_read(name);
     if fd < 0 {
@@ -48,7 +67,7 @@ fn agrees(name: &[u8]) -> bool
     let mut text = [0u8; 262144];
     let len = io::read_full(fd, &mut text);
     libc::close(fd);
-    run(&text[..len])
+    run(&text[..len], w)
 }
 
 // Zeros for the longest tape.
@@ -58,13 +77,17 @@ fn blank_tape() -> [u32; 9052]
     [0; 9052]
 }
 
-// A text has n, pair and tape number, the shares x1 y1 x2 y2, both tapes, both messages of each round, both answer shares.
-fn run(text: &[u8]) -> bool
-    ensures { λ r. ⌜ r ≡ agreed (now (text .entry)) ⌝ }
+// A text has n, which is the width asked for, pair and tape number, the shares x1 y1 x2 y2, both tapes, both messages of each
+// round, both answer shares.
+fn run(text: &[u8], w: u32) -> bool
+    ensures { λ r. ⌜ r ≡ agreed w (now (text .entry)) ⌝ }
 {
     let mut head = [0u32; 7];
     let c = crate::numbers::fill(text, 0, &mut head);
     if !c.ok {
+        return false;
+    }
+    if head[0] != w {
         return false;
     }
     let one = Shares {

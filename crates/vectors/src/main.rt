@@ -2,10 +2,10 @@
 mod job;
 mod numbers;
 
-fn run_width(w: u64, count: u8) {
+fn run_width(w: u32, count: u8) {
     let agreed = job::agreed_of(w, count);
     io::write_all(1, b"width ");
-    io::print_decimal(1, w);
+    io::print_decimal(1, w as u64);
     io::write_all(1, b": ");
     io::print_decimal(1, agreed);
     io::write_all(1, b" of ");

@@ -1,12 +1,20 @@
 -- `vectors::job::run` meets its contract: the seven numbers at the front are read, and the rest is told by them.
-use mathlib.Core.Path.{_∙_}
-use borrow.Author.Needs.{needs}
+use mathlib.Core.Path.{_≡_, _∙_}
 use borrow.Author.Tests.{not-true, not-false}
 use lib.ListN.{replicate}
+use Rattle.vectors.specs.Numbers.{numbersFrom}
 use Rattle.vectors.proofs.Readings.{filled}
-use Rattle.vectors.proofs.Jobs.{agreed-none, agreed-told}
+use Rattle.vectors.proofs.Jobs.{agreed-none, agreed-other, agreed-told}
+use borrow.Author.Needs.{needs}
 use Rattle.vectors.proofs.job.run.Statement.{statement}
 use Rattle.vectors.proofs.job.run.Tie as tie
+
+-- the seven numbers
+front : (e : tie.Else1) → let f = e .before .before .before in f .fill .last .1 .1 .0 ≡ numbersFrom 7 (f .before .before .before .args .text .now) 0
+front e =
+    let f = e .before .before .before in
+    let v = f .before .before .before .args in
+    f .fill .ensures .1 ∙ filled (v .text .now) 0 (replicate 7 0) (f .fill .result) (f .fill .ensures .0) (not-false (f .fill .result .ok) (e .if1 .left))
 
 slice-aggregate-fill : tie.Need-slice-aggregate-fill
 slice-aggregate-fill c = search needs
@@ -18,7 +26,17 @@ returns : tie.Need-returns
 returns c =
     let f = c .before .before .before in
     let v = f .before .before .before .args in
-    agreed-none (v .text .now) (f .fill .result) (f .fill .ensures .0) (not-true _ (c .if1 .taken))
+    agreed-none (v .w) (v .text .now) (f .fill .result) (f .fill .ensures .0) (not-true _ (c .if1 .taken))
+
+array-read-if2 : tie.Need-array-read-if2
+array-read-if2 c = search needs
+
+returns-2 : tie.Need-returns-2
+returns-2 c =
+    let e = c .before in
+    let f = e .before .before .before in
+    let v = f .before .before .before .args in
+    agreed-other (v .w) (v .text .now) (f .fill .result) (f .fill .ensures .0) _ (front e) (c .if2 .taken)
 
 array-read-on-tapes : tie.Need-array-read-on-tapes
 array-read-on-tapes c = search needs
@@ -44,14 +62,14 @@ array-read-on-tapes-7 c = search needs
 on-tapes-requires : tie.Need-on-tapes-requires
 on-tapes-requires c κs = search needs
 
-returns-2 : tie.Need-returns-2
-returns-2 c =
-    let e = c .before in
+returns-3 : tie.Need-returns-3
+returns-3 c =
+    let d = c .before in
+    let e = d .before in
     let f = e .before .before .before in
     let v = f .before .before .before .args in
     let ok = not-false (f .fill .result .ok) (e .if1 .left) in
-    let head = f .fill .ensures .1 ∙ filled (v .text .now) 0 (replicate 7 0) (f .fill .result) (f .fill .ensures .0) ok in
-    c .on-tapes .ensures ∙ agreed-told (v .text .now) (f .fill .result) (f .fill .ensures .0) ok _ head
+    c .on-tapes .ensures ∙ agreed-told (v .w) (v .text .now) (f .fill .result) (f .fill .ensures .0) _ (front e) ok (d .if2 .left)
 
 pub run-spec : {M : Type 1} → statement M
 run-spec =
@@ -60,6 +78,8 @@ run-spec =
     slice-aggregate-fill
     fill-requires
     returns
+    array-read-if2
+    returns-2
     array-read-on-tapes
     array-read-on-tapes-2
     array-read-on-tapes-3
@@ -68,4 +88,4 @@ run-spec =
     array-read-on-tapes-6
     array-read-on-tapes-7
     on-tapes-requires
-    returns-2)
+    returns-3)
