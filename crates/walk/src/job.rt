@@ -1,14 +1,16 @@
 // One whole job of both boxes: x = 5 + 5 = 3 and y = 1 + 3 = 4 modulo 7.
 use crate::bench;
+use crate::bench::Pair;
 use crate::say::number;
 use crate::say::text;
 use rules::state::Answer;
 ghost use mathlib.Core.Path.{_≡_};
 ghost use Prim.Native.Nat.{_+_, _%_, _<_};
 
-// What a box answers at each step.
-fn answer_at(side: u32, step: u32) -> Answer {
-    let pair = bench::reached(step);
+// What that box answered last.
+fn answer_of(pair: Pair, side: u32) -> Answer
+    ensures { λ r. ⌜ (side ≡ 1 → r ≡ pair .one .answer) × ((side ≡ 1 → ⊥) → r ≡ pair .two .answer) ⌝ }
+{
     let one = pair.one;
     let two = pair.two;
     if side == 1 {
@@ -17,13 +19,14 @@ fn answer_at(side: u32, step: u32) -> Answer {
     two.answer
 }
 
+// What a box answers at each step.
 fn answers(side: u32) {
     number(b"box ", side);
     text(b":");
     let mut step = 0;
     while step <= bench::LAST {
         text(b" ");
-        crate::say::answer(answer_at(side, step));
+        crate::say::answer(answer_of(bench::reached(step), side));
         step += 1;
     }
     text(b"\n");
@@ -63,8 +66,9 @@ pub fn lines() {
     openings(4);
     openings(5);
     openings(6);
-    let a = exchange::share_of(answer_at(1, bench::LAST));
-    let b = exchange::share_of(answer_at(2, bench::LAST));
+    let last = bench::reached(bench::LAST);
+    let a = exchange::share_of(answer_of(last, 1));
+    let b = exchange::share_of(answer_of(last, 2));
     number(b"less ", opened(a, b));
     text(b"\n");
 }
