@@ -1,5 +1,5 @@
 -- Where everything stands on a tape (document 01, "The tape"): a body of three sections, then a trailer of seven words.
-use Prim.Native.Nat.{ℕ, zero, suc, _+_, _*_}
+use Prim.Native.Nat.{ℕ, zero, suc, _+_, _-_, _*_}
 use mathlib.Core.List.{List, [], _∷_}
 use lib.ListN.{take, drop}
 
@@ -32,21 +32,17 @@ section n which tape = take (sectionLength n which) (drop (sectionStart n which)
 abbrev pub trailerLength : ℕ
 trailerLength = 7
 
+-- the body's words: those before the section after the last, 9n² + 12n + 24
 abbrev pub bodyLength : ℕ → ℕ
-bodyLength n = 9 * (n * n) + 12 * n + 24
+bodyLength n = sectionStart n 3
 
+-- 9n² + 12n + 31
 abbrev pub tapeLength : ℕ → ℕ
-tapeLength n = 9 * (n * n) + 12 * n + 31
+tapeLength n = bodyLength n + trailerLength
 
--- the distances back from the trailer's first word to the squares, the powers and the triples
-abbrev pub squaresBack : ℕ → ℕ
-squaresBack n = 9 * (n * n) + 12 * n + 24
-
-abbrev pub powersBack : ℕ → ℕ
-powersBack n = 3 * (n * n) + 12 * n + 24
-
-abbrev pub triplesBack : ℕ → ℕ
-triplesBack n = 9 * n + 24
+-- the distance back from the trailer's first word to a section
+abbrev pub distanceBack : ℕ → ℕ → ℕ
+distanceBack n which = bodyLength n - sectionStart n which
 
 abbrev pub trailer : ℕ → ℕ → ℕ → ℕ → List ℕ
-trailer n pair side number = squaresBack n ∷ powersBack n ∷ triplesBack n ∷ pair ∷ side ∷ number ∷ n ∷ []
+trailer n pair side number = distanceBack n 0 ∷ distanceBack n 1 ∷ distanceBack n 2 ∷ pair ∷ side ∷ number ∷ n ∷ []

@@ -1,10 +1,10 @@
 // The one-time tape: where its sections stand, whether a lent tape is in order, and its sections as parts of it.
 ghost use mathlib.Core.Path.{_≡_};
 ghost use mathlib.Core.Bool.{true};
-ghost use Prim.Native.Nat.{_<_};
+ghost use Prim.Native.Nat.{_<_, _≤_};
 ghost use lib.ListN.{length};
 ghost use Rattle.field.specs.Width.{listed};
-ghost use Rattle.tape.specs.Layout.{sectionLength, sectionStart, section, tapeLength, trailer};
+ghost use Rattle.tape.specs.Layout.{sectionLength, sectionStart, section, tapeLength, distanceBack, trailer};
 ghost use Rattle.tape.specs.Order.{inOrder, trailerFits, bodyInRange, Readable};
 
 pub const SQUARES: usize = 0;
@@ -12,6 +12,9 @@ pub const SQUARES: usize = 0;
 pub const POWERS: usize = 1;
 
 pub const TRIPLES: usize = 2;
+
+// How many sections there are.
+const SECTIONS: usize = 3;
 
 const TRAILER: usize = 7;
 
@@ -28,13 +31,33 @@ pub fn section_words(n: u32, which: usize) -> usize
     }
 }
 
+// The words before a section; before section 3, all of the body.
+pub fn section_start(n: u32, which: usize) -> usize
+    requires { ⌜ (listed n ≡ true) × (which ≤ 3) ⌝ }
+    ensures { λ r. ⌜ r ≡ sectionStart n which ⌝ }
+{
+    match which {
+        0 => 0,
+        1 => section_words(n, SQUARES),
+        2 => section_words(n, SQUARES) + section_words(n, POWERS),
+        _ => section_words(n, SQUARES) + section_words(n, POWERS) + section_words(n, TRIPLES),
+    }
+}
+
 // The words of a tape.
 pub fn tape_words(n: u32) -> usize
     requires { ⌜ listed n ≡ true ⌝ }
     ensures { λ r. ⌜ r ≡ tapeLength n ⌝ }
 {
-    let m = n as usize;
-    9 * (m * m) + 12 * m + 31
+    section_start(n, SECTIONS) + TRAILER
+}
+
+// The distance back from the trailer's first word to a section.
+fn distance_back(n: u32, which: usize) -> u32
+    requires { ⌜ (listed n ≡ true) × (which < 3) ⌝ }
+    ensures { λ r. ⌜ r ≡ distanceBack n which ⌝ }
+{
+    (section_start(n, SECTIONS) - section_start(n, which)) as u32
 }
 
 // The seven words after the body: the distances back to the sections, then whose tape it is.
@@ -43,9 +66,9 @@ pub fn trailer_of(n: u32, pair: u32, side: u32, number: u32) -> [u32; 7]
     ensures { λ r. ⌜ r ≡ trailer n pair side number ⌝ }
 {
     [
-        9 * (n * n) + 12 * n + 24,
-        3 * (n * n) + 12 * n + 24,
-        9 * n + 24,
+        distance_back(n, SQUARES),
+        distance_back(n, POWERS),
+        distance_back(n, TRIPLES),
         pair,
         side,
         number,
@@ -78,7 +101,7 @@ fn body_in_range(tape: &[u32], n: u32) -> bool
     let p = field::modulus_of(n);
     let mut which = 0;
     let mut i = 0;
-    'sections: while which < 3 {
+    'sections: while which < SECTIONS {
         let end = i + section_words(n, which);
         while i < end {
             if p <= tape[i] {
@@ -88,7 +111,7 @@ fn body_in_range(tape: &[u32], n: u32) -> bool
         }
         which += 1;
     }
-    which == 3
+    which == SECTIONS
 }
 
 // Whether the tape is in order for this width, pair, side and number.
