@@ -1,4 +1,5 @@
--- A box's shares before and after, and the values in the clear that each product opens under them.
+-- A device of the proof that one exchange gives nothing away; it stands here so that a wrong map can be tried, and nobody need believe it: a
+-- box's shares, and the values in the clear that each product opens under them.
 use Prim.Native.Nat.{ℕ, _+_, _-_, _*_, _%_}
 use mathlib.Core.Bool.{cond}
 use mathlib.Core.List.{List, [], _∷_}

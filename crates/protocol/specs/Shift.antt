@@ -1,5 +1,6 @@
--- The map from a box's tape for one pair of shares to its tape for another, the other box's tape being fixed. Each mask moves with the
--- value that it hides, each word that follows from an equation is made anew.
+-- A device of the proof that one exchange gives nothing away; it stands here so that a wrong map can be tried, and nobody need believe it: the
+-- map from a box's tape for one pair of shares to its tape for another, the other box's tape being fixed. Each mask moves with the value
+-- that it hides, each word that follows from an equation is made anew.
 use Prim.Native.Nat.{ℕ, _+_, _*_, _/_, _%_, _^_}
 use mathlib.Core.Bool.{cond}
 use mathlib.Core.List.{List, [], _∷_, _++_}

@@ -1,12 +1,12 @@
 -- A tape is in order for one width, pair, side and number only; so tapes in order for the same ones pass or fail any test of order alike.
-use Prim.Native.Nat.{ℕ, zero, suc, _+_, _*_, _<_}
+use Prim.Native.Nat.{ℕ, _+_, _<_}
 use mathlib.Core.Path.{_≡_, refl, sym, ap, _∙_}
 use mathlib.Core.Bool.{Bool, true, false, true≢false}
 use mathlib.Core.List.{List}
 use native.Mathlib.Omega.{arith}
-use lib.ListN.{length, getD}
+use lib.ListN.{getD}
 use Rattle.tape.specs.Layout.{bodyLength, tapeLength, trailer}
-use Rattle.tape.specs.Order.{inOrder, Readable}
+use Rattle.tape.specs.Order.{inOrder}
 use Rattle.tape.proofs.Orders.{order-trailer, readable}
 
 pub record SameKey (n pair side number n′ pair′ side′ number′ : ℕ) : Type 0 where

@@ -1,15 +1,13 @@
 -- The places of the dealt letters: each letter of a count lies in its section, is the tape's word there, and is below p.
 use Prim.Native.Nat.{ℕ, _+_, _*_, _<_, _≤_}
-use mathlib.Core.Path.{_≡_}
 use mathlib.Core.List.{List}
-use native.Mathlib.Nat.{zero-add, mul-le-mul-right}
+use native.Mathlib.Nat.{mul-le-mul-right}
 use native.Mathlib.Omega.{arith}
-use lib.ListN.{getD}
 use Rattle.field.specs.Width.{modulus}
-use Rattle.tape.specs.Layout.{squareCount, groupCount, tripleCount, sectionLength, sectionStart, section}
+use Rattle.tape.specs.Layout.{squareCount, groupCount, tripleCount, sectionLength, section}
 use Rattle.tape.specs.Order.{Readable}
 use Rattle.tape.specs.Letters.{squareMask, squareValue, groupInverse, groupPower, tripleLeft, tripleRight, tripleProduct}
-use Rattle.tape.proofs.Sections.{section-at, section-below}
+use Rattle.tape.proofs.Sections.{section-below}
 
 -- ---- the places
 
@@ -33,35 +31,6 @@ group-place n g k l most = row-place (groupCount n) (n + 1) g k l (omega arith)
 
 pub triple-place : (n i : ℕ) → i < tripleCount n → i * 3 + 2 < sectionLength n 2
 triple-place n i l = omega arith
-
--- ---- the letters are the tape's words
-
-module _ (n : ℕ) (tape : List ℕ) where
-  pub square-mask-at : (i : ℕ) → i < squareCount n → squareMask (section n 0 tape) i ≡ getD tape (i * 2) 0
-  square-mask-at i l = rw zero-add at (section-at n 0 tape (i * 2) (omega arith))
-
-  pub square-value-at : (i : ℕ) → i < squareCount n → squareValue (section n 0 tape) i ≡ getD tape (i * 2 + 1) 0
-  square-value-at i l = rw zero-add at (section-at n 0 tape (i * 2 + 1) (square-place n i l))
-
-  pub group-power-at : (g k : ℕ) → g < groupCount n → k ≤ n
-      → groupPower n (section n 1 tape) g k ≡ getD tape (sectionStart n 1 + (g * (n + 1) + k)) 0
-  group-power-at g k l most = section-at n 1 tape (g * (n + 1) + k) (group-place n g k l most)
-
-  pub group-inverse-at : (g : ℕ) → g < groupCount n
-      → groupInverse n (section n 1 tape) g ≡ getD tape (sectionStart n 1 + g * (n + 1)) 0
-  group-inverse-at g l = section-at n 1 tape (g * (n + 1)) (omega (arith, group-place n g 0 l (omega arith)))
-
-  pub triple-left-at : (i : ℕ) → i < tripleCount n
-      → tripleLeft (section n 2 tape) i ≡ getD tape (sectionStart n 2 + i * 3) 0
-  triple-left-at i l = section-at n 2 tape (i * 3) (omega arith)
-
-  pub triple-right-at : (i : ℕ) → i < tripleCount n
-      → tripleRight (section n 2 tape) i ≡ getD tape (sectionStart n 2 + (i * 3 + 1)) 0
-  triple-right-at i l = section-at n 2 tape (i * 3 + 1) (omega arith)
-
-  pub triple-product-at : (i : ℕ) → i < tripleCount n
-      → tripleProduct (section n 2 tape) i ≡ getD tape (sectionStart n 2 + (i * 3 + 2)) 0
-  triple-product-at i l = section-at n 2 tape (i * 3 + 2) (triple-place n i l)
 
 -- ---- the letters are below p
 
