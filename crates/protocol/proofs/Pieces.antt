@@ -1,10 +1,9 @@
 -- The shifted tape by its letters: each is the new word, and the trailer is the old one.
-use Prim.Native.Nat.{ℕ, zero, suc, _+_, _-_, _*_, _/_, _%_, _<_, _≤_}
+use Prim.Native.Nat.{ℕ, zero, suc, _+_, _-_, _*_, _%_, _<_, _≤_}
 use mathlib.Core.Path.{_≡_, sym, ap, ap₂, _∙_}
 use mathlib.Core.Bool.{Bool, true, false, cond}
 use mathlib.Core.List.{List, [], _∷_, _++_, append-assoc}
 use mathlib.Core.Logic.{_⊎_, inl, inr}
-use native.Mathlib.Nat.{mul-mod-left, mul-div-cancel}
 use native.Mathlib.Omega.{arith}
 use lib.Arith.{digits-div, digits-mod}
 use borrow.Author.Tests.{ne-eqb}
@@ -21,7 +20,7 @@ use Rattle.tape.proofs.Letters.{square-place, group-place, triple-place}
 use Rattle.encoding.specs.Matching.{indicator}
 use Rattle.protocol.proofs.Halves.{less-cases}
 use Rattle.protocol.specs.Change.{Shares}
-use Rattle.protocol.specs.Shift.{newMask, newValue, newInverse, newPower, newLeft, newRight, newProduct, squareWords, powerWords, tripleWords, shifted}
+use Rattle.protocol.specs.Shift.{newMask, newValue, newInverse, newPower, newLeft, newRight, newProduct, byRow, squareRow, powerRow, tripleRow, shifted}
 use Rattle.protocol.proofs.Moves.{moved-below}
 
 module _ (s s′ : Shares) (own others : List ℕ) where
@@ -29,13 +28,13 @@ module _ (s s′ : Shares) (own others : List ℕ) where
   n = s .n
 
   abbrev S : List ℕ
-  S = tabulate (sectionLength n 0) (squareWords s s′ own others)
+  S = tabulate (sectionLength n 0) (byRow 2 (squareRow s s′ own others))
 
   abbrev P : List ℕ
-  P = tabulate (sectionLength n 1) (powerWords s s′ own others)
+  P = tabulate (sectionLength n 1) (byRow (n + 1) (powerRow s s′ own others))
 
   abbrev Q : List ℕ
-  Q = tabulate (sectionLength n 2) (tripleWords s s′ own others)
+  Q = tabulate (sectionLength n 2) (byRow 3 (tripleRow s s′ own others))
 
   abbrev R : List ℕ
   R = drop (bodyLength n) own
@@ -67,7 +66,7 @@ module _ (s s′ : Shares) (own others : List ℕ) where
   body-length =
       length-append S (P ++ Q)
       ∙ ap (λ (k : ℕ). length S + k) (length-append P Q)
-      ∙ omega (arith, length-tabulate (sectionLength n 0) (squareWords s s′ own others), length-tabulate (sectionLength n 1) (powerWords s s′ own others), length-tabulate (sectionLength n 2) (tripleWords s s′ own others))
+      ∙ omega (arith, length-tabulate (sectionLength n 0) (byRow 2 (squareRow s s′ own others)), length-tabulate (sectionLength n 1) (byRow (n + 1) (powerRow s s′ own others)), length-tabulate (sectionLength n 2) (byRow 3 (tripleRow s s′ own others)))
 
   body-first : shifted s s′ own others ≡ (S ++ (P ++ Q)) ++ R
   unfolding shifted
@@ -92,63 +91,40 @@ module _ (s s′ : Shares) (own others : List ℕ) where
 
   -- ---- the letters
 
+  -- word k of row i
+  row-word : (which stride : ℕ) (row : ℕ → ℕ → ℕ) → section n which (shifted s s′ own others) ≡ tabulate (sectionLength n which) (byRow stride row)
+      → (i k at : ℕ) → at ≡ i * stride + k → k < stride → at < sectionLength n which
+      → getD (section n which (shifted s s′ own others)) at 0 ≡ row i k
+  row-word which stride row made i k at e few inside =
+      ap (λ (l : List ℕ). getD l at 0) made
+      ∙ getD-tabulate (sectionLength n which) (byRow stride row) at 0 inside
+      ∙ rw (e, digits-mod i few, digits-div i few)
+
   pub new-mask : (j : ℕ) → j < squareCount n → squareMask (section n 0 (shifted s s′ own others)) j ≡ newMask s s′ own others j
-  new-mask j less =
-      let even : j * 2 % 2 ≡ 0 = omega arith in
-      let place : j * 2 / 2 ≡ j = omega arith in
-      ap (λ (l : List ℕ). getD l (j * 2) 0) section-0
-      ∙ getD-tabulate (sectionLength n 0) (squareWords s s′ own others) (j * 2) 0 (omega (arith, square-place n j less))
-      ∙ rw (even, place)
+  new-mask j less = row-word 0 2 (squareRow s s′ own others) section-0 j 0 (j * 2) (omega arith) (omega arith) (omega (arith, square-place n j less))
 
   pub new-value : (j : ℕ) → j < squareCount n → squareValue (section n 0 (shifted s s′ own others)) j ≡ newValue s s′ own others j
-  new-value j less =
-      let odd : (j * 2 + 1) % 2 ≡ 1 = omega arith in
-      let place : (j * 2 + 1) / 2 ≡ j = omega arith in
-      ap (λ (l : List ℕ). getD l (j * 2 + 1) 0) section-0
-      ∙ getD-tabulate (sectionLength n 0) (squareWords s s′ own others) (j * 2 + 1) 0 (square-place n j less)
-      ∙ rw (odd, place)
+  new-value j less = row-word 0 2 (squareRow s s′ own others) section-0 j 1 (j * 2 + 1) (omega arith) (omega arith) (square-place n j less)
 
   pub new-inverse : (g : ℕ) → g < groupCount n → groupInverse n (section n 1 (shifted s s′ own others)) g ≡ newInverse s s′ own others g
   new-inverse g less =
-      ap (λ (l : List ℕ). getD l (g * (n + 1)) 0) section-1
-      ∙ getD-tabulate (sectionLength n 1) (powerWords s s′ own others) (g * (n + 1)) 0 (omega (arith, group-place n g 0 less (omega arith)))
-      ∙ rw (mul-mod-left g (n + 1), mul-div-cancel g (pos n))
-    where
-      pos : (n : ℕ) → 0 < n + 1
-      pos n = omega arith
+      row-word 1 (n + 1) (powerRow s s′ own others) section-1 g 0 (g * (n + 1)) (omega arith) (omega arith)
+      (omega (arith, group-place n g 0 less (omega arith)))
 
   pub new-power : (g k : ℕ) → g < groupCount n → 1 ≤ k → k ≤ n
       → groupPower n (section n 1 (shifted s s′ own others)) g k ≡ newPower s s′ own others g k
   new-power g k less low high =
-      let few : k < n + 1 = omega arith in
-      let some : k ≡ 0 → ⊥ = λ e. omega arith in
-      ap (λ (l : List ℕ). getD l (g * (n + 1) + k) 0) section-1
-      ∙ getD-tabulate (sectionLength n 1) (powerWords s s′ own others) (g * (n + 1) + k) 0 (group-place n g k less high)
-      ∙ rw (digits-mod g few, digits-div g few, ne-eqb k 0 some)
+      row-word 1 (n + 1) (powerRow s s′ own others) section-1 g k (g * (n + 1) + k) (omega arith) (omega arith) (group-place n g k less high)
+      ∙ rw (ne-eqb k 0 (λ e. omega arith))
 
   pub new-left : (i : ℕ) → i < tripleCount n → tripleLeft (section n 2 (shifted s s′ own others)) i ≡ newLeft s s′ own others i
-  new-left i less =
-      let at : i * 3 % 3 ≡ 0 = omega arith in
-      let place : i * 3 / 3 ≡ i = omega arith in
-      ap (λ (l : List ℕ). getD l (i * 3) 0) section-2
-      ∙ getD-tabulate (sectionLength n 2) (tripleWords s s′ own others) (i * 3) 0 (omega (arith, triple-place n i less))
-      ∙ rw (at, place)
+  new-left i less = row-word 2 3 (tripleRow s s′ own others) section-2 i 0 (i * 3) (omega arith) (omega arith) (omega (arith, triple-place n i less))
 
   pub new-right : (i : ℕ) → i < tripleCount n → tripleRight (section n 2 (shifted s s′ own others)) i ≡ newRight s s′ own others i
-  new-right i less =
-      let at : (i * 3 + 1) % 3 ≡ 1 = omega arith in
-      let place : (i * 3 + 1) / 3 ≡ i = omega arith in
-      ap (λ (l : List ℕ). getD l (i * 3 + 1) 0) section-2
-      ∙ getD-tabulate (sectionLength n 2) (tripleWords s s′ own others) (i * 3 + 1) 0 (omega (arith, triple-place n i less))
-      ∙ rw (at, place)
+  new-right i less = row-word 2 3 (tripleRow s s′ own others) section-2 i 1 (i * 3 + 1) (omega arith) (omega arith) (omega (arith, triple-place n i less))
 
   pub new-product : (i : ℕ) → i < tripleCount n → tripleProduct (section n 2 (shifted s s′ own others)) i ≡ newProduct s s′ own others i
-  new-product i less =
-      let at : (i * 3 + 2) % 3 ≡ 2 = omega arith in
-      let place : (i * 3 + 2) / 3 ≡ i = omega arith in
-      ap (λ (l : List ℕ). getD l (i * 3 + 2) 0) section-2
-      ∙ getD-tabulate (sectionLength n 2) (tripleWords s s′ own others) (i * 3 + 2) 0 (triple-place n i less)
-      ∙ rw (at, place)
+  new-product i less = row-word 2 3 (tripleRow s s′ own others) section-2 i 2 (i * 3 + 2) (omega arith) (omega arith) (triple-place n i less)
 
   -- ---- every word of the body is below p
 
@@ -163,15 +139,15 @@ module _ (s s′ : Shares) (own others : List ℕ) where
     three-below (suc (suc zero)) la lb lc = lc
     three-below (suc (suc (suc k))) la lb lc = omega arith
 
-    squares-below : (j : ℕ) → squareWords s s′ own others j < modulus n
+    squares-below : (j : ℕ) → byRow 2 (squareRow s s′ own others) j < modulus n
     unfolding newMask newValue
     squares-below j = choice-below (eqb (j % 2) 0) (moved-below n l _ _ _) (minus-below n _ _ l)
 
-    powers-below : (j : ℕ) → powerWords s s′ own others j < modulus n
+    powers-below : (j : ℕ) → byRow (n + 1) (powerRow s s′ own others) j < modulus n
     unfolding newInverse newPower
     powers-below j = choice-below (eqb (j % (n + 1)) 0) (minus-below n _ _ l) (minus-below n _ _ l)
 
-    triples-below : (j : ℕ) → tripleWords s s′ own others j < modulus n
+    triples-below : (j : ℕ) → byRow 3 (tripleRow s s′ own others) j < modulus n
     unfolding newLeft newRight newProduct
     triples-below j = three-below (j % 3) (moved-below n l _ _ _) (moved-below n l _ _ _) (minus-below n _ _ l)
 
@@ -191,9 +167,9 @@ module _ (s s′ : Shares) (own others : List ℕ) where
     pub shifted-below : (i : ℕ) → i < bodyLength n → getD (shifted s s′ own others) i 0 < modulus n
     unfolding shifted
     shifted-below i less =
-        tabulated-below (sectionLength n 0) (squareWords s s′ own others) (P ++ (Q ++ R)) squares-below i
+        tabulated-below (sectionLength n 0) (byRow 2 (squareRow s s′ own others)) (P ++ (Q ++ R)) squares-below i
         (λ more.
-        tabulated-below (sectionLength n 1) (powerWords s s′ own others) (Q ++ R) powers-below (i - sectionLength n 0)
+        tabulated-below (sectionLength n 1) (byRow (n + 1) (powerRow s s′ own others)) (Q ++ R) powers-below (i - sectionLength n 0)
         (λ more′.
-        tabulated-below (sectionLength n 2) (tripleWords s s′ own others) R triples-below (i - sectionLength n 0 - sectionLength n 1)
+        tabulated-below (sectionLength n 2) (byRow 3 (tripleRow s s′ own others)) R triples-below (i - sectionLength n 0 - sectionLength n 1)
         (λ more″. absurd (omega arith))))

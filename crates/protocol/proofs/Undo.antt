@@ -1,11 +1,11 @@
 -- The map for (s′, s) undoes the map for (s, s′) on tapes dealt by the rules.
 use Prim.Native.Nat.{ℕ, zero, suc, _+_, _*_, _/_, _%_, _<_, _≤_}
 use mathlib.Core.Path.{_≡_, refl, sym, ap, _∙_}
-use mathlib.Core.Bool.{true, cond}
-use mathlib.Core.List.{List, [], _∷_, _++_}
+use mathlib.Core.Bool.{true}
+use mathlib.Core.List.{List, _++_}
 use native.Mathlib.Nat.{le-of-lt, zero-add, div-add-mod', div-lt-iff-lt-mul, mod-lt}
 use native.Mathlib.Omega.{arith}
-use lib.Dec.{eqb, eqb·suc-zero, lit<}
+use lib.Dec.{eqb·suc-zero}
 use lib.ListN.{getD, drop, take-append-drop}
 use lib.Seq.{drop-drop}
 use Rattle.lists.specs.Tabulate.{tabulate}
@@ -21,7 +21,7 @@ use Rattle.tape.proofs.Letters.{square-mask-below, square-value-below, group-in
 use Rattle.tape.proofs.Dealing.{own-readable, others-readable, dealt-square, dealt-triple, dealt-power}
 use Rattle.protocol.proofs.Wraps.{inverseTotal, maskTotal, pow-times}
 use Rattle.protocol.specs.Change.{Shares, sharesOf, squareShareOf, leftValue}
-use Rattle.protocol.specs.Shift.{moved, newMask, newValue, newInverse, newPower, newLeft, newRight, newProduct, squareWords, powerWords, tripleWords, shifted}
+use Rattle.protocol.specs.Shift.{moved, newMask, newValue, newInverse, newPower, newLeft, newRight, newProduct, byRow, squareRow, powerRow, tripleRow, shifted}
 use Rattle.protocol.proofs.Moves.{moved-back}
 use Rattle.protocol.proofs.Pieces.{new-mask, new-inverse, new-power, new-left, new-right, shifted-tail}
 use Rattle.protocol.proofs.Rules.{down, up, units, inverse-total, power-total}
@@ -127,53 +127,29 @@ module _ {n pair number side : ℕ} {own others : List ℕ} (m : Matched n pair 
       → section n which own ≡ tabulate (sectionLength n which) f
   words which less f h = tabulated (section n which own) (sectionLength n which) f (section-length (own-readable m) which less) h
 
-  square-word : (j : ℕ) → j < sectionLength n 0 → getD (section n 0 own) j 0 ≡ squareWords s′ s t others j
-  square-word j less = go (j % 2) refl (mod-lt j (lit< tt))
-    where
-      i : ℕ
-      i = j / 2
+  -- the words of a section that is made of rows, from the words of each row
+  rows : (which stride count : ℕ) (row : ℕ → ℕ → ℕ) → 0 < stride → sectionLength n which ≡ count * stride
+      → ((i k at : ℕ) → at ≡ i * stride + k → i < count → k < stride → getD (section n which own) at 0 ≡ row i k)
+      → (j : ℕ) → j < sectionLength n which → getD (section n which own) j 0 ≡ byRow stride row j
+  rows which stride count row pos long each j less =
+      each (j / stride) (j % stride) j (sym (div-add-mod' j stride)) (div-lt-iff-lt-mul {k = stride} pos .1 (rw (← long) less)) (mod-lt j pos)
 
-      li : j / 2 < squareCount n
-      li = omega arith
+  square-word : (i k at : ℕ) → at ≡ i * 2 + k → i < squareCount n → k < 2 → getD (section n 0 own) at 0 ≡ squareRow s′ s t others i k
+  square-word i zero at e li lk = ap (λ (a : ℕ). getD (section n 0 own) a 0) (omega arith) ∙ sym (mask-back i li)
+  square-word i (suc zero) at e li lk = ap (λ (a : ℕ). getD (section n 0 own) a 0) (omega arith) ∙ sym (value-back i li)
+  square-word i (suc (suc k)) at e li lk = absurd (omega arith)
 
-      go : (k : ℕ) → j % 2 ≡ k → k < 2 → getD (section n 0 own) j 0 ≡ cond (eqb k 0) (newMask s′ s t others i) (newValue s′ s t others i)
-      go zero e lk = ap (λ (a : ℕ). getD (section n 0 own) a 0) (omega arith) ∙ sym (mask-back i li)
-      go (suc zero) e lk = ap (λ (a : ℕ). getD (section n 0 own) a 0) (omega arith) ∙ sym (value-back i li)
-      go (suc (suc k)) e lk = absurd (omega arith)
+  power-word : (g k at : ℕ) → at ≡ g * (n + 1) + k → g < groupCount n → k < n + 1 → getD (section n 1 own) at 0 ≡ powerRow s′ s t others g k
+  power-word g zero at e lg lk = ap (λ (a : ℕ). getD (section n 1 own) a 0) (omega (arith, e)) ∙ sym (inverse-back g lg)
+  power-word g (suc k) at e lg lk =
+      rw (eqb·suc-zero k)
+      (ap (λ (a : ℕ). getD (section n 1 own) a 0) e ∙ sym (power-back g (suc k) lg (omega arith) (omega arith)))
 
-  power-word : (j : ℕ) → j < sectionLength n 1 → getD (section n 1 own) j 0 ≡ powerWords s′ s t others j
-  power-word j less = go (j % (n + 1)) refl (mod-lt j (omega arith))
-    where
-      g : ℕ
-      g = j / (n + 1)
-
-      lg : j / (n + 1) < groupCount n
-      lg = div-lt-iff-lt-mul {k = n + 1} (omega arith) .1 less
-
-      whole : j / (n + 1) * (n + 1) + j % (n + 1) ≡ j
-      whole = div-add-mod' j (n + 1)
-
-      go : (k : ℕ) → j % (n + 1) ≡ k → k < n + 1 → getD (section n 1 own) j 0 ≡ cond (eqb k 0) (newInverse s′ s t others g) (newPower s′ s t others g k)
-      go zero e lk = ap (λ (a : ℕ). getD (section n 1 own) a 0) (omega (arith, whole)) ∙ sym (inverse-back g lg)
-      go (suc k) e lk =
-          rw (eqb·suc-zero k)
-          (ap (λ (a : ℕ). getD (section n 1 own) a 0) (omega (arith, whole)) ∙ sym (power-back g (suc k) lg (omega arith) (omega arith)))
-
-  triple-word : (j : ℕ) → j < sectionLength n 2 → getD (section n 2 own) j 0 ≡ tripleWords s′ s t others j
-  triple-word j less = go (j % 3) refl (mod-lt j (lit< tt))
-    where
-      i : ℕ
-      i = j / 3
-
-      li : j / 3 < tripleCount n
-      li = omega arith
-
-      go : (k : ℕ) → j % 3 ≡ k → k < 3
-          → getD (section n 2 own) j 0 ≡ getD (newLeft s′ s t others i ∷ newRight s′ s t others i ∷ newProduct s′ s t others i ∷ []) k 0
-      go zero e lk = ap (λ (a : ℕ). getD (section n 2 own) a 0) (omega arith) ∙ sym (left-back i li)
-      go (suc zero) e lk = ap (λ (a : ℕ). getD (section n 2 own) a 0) (omega arith) ∙ sym (right-back i li)
-      go (suc (suc zero)) e lk = ap (λ (a : ℕ). getD (section n 2 own) a 0) (omega arith) ∙ sym (product-back i li)
-      go (suc (suc (suc k))) e lk = absurd (omega arith)
+  triple-word : (i k at : ℕ) → at ≡ i * 3 + k → i < tripleCount n → k < 3 → getD (section n 2 own) at 0 ≡ tripleRow s′ s t others i k
+  triple-word i zero at e li lk = ap (λ (a : ℕ). getD (section n 2 own) a 0) (omega arith) ∙ sym (left-back i li)
+  triple-word i (suc zero) at e li lk = ap (λ (a : ℕ). getD (section n 2 own) a 0) (omega arith) ∙ sym (right-back i li)
+  triple-word i (suc (suc zero)) at e li lk = ap (λ (a : ℕ). getD (section n 2 own) a 0) (omega arith) ∙ sym (product-back i li)
+  triple-word i (suc (suc (suc k))) at e li lk = absurd (omega arith)
 
   pub undone : shifted s′ s (shifted s s′ own others) others ≡ own
   unfolding shifted
@@ -181,8 +157,8 @@ module _ {n pair number side : ℕ} {own others : List ℕ} (m : Matched n pair 
       sym
       (pieces n own
       ∙ rw (
-        words 0 (omega arith) (squareWords s′ s t others) square-word,
-        words 1 (omega arith) (powerWords s′ s t others) power-word,
-        words 2 (omega arith) (tripleWords s′ s t others) triple-word,
+        words 0 (omega arith) (byRow 2 (squareRow s′ s t others)) (rows 0 2 (squareCount n) _ (omega arith) refl square-word),
+        words 1 (omega arith) (byRow (n + 1) (powerRow s′ s t others)) (rows 1 (n + 1) (groupCount n) _ (omega arith) refl power-word),
+        words 2 (omega arith) (byRow 3 (tripleRow s′ s t others)) (rows 2 3 (tripleCount n) _ (omega arith) refl triple-word),
         shifted-tail s s′ own others,
       ))

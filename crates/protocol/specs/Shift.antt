@@ -18,6 +18,10 @@ use Rattle.protocol.specs.Change.{Shares, squareShareOf, countOf, leftVa
 unfoldable pub moved : ℕ → ℕ → ℕ → ℕ → ℕ
 moved n a v v′ = (a + minus n v′ v) % modulus n
 
+-- word j of rows of so many words each
+abbrev pub byRow : ℕ → (ℕ → ℕ → ℕ) → ℕ → ℕ
+byRow stride row j = row (j / stride) (j % stride)
+
 -- s are the shares before, s′ those after; `own` is the box's tape and `others` the other box's
 module _ (s s′ : Shares) (own others : List ℕ) where
   abbrev pub width : ℕ
@@ -66,19 +70,19 @@ module _ (s s′ : Shares) (own others : List ℕ) where
 
   -- ---- the tape
 
-  abbrev pub squareWords : ℕ → ℕ
-  squareWords j = cond (eqb (j % 2) 0) (newMask (j / 2)) (newValue (j / 2))
+  abbrev pub squareRow : ℕ → ℕ → ℕ
+  squareRow i k = cond (eqb k 0) (newMask i) (newValue i)
 
-  abbrev pub powerWords : ℕ → ℕ
-  powerWords j = cond (eqb (j % (width + 1)) 0) (newInverse (j / (width + 1))) (newPower (j / (width + 1)) (j % (width + 1)))
+  abbrev pub powerRow : ℕ → ℕ → ℕ
+  powerRow g k = cond (eqb k 0) (newInverse g) (newPower g k)
 
-  abbrev pub tripleWords : ℕ → ℕ
-  tripleWords j = getD (newLeft (j / 3) ∷ newRight (j / 3) ∷ newProduct (j / 3) ∷ []) (j % 3) 0
+  abbrev pub tripleRow : ℕ → ℕ → ℕ
+  tripleRow i k = getD (newLeft i ∷ newRight i ∷ newProduct i ∷ []) k 0
 
   -- the shifted tape; its trailer stays
   unfoldable pub shifted : List ℕ
   shifted =
-      tabulate (sectionLength width 0) squareWords
-      ++ (tabulate (sectionLength width 1) powerWords
-      ++ (tabulate (sectionLength width 2) tripleWords
+      tabulate (sectionLength width 0) (byRow 2 squareRow)
+      ++ (tabulate (sectionLength width 1) (byRow (width + 1) powerRow)
+      ++ (tabulate (sectionLength width 2) (byRow 3 tripleRow)
       ++ drop (bodyLength width) own))
