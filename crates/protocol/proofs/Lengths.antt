@@ -23,9 +23,11 @@ use Rattle.protocol.specs.Rounds.{squareWord, lowProducts, levelProducts
 pub most-words : (n round : ℕ) → listed n ≡ true → roundWords n round ≤ roundWords n 1
 unfolding roundWords
 most-words n round l =
-    let square = mul-le-mul-right n (bounds l .least) in
+    let least : 3 ≤ n = bounds l .least in
+    let square = mul-le-mul-right n least in
     at-each (λ (k : ℕ). k ≤ 3 * (n * n) + 6) (wordTable n) 0
-    (omega arith, (omega (arith, square), (omega (arith, square), (omega arith, (omega arith, (omega arith, tt)))))) (omega arith) round
+    (omega arith, (omega (arith, square), (omega (arith, square), (omega (arith, square), (omega (arith, square), (omega (arith, square), tt))))))
+    (omega arith) round
 
 first-words : (n : ℕ) → roundWords n 1 ≡ 3 * (n * n) + 6
 unfolding roundWords
