@@ -1,8 +1,8 @@
 // Both boxes of a job in one memory, through the five calls: the opening, one round, the whole exchange, and the answer that it opens.
+use refusals::Refusal;
 use rules::state::Answer;
 use rules::state::Outcome;
 use rules::state::Phase;
-use rules::state::Refusal;
 use rules::state::State;
 ghost use mathlib.Core.Path.{_≡_};
 ghost use mathlib.Core.Bool.{true, cond};
@@ -63,7 +63,7 @@ pub fn refusal_of(answer: Answer) -> u32
         Answer::Heard => 0,
         Answer::Share(_) => 0,
         Answer::Dropped => 0,
-        Answer::Refused(refusal) => limit_box::numbers::number_of(refusal),
+        Answer::Refused(refusal) => refusals::number_of(refusal),
     }
 }
 
@@ -260,7 +260,7 @@ fn opened(
 {
     if !has_room(n, &*o1, &*o2) {
         return Verdict {
-            refusal: limit_box::numbers::number_of(Refusal::Room),
+            refusal: refusals::number_of(Refusal::Room),
             less: 0,
         };
     }

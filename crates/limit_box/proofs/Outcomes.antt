@@ -5,7 +5,9 @@ use mathlib.Core.List.{List, _++_}
 use native.Mathlib.Omega.{arith}
 use borrow.Author.Tests.{eq-eqb, ne-eqb}
 use Rattle.protocol.specs.Rounds.{lastRound, afterHearing, answerShare, replyTo}
-use Rattle.rules.specs.Answers.{numberOf}
+use Rattle.refusals.specs.Numbers.{numberOf}
+use Rattle.refusals.proofs.Numbers.{numbered}
+use Rattle.refusals.specs.declared.Refusal.{Refusal}
 use Rattle.rules.specs.Grounds.{Ground, firstOf, hearGround}
 use Rattle.rules.specs.Calls.{Result, outcome, unless, inPhase, partyOf, turned, hearRule}
 use Rattle.rules.proofs.Chains.{first-some}
@@ -14,33 +16,15 @@ use Rattle.rules.specs.declared.state.Phase.the-variants.{Idle}
 use Rattle.rules.specs.declared.state.State.{State}
 use Rattle.rules.specs.declared.state.Outcome.{Outcome}
 use Rattle.rules.specs.declared.state.Answer.the-variants.{Heard, Share as ShareOf, Refused as RefusedWith}
-use Rattle.rules.specs.declared.state.Refusal.{Refusal}
-use Rattle.rules.specs.declared.state.Refusal.the-variants.{Asleep, Width, Side, Tally, Busy, NoJob, Number, Spent, Share, Tape, Turn as TurnOut, Room, Word}
 use Rattle.limit_box.specs.Checks.{groundOf}
 use Rattle.limit_box.specs.declared.checks.Check.{Check}
 use Rattle.limit_box.specs.declared.checks.Check.the-variants.{Passed, Refused}
-
--- a refusal's number is not 0
-numbered : (r : Refusal) → 0 < numberOf r
-numbered Asleep = omega arith
-numbered Width = omega arith
-numbered Side = omega arith
-numbered Tally = omega arith
-numbered Busy = omega arith
-numbered NoJob = omega arith
-numbered Number = omega arith
-numbered Spent = omega arith
-numbered Share = omega arith
-numbered Tape = omega arith
-numbered TurnOut = omega arith
-numbered Room = omega arith
-numbered Word = omega arith
 
 -- ---- the first grounds are checked, others stand behind them
 
 pub refused-first : (check : Check) (refusal : Refusal) (gs hs : List Ground) → check ≡ Refused refusal → groundOf check ≡ firstOf gs
     → numberOf refusal ≡ firstOf (gs ++ hs)
-refused-first check refusal gs hs e told = sym (first-some gs hs (numberOf refusal) (sym told ∙ ap groundOf e) (numbered refusal))
+refused-first check refusal gs hs e told = sym (first-some gs hs (numberOf refusal) (sym told ∙ ap groundOf e) (numbered refusal .0))
 
 pub passed-ground : (check : Check) (ground : ℕ) → check ≡ Passed → groundOf check ≡ ground → ground ≡ 0
 passed-ground check ground e told = sym told ∙ ap groundOf e
@@ -52,7 +36,7 @@ pub refused-outcome : (check : Check) (refusal : Refusal) (ground : ℕ) (s : St
     → outcome r buffer ≡ unless ground s buffer goes
 refused-outcome check refusal ground s buffer goes r e told answer same =
     let number : ground ≡ numberOf refusal = sym told ∙ ap groundOf e in
-    rw (number, ne-eqb (numberOf refusal) 0 (λ zero. omega (arith, zero, numbered refusal)), answer, same) refl
+    rw (number, ne-eqb (numberOf refusal) 0 (λ zero. omega (arith, zero, numbered refusal .0)), answer, same) refl
 
 pub passed-outcome : (check : Check) (ground : ℕ) (s : State) (buffer : List ℕ) (goes : Result) → check ≡ Passed → groundOf check ≡ ground
     → unless ground s buffer goes ≡ goes

@@ -1,6 +1,6 @@
 -- What a call's checks come to: the number of the refusal, or 0 where the call goes on.
 use Prim.Native.Nat.{ℕ}
-use Rattle.rules.specs.Answers.{numberOf}
+use Rattle.refusals.specs.Numbers.{numberOf}
 use Rattle.limit_box.specs.declared.checks.Check.{Check}
 use Rattle.limit_box.specs.declared.checks.Check.the-variants.{Passed, Refused}
 

@@ -1,5 +1,5 @@
 // Each call's grounds of refusal, in document 01's order. A check reads what the call was lent and writes nothing.
-use rules::state::Refusal;
+use refusals::Refusal;
 use rules::state::State;
 use rules::state::Turn;
 ghost use mathlib.Core.Path.{_≡_};

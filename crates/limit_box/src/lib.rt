@@ -1,9 +1,9 @@
 // The box's five calls. Each is the rule of document 01 for it, whatever it is given: a call that is refused changes nothing.
 use crate::checks::Check;
+use refusals::Refusal;
 use rules::state::Answer;
 use rules::state::Outcome;
 use rules::state::Phase;
-use rules::state::Refusal;
 use rules::state::State;
 use rules::state::Turn;
 ghost use mathlib.Core.Path.{_≡_};
@@ -13,7 +13,6 @@ ghost use Rattle.rules.specs.declared.state.Answer.the-variants.{Refused};
 
 mod checks;
 mod modes;
-pub mod numbers;
 mod tally;
 
 // Counts the fresh tapes, and keeps the width, the side, the pair and the tally's length. The tally is lent for reading only, so it cannot

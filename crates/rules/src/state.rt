@@ -1,4 +1,5 @@
 // What a box keeps between calls, beside the buffers that it is lent.
+use refusals::Refusal;
 
 // The call that is due in a job, with its round.
 pub enum Turn {
@@ -24,36 +25,6 @@ pub struct State {
     pub pair: u32,
     pub tally: u32,
     pub phase: Phase,
-}
-
-// Why a call is refused: document 01's number and trade word.
-pub enum Refusal {
-    // 1, asleep
-    Asleep,
-    // 2, width
-    Width,
-    // 3, side
-    Side,
-    // 4, tally
-    Tally,
-    // 5, busy
-    Busy,
-    // 6, no job
-    NoJob,
-    // 7, number
-    Number,
-    // 8, spent
-    Spent,
-    // 9, share
-    Share,
-    // 10, tape
-    Tape,
-    // 11, turn
-    Turn,
-    // 12, room
-    Room,
-    // 13, word
-    Word,
 }
 
 // What a call answers.

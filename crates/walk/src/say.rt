@@ -20,7 +20,7 @@ pub fn answer(answer: Answer) {
         Answer::Heard => text(b"heard"),
         Answer::Share(_) => text(b"share"),
         Answer::Dropped => text(b"dropped"),
-        Answer::Refused(refusal) => number(b"refused ", limit_box::numbers::number_of(refusal)),
+        Answer::Refused(refusal) => number(b"refused ", refusals::number_of(refusal)),
     }
 }
 
