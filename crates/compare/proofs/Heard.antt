@@ -26,84 +26,84 @@ use Rattle.steps.proofs.Groups.{test-of}
 use Rattle.compare.proofs.Closings.{closing-front, closing-one}
 
 -- a group's count depends on its own test's doubled share alone
-count-same : (n side : ℕ) (d e : ℕ → ℕ) (squares heard : List ℕ) (g : ℕ) → d (g / n) ≡ e (g / n)
-    → matchCount n side d squares heard g ≡ matchCount n side e squares heard g
+count-same : (n side : ℕ) (d e : ℕ → ℕ) (squares incoming : List ℕ) (g : ℕ) → d (g / n) ≡ e (g / n)
+    → matchCount n side d squares incoming g ≡ matchCount n side e squares incoming g
 unfolding matchCount
-count-same n side d e squares heard g same =
+count-same n side d e squares incoming g same =
     ap (λ (s : ℕ). (constantShare side 1 + s) % modulus n)
     (sum-same n
-    (λ k. squareClosing n side (bitDifference n side d (g * n + k)) squares heard (g * n + k))
-    (λ k. squareClosing n side (bitDifference n side e (g * n + k)) squares heard (g * n + k))
+    (λ k. squareClosing n side (bitDifference n side d (g * n + k)) squares incoming (g * n + k))
+    (λ k. squareClosing n side (bitDifference n side e (g * n + k)) squares incoming (g * n + k))
     (λ k less.
-    ap (λ (v : ℕ). squareClosing n side v squares heard (g * n + k))
+    ap (λ (v : ℕ). squareClosing n side v squares incoming (g * n + k))
     (group-difference n side d g k less
     ∙ ap (λ (x : ℕ). codeDifference n side (levelCode n side x (g % n)) k) same
     ∙ sym (group-difference n side e g k less))))
 
 -- the share of S as close_low stores it
 abbrev lowStored : ℕ → ℕ → List ℕ → List ℕ → List ℕ → ℕ → ℕ
-lowStored n side low triples heard t =
+lowStored n side low triples incoming t =
     exclusive n (getD low t 0)
-    (closed n side (constantShare side (getD low t 0)) (constantShare (other side) (getD low t 0)) triples (3 * n + t) heard (squareCount n + t * 2))
+    (closed n side (constantShare side (getD low t 0)) (constantShare (other side) (getD low t 0)) triples (3 * n + t) incoming (squareCount n + t * 2))
 
-low-same : (n side x y : ℕ) (tape heard : List ℕ) (t : ℕ) → t < 3
-    → lowStored n side (tabulate 3 (lowBit n x y)) (section n 2 tape) heard t ≡ lowSum (party n side x y tape) heard t
+low-same : (n side x y : ℕ) (tape incoming : List ℕ) (t : ℕ) → t < 3
+    → lowStored n side (tabulate 3 (lowBit n x y)) (section n 2 tape) incoming t ≡ lowSum (party n side x y tape) incoming t
 unfolding lowSum closing lowProducts
-low-same n side x y tape heard t less = rw (getD-tabulate 3 (lowBit n x y) t 0 less)
+low-same n side x y tape incoming t less = rw (getD-tabulate 3 (lowBit n x y) t 0 less)
 
-module _ (n side x y : ℕ) (tape work heard : List ℕ) where
+module _ (n side x y : ℕ) (tape work incoming : List ℕ) where
   pub first-heard : (doubles low squares triples counted stored : List ℕ)
       → 0 < n
       → doubles ≡ tabulate 3 (doubled n x y)
       → low ≡ tabulate 3 (lowBit n x y)
       → squares ≡ section n 0 tape
       → triples ≡ section n 2 tape
-      → counted ≡ sets work 0 (tabulate (groupCount n) (matchCount n side (λ t. getD doubles t 0) squares heard))
-      → stored ≡ sets counted (sumSlot n 0) (tabulate 3 (lowStored n side low triples heard))
-      → stored ≡ afterHearing (party n side x y tape) work 1 heard
+      → counted ≡ sets work 0 (tabulate (groupCount n) (matchCount n side (λ t. getD doubles t 0) squares incoming))
+      → stored ≡ sets counted (sumSlot n 0) (tabulate 3 (lowStored n side low triples incoming))
+      → stored ≡ afterHearing (party n side x y tape) work 1 incoming
   unfolding afterHearing
   first-heard doubles low squares triples counted stored some ed el es et ec e =
       let d : ℕ → ℕ = λ t. getD doubles t 0 in
-      let counts : ℕ → ℕ = matchCount n side (doubled n x y) (section n 0 tape) heard in
+      let counts : ℕ → ℕ = matchCount n side (doubled n x y) (section n 0 tape) incoming in
       let groups =
-      tabulate-same (groupCount n) (matchCount n side d (section n 0 tape) heard) counts
+      tabulate-same (groupCount n) (matchCount n side d (section n 0 tape) incoming) counts
       (λ g less.
-      count-same n side d (doubled n x y) (section n 0 tape) heard g
+      count-same n side d (doubled n x y) (section n 0 tape) incoming g
       (ap (λ (l : List ℕ). getD l (g / n) 0) ed ∙ getD-tabulate 3 (doubled n x y) (g / n) 0 (test-of n g some less))) in
-      let lows = tabulate-same 3 (lowStored n side (tabulate 3 (lowBit n x y)) (section n 2 tape) heard) (lowSum (party n side x y tape) heard) (low-same n side x y tape heard) in
+      let lows = tabulate-same 3 (lowStored n side (tabulate 3 (lowBit n x y)) (section n 2 tape) incoming) (lowSum (party n side x y tape) incoming) (low-same n side x y tape incoming) in
       let firsts =
       ec
-      ∙ ap (λ (l : List ℕ). sets work 0 (tabulate (groupCount n) (matchCount n side d l heard))) es
+      ∙ ap (λ (l : List ℕ). sets work 0 (tabulate (groupCount n) (matchCount n side d l incoming))) es
       ∙ ap (λ (l : List ℕ). sets work 0 l) groups in
       e
-      ∙ ap (λ (l : List ℕ). sets l (sumSlot n 0) (tabulate 3 (lowStored n side low triples heard))) firsts
-      ∙ ap (λ (l : List ℕ). sets (sets work 0 (tabulate (groupCount n) counts)) (sumSlot n 0) (tabulate 3 (lowStored n side l triples heard))) el
-      ∙ ap (λ (l : List ℕ). sets (sets work 0 (tabulate (groupCount n) counts)) (sumSlot n 0) (tabulate 3 (lowStored n side (tabulate 3 (lowBit n x y)) l heard))) et
+      ∙ ap (λ (l : List ℕ). sets l (sumSlot n 0) (tabulate 3 (lowStored n side low triples incoming))) firsts
+      ∙ ap (λ (l : List ℕ). sets (sets work 0 (tabulate (groupCount n) counts)) (sumSlot n 0) (tabulate 3 (lowStored n side l triples incoming))) el
+      ∙ ap (λ (l : List ℕ). sets (sets work 0 (tabulate (groupCount n) counts)) (sumSlot n 0) (tabulate 3 (lowStored n side (tabulate 3 (lowBit n x y)) l incoming))) et
       ∙ ap (λ (l : List ℕ). sets (sets work 0 (tabulate (groupCount n) counts)) (sumSlot n 0) l) lows
 
   pub levels-closed : (powers triples stored : List ℕ)
       → powers ≡ section n 1 tape
       → triples ≡ section n 2 tape
       → stored
-      ≡ sets work 0 (tabulate (groupCount n) (λ g. closed n side (held n work g) (groupInverse n powers g) triples g heard (g * 2)))
-      → stored ≡ afterHearing (party n side x y tape) work 2 heard
+      ≡ sets work 0 (tabulate (groupCount n) (λ g. closed n side (held n work g) (groupInverse n powers g) triples g incoming (g * 2)))
+      → stored ≡ afterHearing (party n side x y tape) work 2 incoming
   unfolding afterHearing levelProducts
   levels-closed powers triples stored ep et e =
       let b = party n side x y tape in
       rw ep at rw et at e
       ∙ ap (λ (l : List ℕ). sets work 0 l)
       (tabulate-same (groupCount n)
-      (λ g. closed n side (held n work g) (groupInverse n (section n 1 tape) g) (section n 2 tape) g heard (g * 2))
-      (closing b (levelProducts b work) heard 0)
-      (λ g less. sym (closing-front b (levelProducts b work) heard g ∙ rw (zero-add g))))
+      (λ g. closed n side (held n work g) (groupInverse n (section n 1 tape) g) (section n 2 tape) g incoming (g * 2))
+      (closing b (levelProducts b work) incoming 0)
+      (λ g less. sym (closing-front b (levelProducts b work) incoming g ∙ rw (zero-add g))))
 
   -- the three wraps, stored one after another
   pub wraps-heard : (powers : List ℕ) (a b c : ℕ)
       → powers ≡ section n 1 tape
-      → a ≡ wrapShare n side powers work heard 0
-      → b ≡ wrapShare n side powers work heard 1
-      → c ≡ wrapShare n side powers work heard 2
-      → set (set (set work (3 * n + 3) a) (3 * n + 4) b) (3 * n + 5) c ≡ afterHearing (party n side x y tape) work 3 heard
+      → a ≡ wrapShare n side powers work incoming 0
+      → b ≡ wrapShare n side powers work incoming 1
+      → c ≡ wrapShare n side powers work incoming 2
+      → set (set (set work (3 * n + 3) a) (3 * n + 4) b) (3 * n + 5) c ≡ afterHearing (party n side x y tape) work 3 incoming
   unfolding afterHearing
   wraps-heard powers a b c ep ea eb ec =
       let second : 3 * n + 4 ≡ suc (3 * n + 3) = omega arith in
@@ -119,8 +119,8 @@ module _ (n side x y : ℕ) (tape work heard : List ℕ) where
       complement n side
       (exclusive n
       ((held n work (sumSlot n t) + held n work (wrapSlot n t)) % modulus n)
-      (closed n side (held n work (sumSlot n t)) (held n work (wrapSlot n t)) triples (3 * n + 3 + t) heard (t * 2)))))
-      → stored ≡ afterHearing (party n side x y tape) work 4 heard
+      (closed n side (held n work (sumSlot n t)) (held n work (wrapSlot n t)) triples (3 * n + 3 + t) incoming (t * 2)))))
+      → stored ≡ afterHearing (party n side x y tape) work 4 incoming
   unfolding afterHearing halfShare wrapProducts
   wraps-closed triples stored et e =
       let b = party n side x y tape in
@@ -131,17 +131,17 @@ module _ (n side x y : ℕ) (tape work heard : List ℕ) where
       (λ t.
       complement n side
       (exclusive n (total t)
-      (closed n side (held n work (sumSlot n t)) (held n work (wrapSlot n t)) (section n 2 tape) (3 * n + 3 + t) heard (t * 2))))
-      (halfShare b work heard)
-      (λ t less. ap (λ (p : ℕ). complement n side (exclusive n (total t) p)) (sym (closing-front b (wrapProducts b work) heard t))))
+      (closed n side (held n work (sumSlot n t)) (held n work (wrapSlot n t)) (section n 2 tape) (3 * n + 3 + t) incoming (t * 2))))
+      (halfShare b work incoming)
+      (λ t less. ap (λ (p : ℕ). complement n side (exclusive n (total t) p)) (sym (closing-front b (wrapProducts b work) incoming t))))
 
   pub both-closed : (triples : List ℕ) (v u m : ℕ)
       → triples ≡ section n 2 tape
       → v ≡ held n work (halfSlot n 0)
       → u ≡ held n work (halfSlot n 1)
-      → m ≡ closed n side v u triples (3 * n + 6) heard 0
-      → set work (3 * n + 9) m ≡ afterHearing (party n side x y tape) work 5 heard
+      → m ≡ closed n side v u triples (3 * n + 6) incoming 0
+      → set work (3 * n + 9) m ≡ afterHearing (party n side x y tape) work 5 incoming
   unfolding afterHearing halfProduct
   both-closed triples v u m et ev eu e =
       let b = party n side x y tape in
-      rw (e, ev, eu, et) (ap (λ (p : ℕ). set work (bothSlot n) p) (sym (closing-one b (halfProduct b work) heard)))
+      rw (e, ev, eu, et) (ap (λ (p : ℕ). set work (bothSlot n) p) (sym (closing-one b (halfProduct b work) incoming)))

@@ -19,13 +19,13 @@ module _ (n : ℕ) (l : listed n ≡ true) where
   pub mod-below : (x : ℕ) → x % modulus n < modulus n
   mod-below x = mod-lt x (omega (arith, bounds l))
 
-  pub count-below : (side : ℕ) (d : ℕ → ℕ) (squares heard : List ℕ) (g : ℕ) → matchCount n side d squares heard g < modulus n
+  pub count-below : (side : ℕ) (d : ℕ → ℕ) (squares incoming : List ℕ) (g : ℕ) → matchCount n side d squares incoming g < modulus n
   unfolding matchCount
-  count-below side d squares heard g = mod-below _
+  count-below side d squares incoming g = mod-below _
 
-  pub closed-below : (side v u : ℕ) (triples : List ℕ) (i : ℕ) (heard : List ℕ) (at : ℕ) → closed n side v u triples i heard at < modulus n
+  pub closed-below : (side v u : ℕ) (triples : List ℕ) (i : ℕ) (incoming : List ℕ) (at : ℕ) → closed n side v u triples i incoming at < modulus n
   unfolding closed
-  closed-below side v u triples i heard at = product-share-below n side _ _ _ _ _ l
+  closed-below side v u triples i incoming at = product-share-below n side _ _ _ _ _ l
 
   pub exclusive-below : (total product : ℕ) → exclusive n total product < modulus n
   unfolding exclusive
@@ -35,23 +35,23 @@ module _ (n : ℕ) (l : listed n ≡ true) where
   unfolding complement
   complement-below side v = minus-below n _ _ l
 
-  pub wrap-below : (side : ℕ) (powers work heard : List ℕ) (test : ℕ) → wrapShare n side powers work heard test < modulus n
+  pub wrap-below : (side : ℕ) (powers work incoming : List ℕ) (test : ℕ) → wrapShare n side powers work incoming test < modulus n
   unfolding wrapShare
-  wrap-below side powers work heard test = mod-below _
+  wrap-below side powers work incoming test = mod-below _
 
 module _ (q : Party) (l : listed (q .n) ≡ true) where
-  pub closing-below : (ps : Products) (heard : List ℕ) (from i : ℕ) → closing q ps heard from i < modulus (q .n)
+  pub closing-below : (ps : Products) (incoming : List ℕ) (from i : ℕ) → closing q ps incoming from i < modulus (q .n)
   unfolding closing
-  closing-below ps heard from i = closed-below (q .n) l _ _ _ _ _ _ _
+  closing-below ps incoming from i = closed-below (q .n) l _ _ _ _ _ _ _
 
-  pub sum-below : (heard : List ℕ) (test : ℕ) → lowSum q heard test < modulus (q .n)
+  pub sum-below : (incoming : List ℕ) (test : ℕ) → lowSum q incoming test < modulus (q .n)
   unfolding lowSum
-  sum-below heard test = exclusive-below (q .n) l _ _
+  sum-below incoming test = exclusive-below (q .n) l _ _
 
-  pub half-below : (work heard : List ℕ) (test : ℕ) → halfShare q work heard test < modulus (q .n)
+  pub half-below : (work incoming : List ℕ) (test : ℕ) → halfShare q work incoming test < modulus (q .n)
   unfolding halfShare
-  half-below work heard test = complement-below (q .n) l _ _
+  half-below work incoming test = complement-below (q .n) l _ _
 
-  pub answer-below : (work heard : List ℕ) → answerShare q work heard < modulus (q .n)
+  pub answer-below : (work incoming : List ℕ) → answerShare q work incoming < modulus (q .n)
   unfolding answerShare
-  answer-below work heard = mod-below (q .n) l _
+  answer-below work incoming = mod-below (q .n) l _

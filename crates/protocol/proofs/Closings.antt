@@ -19,10 +19,10 @@ use Rattle.protocol.specs.Products.{Party, Products, triplesOf, openLeft
 use Rattle.protocol.specs.Squares.{squareOpening, squareClosing}
 use Rattle.protocol.proofs.Openings.{alternating-even, alternating-odd}
 
--- the two words that open a product of v and u by triple i stand at a place of what was heard
-pub record Heard (n v u : ℕ) (triples : List ℕ) (i : ℕ) (heard : List ℕ) (at : ℕ) : Type 0 where
-  pub left : getD heard at 0 ≡ masked n v (tripleLeft triples i)
-  pub right : getD heard (at + 1) 0 ≡ masked n u (tripleRight triples i)
+-- the two words that open a product of v and u by triple i stand at a place of incoming
+pub record Heard (n v u : ℕ) (triples : List ℕ) (i : ℕ) (incoming : List ℕ) (at : ℕ) : Type 0 where
+  pub left : getD incoming at 0 ≡ masked n v (tripleLeft triples i)
+  pub right : getD incoming (at + 1) 0 ≡ masked n u (tripleRight triples i)
 
 -- what one box sends of its products, the other hears
 pub openings-heard : (b : Party) (ps : Products) (i : ℕ) → i < ps .count
@@ -39,25 +39,25 @@ openings-heard b ps i l =
     }
 
 -- the same behind other words
-pub heard-after : {n v u : ℕ} {triples : List ℕ} {i : ℕ} {heard : List ℕ} (words : List ℕ) (at start : ℕ)
-    → length words ≡ start → Heard n v u triples i heard (0 + at) → Heard n v u triples i (words ++ heard) (start + at)
-heard-after {heard = heard} words at start e h =
+pub heard-after : {n v u : ℕ} {triples : List ℕ} {i : ℕ} {incoming : List ℕ} (words : List ℕ) (at start : ℕ)
+    → length words ≡ start → Heard n v u triples i incoming (0 + at) → Heard n v u triples i (words ++ incoming) (start + at)
+heard-after {incoming = incoming} words at start e h =
     let first : start + at ≡ length words + (0 + at) = omega arith in
     let second : start + at + 1 ≡ length words + (0 + at + 1) = omega arith in
     record {
-      left = ap (λ (k : ℕ). getD (words ++ heard) k 0) first ∙ getD-append-add words heard (0 + at) 0 ∙ h .left;
-      right = ap (λ (k : ℕ). getD (words ++ heard) k 0) second ∙ getD-append-add words heard (0 + at + 1) 0 ∙ h .right;
+      left = ap (λ (k : ℕ). getD (words ++ incoming) k 0) first ∙ getD-append-add words incoming (0 + at) 0 ∙ h .left;
+      right = ap (λ (k : ℕ). getD (words ++ incoming) k 0) second ∙ getD-append-add words incoming (0 + at + 1) 0 ∙ h .right;
     }
 
 module _ {n pair number side : ℕ} {t1 t2 : List ℕ} (m : Matched n pair number side t1 t2) where
-  pub closed-total : (i : ℕ) → i < tripleCount n → (v1 u1 v2 u2 : ℕ) (heard1 heard2 : List ℕ) (at : ℕ)
-      → Heard n v2 u2 (section n 2 t2) i heard1 at
-      → Heard n v1 u1 (section n 2 t1) i heard2 at
+  pub closed-total : (i : ℕ) → i < tripleCount n → (v1 u1 v2 u2 : ℕ) (incoming1 incoming2 : List ℕ) (at : ℕ)
+      → Heard n v2 u2 (section n 2 t2) i incoming1 at
+      → Heard n v1 u1 (section n 2 t1) i incoming2 at
       → Cong (modulus n)
-      (closed n side v1 u1 (section n 2 t1) i heard1 at + closed n (other side) v2 u2 (section n 2 t2) i heard2 at)
+      (closed n side v1 u1 (section n 2 t1) i incoming1 at + closed n (other side) v2 u2 (section n 2 t2) i incoming2 at)
       ((v1 + v2) * (u1 + u2))
   unfolding closed
-  closed-total i l v1 u1 v2 u2 heard1 heard2 at h1 h2 =
+  closed-total i l v1 u1 v2 u2 incoming1 incoming2 at h1 h2 =
       rw (
         h1 .left,
         h1 .right,
@@ -68,13 +68,13 @@ module _ {n pair number side : ℕ} {t1 t2 : List ℕ} (m : Matched n pair numbe
       )
       (product-total side (own-side m) (dealt-triple m i l) v1 v2 u1 u2)
 
-  pub square-closed-total : (j : ℕ) → j < squareCount n → (v1 v2 : ℕ) (heard1 heard2 : List ℕ)
-      → getD heard1 j 0 ≡ squareOpening n v2 (section n 0 t2) j
-      → getD heard2 j 0 ≡ squareOpening n v1 (section n 0 t1) j
+  pub square-closed-total : (j : ℕ) → j < squareCount n → (v1 v2 : ℕ) (incoming1 incoming2 : List ℕ)
+      → getD incoming1 j 0 ≡ squareOpening n v2 (section n 0 t2) j
+      → getD incoming2 j 0 ≡ squareOpening n v1 (section n 0 t1) j
       → Cong (modulus n)
-      (squareClosing n side v1 (section n 0 t1) heard1 j + squareClosing n (other side) v2 (section n 0 t2) heard2 j)
+      (squareClosing n side v1 (section n 0 t1) incoming1 j + squareClosing n (other side) v2 (section n 0 t2) incoming2 j)
       ((v1 + v2) * (v1 + v2))
   unfolding squareClosing
-  square-closed-total j l v1 v2 heard1 heard2 h1 h2 =
+  square-closed-total j l v1 v2 incoming1 incoming2 h1 h2 =
       rw (h1, h2, opened-both n (squareOpening n v2 (section n 0 t2) j) (squareOpening n v1 (section n 0 t1) j))
       (square-total side (own-side m) (dealt-square m j l) v1 v2)

@@ -63,10 +63,10 @@ message-length q work round =
     refl round
 
 -- hearing keeps work's length
-pub after-length : (q : Party) (work heard : List ℕ) (round : ℕ) → length (afterHearing q work round heard) ≡ length work
+pub after-length : (q : Party) (work incoming : List ℕ) (round : ℕ) → length (afterHearing q work round incoming) ≡ length work
 unfolding afterHearing
-after-length q work heard round =
-    at-each (λ (l : List ℕ). length l ≡ length work) (hearingTable q work heard) work
+after-length q work incoming round =
+    at-each (λ (l : List ℕ). length l ≡ length work) (hearingTable q work incoming) work
     (simp length-sets, (simp length-sets, (simp length-sets, (simp length-sets, (simp length-sets, (refl, tt)))))) refl round
 
 -- the front of out, where a message was put, is the message

@@ -1,3 +1,4 @@
+pub mod Line
 pub mod Openings
 pub mod Reading
 pub mod Totals

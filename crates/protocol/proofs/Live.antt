@@ -70,53 +70,53 @@ module _ (q : Party) where
       (λ i li. rw (h .0 2 (omega arith)))
   message-live (suc (suc (suc (suc (suc (suc r)))))) v v′ h = refl
 
-  pub answer-live : (v v′ heard : List ℕ) → Live n 5 v v′ → answerShare q v heard ≡ answerShare q v′ heard
+  pub answer-live : (v v′ incoming : List ℕ) → Live n 5 v v′ → answerShare q v incoming ≡ answerShare q v′ incoming
   unfolding answerShare closing lastProduct lastLeft lastRight
-  answer-live v v′ heard h = rw (h .0 0 (omega arith), h .0 1 (omega arith), h .0 2 (omega arith), h .1)
+  answer-live v v′ incoming h = rw (h .0 0 (omega arith), h .0 1 (omega arith), h .0 2 (omega arith), h .1)
 
   -- ---- and what is held after hearing depends on them and on what was heard
 
-  module _ (l : listed n ≡ true) (v v′ heard : List ℕ) (room : workLength n ≤ length v) (room′ : workLength n ≤ length v′) where
-    after-1 : Live n 1 (afterHearing q v 1 heard) (afterHearing q v′ 1 heard)
+  module _ (l : listed n ≡ true) (v v′ incoming : List ℕ) (room : workLength n ≤ length v) (room′ : workLength n ≤ length v′) where
+    after-1 : Live n 1 (afterHearing q v 1 incoming) (afterHearing q v′ 1 incoming)
     after-1 = (
-      λ g less. count-1 q l v heard room g less ∙ sym (count-1 q l v′ heard room′ g less),
-      λ t less. sum-1 q l v heard room t less ∙ sym (sum-1 q l v′ heard room′ t less),
+      λ g less. count-1 q l v incoming room g less ∙ sym (count-1 q l v′ incoming room′ g less),
+      λ t less. sum-1 q l v incoming room t less ∙ sym (sum-1 q l v′ incoming room′ t less),
     )
 
-    after-2 : Live n 1 v v′ → Live n 2 (afterHearing q v 2 heard) (afterHearing q v′ 2 heard)
+    after-2 : Live n 1 v v′ → Live n 2 (afterHearing q v 2 incoming) (afterHearing q v′ 2 incoming)
     unfolding closing levelProducts
     after-2 h = (
-      λ g less. level-2 q l v heard room g less ∙ rw (h .0 g less) (sym (level-2 q l v′ heard room′ g less)),
-      λ t less. sum-2 q l v heard room t ∙ h .1 t less ∙ sym (sum-2 q l v′ heard room′ t),
+      λ g less. level-2 q l v incoming room g less ∙ rw (h .0 g less) (sym (level-2 q l v′ incoming room′ g less)),
+      λ t less. sum-2 q l v incoming room t ∙ h .1 t less ∙ sym (sum-2 q l v′ incoming room′ t),
     )
 
-    after-3 : Live n 2 v v′ → Live n 3 (afterHearing q v 3 heard) (afterHearing q v′ 3 heard)
+    after-3 : Live n 2 v v′ → Live n 3 (afterHearing q v 3 incoming) (afterHearing q v′ 3 incoming)
     unfolding wrapShare
     after-3 h = (
-      λ t less. sum-3 q l v heard room t less ∙ h .1 t less ∙ sym (sum-3 q l v′ heard room′ t less),
+      λ t less. sum-3 q l v incoming room t less ∙ h .1 t less ∙ sym (sum-3 q l v′ incoming room′ t less),
       λ t less.
-          wrap-3 q l v heard room t less
+          wrap-3 q l v incoming room t less
           ∙ ap (λ (k : ℕ). k % modulus n)
           (sum-same n
-          (λ i. levelMatch n (q .side) (levelOpened n v heard (t * n + i)) (powersOf q) (t * n + i))
-          (λ i. levelMatch n (q .side) (levelOpened n v′ heard (t * n + i)) (powersOf q) (t * n + i))
+          (λ i. levelMatch n (q .side) (levelOpened n v incoming (t * n + i)) (powersOf q) (t * n + i))
+          (λ i. levelMatch n (q .side) (levelOpened n v′ incoming (t * n + i)) (powersOf q) (t * n + i))
           (λ i li. rw (h .0 (t * n + i) (group-index n t i less li))))
-          ∙ sym (wrap-3 q l v′ heard room′ t less),
+          ∙ sym (wrap-3 q l v′ incoming room′ t less),
     )
 
-    after-4 : Live n 3 v v′ → Live n 4 (afterHearing q v 4 heard) (afterHearing q v′ 4 heard)
+    after-4 : Live n 3 v v′ → Live n 4 (afterHearing q v 4 incoming) (afterHearing q v′ 4 incoming)
     unfolding halfShare closing wrapProducts
     after-4 h t less =
-        half-4 q l v heard room t less ∙ rw (h .0 t less, h .1 t less) (sym (half-4 q l v′ heard room′ t less))
+        half-4 q l v incoming room t less ∙ rw (h .0 t less, h .1 t less) (sym (half-4 q l v′ incoming room′ t less))
 
-    after-5 : Live n 4 v v′ → Live n 5 (afterHearing q v 5 heard) (afterHearing q v′ 5 heard)
+    after-5 : Live n 4 v v′ → Live n 5 (afterHearing q v 5 incoming) (afterHearing q v′ 5 incoming)
     unfolding closing halfProduct
     after-5 h = (
-      λ t less. half-5 q l v heard room t less ∙ h t less ∙ sym (half-5 q l v′ heard room′ t less),
-      both-5 q l v heard room ∙ rw (h 0 (omega arith), h 1 (omega arith)) (sym (both-5 q l v′ heard room′)),
+      λ t less. half-5 q l v incoming room t less ∙ h t less ∙ sym (half-5 q l v′ incoming room′ t less),
+      both-5 q l v incoming room ∙ rw (h 0 (omega arith), h 1 (omega arith)) (sym (both-5 q l v′ incoming room′)),
     )
 
-    pub after-live : (r : ℕ) → Live n r v v′ → Live n (suc r) (afterHearing q v (suc r) heard) (afterHearing q v′ (suc r) heard)
+    pub after-live : (r : ℕ) → Live n r v v′ → Live n (suc r) (afterHearing q v (suc r) incoming) (afterHearing q v′ (suc r) incoming)
     after-live zero h = after-1
     after-live (suc zero) h = after-2 h
     after-live (suc (suc zero)) h = after-3 h

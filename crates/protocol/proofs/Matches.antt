@@ -78,44 +78,44 @@ module _ {n pair number side : ℕ} {t1 t2 : List ℕ} (m : Matched n pair numbe
   -- ---- A
 
   -- one bit of a group
-  bit-total : (g k c1 c2 : ℕ) → g < groupCount n → k < n → (heard1 heard2 : List ℕ)
-      → getD heard1 (g * n + k) 0 ≡ squareOpening n (codeDifference n (other side) c2 k) (section n 0 t2) (g * n + k)
-      → getD heard2 (g * n + k) 0 ≡ squareOpening n (codeDifference n side c1 k) (section n 0 t1) (g * n + k)
+  bit-total : (g k c1 c2 : ℕ) → g < groupCount n → k < n → (incoming1 incoming2 : List ℕ)
+      → getD incoming1 (g * n + k) 0 ≡ squareOpening n (codeDifference n (other side) c2 k) (section n 0 t2) (g * n + k)
+      → getD incoming2 (g * n + k) 0 ≡ squareOpening n (codeDifference n side c1 k) (section n 0 t1) (g * n + k)
       → Cong (modulus n)
-      (squareClosing n side (codeDifference n side c1 k) (section n 0 t1) heard1 (g * n + k)
-      + squareClosing n (other side) (codeDifference n (other side) c2 k) (section n 0 t2) heard2 (g * n + k))
+      (squareClosing n side (codeDifference n side c1 k) (section n 0 t1) incoming1 (g * n + k)
+      + squareClosing n (other side) (codeDifference n (other side) c2 k) (section n 0 t2) incoming2 (g * n + k))
       (indicator (eqb (bitOf c1 k) (bitOf c2 k)))
   unfolding complement
-  bit-total g k c1 c2 lg lk heard1 heard2 h1 h2 =
+  bit-total g k c1 c2 lg lk incoming1 incoming2 h1 h2 =
       let l = own-readable m .width in
       let u = bitOf c1 k in
       let v = bitOf c2 k in
       let lu : u ≤ 1 = omega arith in
       let lv : v ≤ 1 = omega arith in
-      square-closed-total m (g * n + k) (square-index n g k lg lk) (codeDifference n side c1 k) (codeDifference n (other side) c2 k) heard1 heard2 h1 h2
+      square-closed-total m (g * n + k) (square-index n g k lg lk) (codeDifference n side c1 k) (codeDifference n (other side) c2 k) incoming1 incoming2 h1 h2
       ⊙ difference-square n l (codeDifference n side c1 k + codeDifference n (other side) c2 k) u v
       (minus-total n (constantShare side 1) (constantShare (other side) 1) u v (omega (arith, bounds l)) (omega (arith, bounds l))
       ⊙ cong-eq (constant-total side 1 (own-side m)))
       lu lv
 
-  pub count-total : (d1 d2 : ℕ → ℕ) (g : ℕ) → g < groupCount n → (heard1 heard2 : List ℕ)
-      → ((j : ℕ) → j < squareCount n → getD heard1 j 0 ≡ squareOpening n (bitDifference n (other side) d2 j) (section n 0 t2) j)
-      → ((j : ℕ) → j < squareCount n → getD heard2 j 0 ≡ squareOpening n (bitDifference n side d1 j) (section n 0 t1) j)
+  pub count-total : (d1 d2 : ℕ → ℕ) (g : ℕ) → g < groupCount n → (incoming1 incoming2 : List ℕ)
+      → ((j : ℕ) → j < squareCount n → getD incoming1 j 0 ≡ squareOpening n (bitDifference n (other side) d2 j) (section n 0 t2) j)
+      → ((j : ℕ) → j < squareCount n → getD incoming2 j 0 ≡ squareOpening n (bitDifference n side d1 j) (section n 0 t1) j)
       → Cong (modulus n)
-      (matchCount n side d1 (section n 0 t1) heard1 g + matchCount n (other side) d2 (section n 0 t2) heard2 g)
+      (matchCount n side d1 (section n 0 t1) incoming1 g + matchCount n (other side) d2 (section n 0 t2) incoming2 g)
       (1 + sameBits n (levelCode n side (d1 (g / n)) (g % n)) (levelCode n (other side) (d2 (g / n)) (g % n)))
   unfolding matchCount sameBits
-  count-total d1 d2 g lg heard1 heard2 h1 h2 =
+  count-total d1 d2 g lg incoming1 incoming2 h1 h2 =
       let c1 = levelCode n side (d1 (g / n)) (g % n) in
       let c2 = levelCode n (other side) (d2 (g / n)) (g % n) in
-      let f1 : ℕ → ℕ = λ k. squareClosing n side (bitDifference n side d1 (g * n + k)) (section n 0 t1) heard1 (g * n + k) in
-      let f2 : ℕ → ℕ = λ k. squareClosing n (other side) (bitDifference n (other side) d2 (g * n + k)) (section n 0 t2) heard2 (g * n + k) in
+      let f1 : ℕ → ℕ = λ k. squareClosing n side (bitDifference n side d1 (g * n + k)) (section n 0 t1) incoming1 (g * n + k) in
+      let f2 : ℕ → ℕ = λ k. squareClosing n (other side) (bitDifference n (other side) d2 (g * n + k)) (section n 0 t2) incoming2 (g * n + k) in
       let each : (k : ℕ) → k < n → Cong (modulus n) (f1 k + f2 k) (indicator (eqb (bitOf c1 k) (bitOf c2 k))) =
       λ k lk.
       let e1 = group-difference n side d1 g k lk in
       let e2 = group-difference n (other side) d2 g k lk in
       rw (e1, e2)
-      (bit-total g k c1 c2 lg lk heard1 heard2
+      (bit-total g k c1 c2 lg lk incoming1 incoming2
       (h1 (g * n + k) (square-index n g k lg lk) ∙ ap (λ (v : ℕ). squareOpening n v (section n 0 t2) (g * n + k)) e2)
       (h2 (g * n + k) (square-index n g k lg lk) ∙ ap (λ (v : ℕ). squareOpening n v (section n 0 t1) (g * n + k)) e1)) in
       cong-add cong-mod cong-mod

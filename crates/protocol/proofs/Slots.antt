@@ -18,76 +18,76 @@ use Rattle.protocol.specs.Rounds.{doubledOf, squaresOf, powersOf, lowSum
 use Rattle.protocol.proofs.Reading.{held-stored, held-beside}
 use Rattle.protocol.proofs.Below.{count-below, closing-below, sum-below, wrap-below, half-below}
 
-module _ (q : Party) (l : listed (q .n) ≡ true) (work heard : List ℕ) (room : workLength (q .n) ≤ length work) where
+module _ (q : Party) (l : listed (q .n) ≡ true) (work incoming : List ℕ) (room : workLength (q .n) ≤ length work) where
   -- round 1: A, then S
   abbrev counts : ℕ → ℕ
-  counts = matchCount (q .n) (q .side) (doubledOf q) (squaresOf q) heard
+  counts = matchCount (q .n) (q .side) (doubledOf q) (squaresOf q) incoming
 
   abbrev first : List ℕ
   first = sets work 0 (tabulate (groupCount (q .n)) counts)
 
   pub count-1 : (g : ℕ) → g < groupCount (q .n)
-      → held (q .n) (afterHearing q work 1 heard) g ≡ matchCount (q .n) (q .side) (doubledOf q) (squaresOf q) heard g
+      → held (q .n) (afterHearing q work 1 incoming) g ≡ matchCount (q .n) (q .side) (doubledOf q) (squaresOf q) incoming g
   unfolding afterHearing
   count-1 g less =
-      held-beside (q .n) first (sumSlot (q .n) 0) 3 (lowSum q heard) g (inl (omega arith))
+      held-beside (q .n) first (sumSlot (q .n) 0) 3 (lowSum q incoming) g (inl (omega arith))
       ∙ held-stored (q .n) work 0 (groupCount (q .n)) counts g g (omega arith) less (omega arith)
-      (count-below (q .n) l (q .side) (doubledOf q) (squaresOf q) heard g)
+      (count-below (q .n) l (q .side) (doubledOf q) (squaresOf q) incoming g)
 
-  pub sum-1 : (t : ℕ) → t < 3 → held (q .n) (afterHearing q work 1 heard) (sumSlot (q .n) t) ≡ lowSum q heard t
+  pub sum-1 : (t : ℕ) → t < 3 → held (q .n) (afterHearing q work 1 incoming) (sumSlot (q .n) t) ≡ lowSum q incoming t
   unfolding afterHearing
   sum-1 t less =
-      held-stored (q .n) first (sumSlot (q .n) 0) 3 (lowSum q heard) t (sumSlot (q .n) t) (omega arith) less
+      held-stored (q .n) first (sumSlot (q .n) 0) 3 (lowSum q incoming) t (sumSlot (q .n) t) (omega arith) less
       (omega (arith, length-sets work 0 (tabulate (groupCount (q .n)) counts)))
-      (sum-below q l heard t)
+      (sum-below q l incoming t)
 
   -- round 2: A · w in the place of A
   abbrev levels : ℕ → ℕ
-  levels = closing q (levelProducts q work) heard 0
+  levels = closing q (levelProducts q work) incoming 0
 
   pub level-2 : (g : ℕ) → g < groupCount (q .n)
-      → held (q .n) (afterHearing q work 2 heard) g ≡ closing q (levelProducts q work) heard 0 g
+      → held (q .n) (afterHearing q work 2 incoming) g ≡ closing q (levelProducts q work) incoming 0 g
   unfolding afterHearing
   level-2 g less =
       held-stored (q .n) work 0 (groupCount (q .n)) levels g g (omega arith) less (omega arith)
-      (closing-below q l (levelProducts q work) heard 0 g)
+      (closing-below q l (levelProducts q work) incoming 0 g)
 
-  pub sum-2 : (t : ℕ) → held (q .n) (afterHearing q work 2 heard) (sumSlot (q .n) t) ≡ held (q .n) work (sumSlot (q .n) t)
+  pub sum-2 : (t : ℕ) → held (q .n) (afterHearing q work 2 incoming) (sumSlot (q .n) t) ≡ held (q .n) work (sumSlot (q .n) t)
   unfolding afterHearing
   sum-2 t = held-beside (q .n) work 0 (groupCount (q .n)) levels (sumSlot (q .n) t) (inr (omega arith))
 
   -- round 3: the wraps
   abbrev wraps : ℕ → ℕ
-  wraps = wrapShare (q .n) (q .side) (powersOf q) work heard
+  wraps = wrapShare (q .n) (q .side) (powersOf q) work incoming
 
   pub wrap-3 : (t : ℕ) → t < 3
-      → held (q .n) (afterHearing q work 3 heard) (wrapSlot (q .n) t) ≡ wrapShare (q .n) (q .side) (powersOf q) work heard t
+      → held (q .n) (afterHearing q work 3 incoming) (wrapSlot (q .n) t) ≡ wrapShare (q .n) (q .side) (powersOf q) work incoming t
   unfolding afterHearing
   wrap-3 t less =
       held-stored (q .n) work (wrapSlot (q .n) 0) 3 wraps t (wrapSlot (q .n) t) (omega arith) less (omega arith)
-      (wrap-below (q .n) l (q .side) (powersOf q) work heard t)
+      (wrap-below (q .n) l (q .side) (powersOf q) work incoming t)
 
-  pub sum-3 : (t : ℕ) → t < 3 → held (q .n) (afterHearing q work 3 heard) (sumSlot (q .n) t) ≡ held (q .n) work (sumSlot (q .n) t)
+  pub sum-3 : (t : ℕ) → t < 3 → held (q .n) (afterHearing q work 3 incoming) (sumSlot (q .n) t) ≡ held (q .n) work (sumSlot (q .n) t)
   unfolding afterHearing
   sum-3 t less = held-beside (q .n) work (wrapSlot (q .n) 0) 3 wraps (sumSlot (q .n) t) (inl (omega arith))
 
   -- round 4: the half tests
-  pub half-4 : (t : ℕ) → t < 3 → held (q .n) (afterHearing q work 4 heard) (halfSlot (q .n) t) ≡ halfShare q work heard t
+  pub half-4 : (t : ℕ) → t < 3 → held (q .n) (afterHearing q work 4 incoming) (halfSlot (q .n) t) ≡ halfShare q work incoming t
   unfolding afterHearing
   half-4 t less =
-      held-stored (q .n) work (halfSlot (q .n) 0) 3 (halfShare q work heard) t (halfSlot (q .n) t) (omega arith) less (omega arith)
-      (half-below q l work heard t)
+      held-stored (q .n) work (halfSlot (q .n) 0) 3 (halfShare q work incoming) t (halfSlot (q .n) t) (omega arith) less (omega arith)
+      (half-below q l work incoming t)
 
   -- round 5: M
   abbrev both : ℕ → ℕ
-  both i = closing q (halfProduct q work) heard 0 0
+  both i = closing q (halfProduct q work) incoming 0 0
 
-  pub both-5 : held (q .n) (afterHearing q work 5 heard) (bothSlot (q .n)) ≡ closing q (halfProduct q work) heard 0 0
+  pub both-5 : held (q .n) (afterHearing q work 5 incoming) (bothSlot (q .n)) ≡ closing q (halfProduct q work) incoming 0 0
   unfolding afterHearing
   both-5 =
       held-stored (q .n) work (bothSlot (q .n)) 1 both 0 (bothSlot (q .n)) (omega arith) (omega arith) (omega arith)
-      (closing-below q l (halfProduct q work) heard 0 0)
+      (closing-below q l (halfProduct q work) incoming 0 0)
 
-  pub half-5 : (t : ℕ) → t < 3 → held (q .n) (afterHearing q work 5 heard) (halfSlot (q .n) t) ≡ held (q .n) work (halfSlot (q .n) t)
+  pub half-5 : (t : ℕ) → t < 3 → held (q .n) (afterHearing q work 5 incoming) (halfSlot (q .n) t) ≡ held (q .n) work (halfSlot (q .n) t)
   unfolding afterHearing
   half-5 t less = held-beside (q .n) work (bothSlot (q .n)) 1 both (halfSlot (q .n) t) (inl (omega arith))

@@ -16,9 +16,9 @@ levelMatch n side d powers g =
 
 -- d of group g, opened
 abbrev pub levelOpened : ℕ → List ℕ → List ℕ → ℕ → ℕ
-levelOpened n work heard g = opened n (held n work g) (getD heard g 0)
+levelOpened n work incoming g = opened n (held n work g) (getD incoming g 0)
 
 -- the share of a test's wrap (document 01's T): the sum of its levels
 unfoldable pub wrapShare : ℕ → ℕ → List ℕ → List ℕ → List ℕ → ℕ → ℕ
-wrapShare n side powers work heard test =
-    sum n (λ i. levelMatch n side (levelOpened n work heard (test * n + i)) powers (test * n + i)) % modulus n
+wrapShare n side powers work incoming test =
+    sum n (λ i. levelMatch n side (levelOpened n work incoming (test * n + i)) powers (test * n + i)) % modulus n

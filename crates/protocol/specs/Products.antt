@@ -45,17 +45,17 @@ alternating e f j = cond (eqb (j % 2) 0) (e (j / 2)) (f (j / 2))
 unfoldable pub openings : Party → Products → List ℕ
 openings b ps = tabulate (ps .count * 2) (alternating (openLeft b ps) (openRight b ps))
 
--- the share of a product of v and u by triple i, e and f having been heard as the words at a place and the next
+-- the share of a product of v and u by triple i, the other box's e and f standing at a place of incoming
 unfoldable pub closed : ℕ → ℕ → ℕ → ℕ → List ℕ → ℕ → List ℕ → ℕ → ℕ
-closed n side v u triples i heard at =
+closed n side v u triples i incoming at =
     productShare n side
-    (opened n (masked n v (tripleLeft triples i)) (getD heard at 0))
-    (opened n (masked n u (tripleRight triples i)) (getD heard (at + 1) 0))
+    (opened n (masked n v (tripleLeft triples i)) (getD incoming at 0))
+    (opened n (masked n u (tripleRight triples i)) (getD incoming (at + 1) 0))
     (tripleLeft triples i)
     (tripleRight triples i)
     (tripleProduct triples i)
 
--- the share of product i, the other box's words standing from a place of what was heard
+-- the share of product i, the other box's words standing from a place of incoming
 unfoldable pub closing : Party → Products → List ℕ → ℕ → ℕ → ℕ
-closing b ps heard from i =
-    closed (b .n) (b .side) (ps .left i) (ps .right i) (triplesOf b) (ps .first + i) heard (from + i * 2)
+closing b ps incoming from i =
+    closed (b .n) (b .side) (ps .left i) (ps .right i) (triplesOf b) (ps .first + i) incoming (from + i * 2)

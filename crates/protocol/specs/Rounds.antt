@@ -45,9 +45,9 @@ lowProducts b =
 
 -- the share of S
 unfoldable pub lowSum : Party → List ℕ → ℕ → ℕ
-lowSum b heard test =
+lowSum b incoming test =
     exclusive (b .n) (lowBit (b .n) (b .x) (b .y) test)
-    (closing b (lowProducts b) heard (squareCount (b .n)) test)
+    (closing b (lowProducts b) incoming (squareCount (b .n)) test)
 
 -- ---- round 2: A · w of every test and level
 
@@ -74,11 +74,11 @@ wrapProducts b work =
 
 -- the share of the half test: 1 − (S + T − 2·S·T)
 unfoldable pub halfShare : Party → List ℕ → List ℕ → ℕ → ℕ
-halfShare b work heard test =
+halfShare b work incoming test =
     complement (b .n) (b .side)
     (exclusive (b .n)
     ((held (b .n) work (sumSlot (b .n) test) + held (b .n) work (wrapSlot (b .n) test)) % modulus (b .n))
-    (closing b (wrapProducts b work) heard 0 test))
+    (closing b (wrapProducts b work) incoming 0 test))
 
 -- ---- round 5: M = H · U
 
@@ -111,9 +111,9 @@ lastProduct b work =
 
 -- the answer share: H − M + K
 unfoldable pub answerShare : Party → List ℕ → List ℕ → ℕ
-answerShare b work heard =
+answerShare b work incoming =
     (minus (b .n) (held (b .n) work (halfSlot (b .n) 0)) (held (b .n) work (bothSlot (b .n)))
-    + closing b (lastProduct b work) heard 0 0)
+    + closing b (lastProduct b work) incoming 0 0)
     % modulus (b .n)
 
 -- ---- by the round's number; any other round sends nothing and changes nothing
@@ -151,18 +151,18 @@ message b work round = atRound round (messageTable b work) []
 
 -- work after each was heard: the named words replaced, all others as they were
 abbrev pub hearingTable : Party → List ℕ → List ℕ → List (List ℕ)
-hearingTable b work heard =
-    sets (sets work 0 (tabulate (groupCount (b .n)) (matchCount (b .n) (b .side) (doubledOf b) (squaresOf b) heard))) (sumSlot (b .n) 0) (tabulate 3 (lowSum b heard))
-    ∷ sets work 0 (tabulate (groupCount (b .n)) (closing b (levelProducts b work) heard 0))
-    ∷ sets work (wrapSlot (b .n) 0) (tabulate 3 (wrapShare (b .n) (b .side) (powersOf b) work heard))
-    ∷ sets work (halfSlot (b .n) 0) (tabulate 3 (halfShare b work heard))
-    ∷ sets work (bothSlot (b .n)) (closing b (halfProduct b work) heard 0 0 ∷ [])
+hearingTable b work incoming =
+    sets (sets work 0 (tabulate (groupCount (b .n)) (matchCount (b .n) (b .side) (doubledOf b) (squaresOf b) incoming))) (sumSlot (b .n) 0) (tabulate 3 (lowSum b incoming))
+    ∷ sets work 0 (tabulate (groupCount (b .n)) (closing b (levelProducts b work) incoming 0))
+    ∷ sets work (wrapSlot (b .n) 0) (tabulate 3 (wrapShare (b .n) (b .side) (powersOf b) work incoming))
+    ∷ sets work (halfSlot (b .n) 0) (tabulate 3 (halfShare b work incoming))
+    ∷ sets work (bothSlot (b .n)) (closing b (halfProduct b work) incoming 0 0 ∷ [])
     ∷ work
     ∷ []
 
 unfoldable pub afterHearing : Party → List ℕ → ℕ → List ℕ → List ℕ
-afterHearing b work round heard = atRound round (hearingTable b work heard) work
+afterHearing b work round incoming = atRound round (hearingTable b work incoming) work
 
 -- what comes back: the answer share after the last round, and 0 before
 unfoldable pub replyTo : Party → List ℕ → ℕ → List ℕ → ℕ
-replyTo b work round heard = cond (eqb round lastRound) (answerShare b work heard) 0
+replyTo b work round incoming = cond (eqb round lastRound) (answerShare b work incoming) 0

@@ -22,10 +22,10 @@ abbrev pub squareOpening : ℕ → ℕ → List ℕ → ℕ → ℕ
 squareOpening n v squares j = masked n v (squareMask squares j)
 
 unfoldable pub squareClosing : ℕ → ℕ → ℕ → List ℕ → List ℕ → ℕ → ℕ
-squareClosing n side v squares heard j =
-    squareShare n side (opened n (squareOpening n v squares j) (getD heard j 0)) (squareMask squares j) (squareValue squares j)
+squareClosing n side v squares incoming j =
+    squareShare n side (opened n (squareOpening n v squares j) (getD incoming j 0)) (squareMask squares j) (squareValue squares j)
 
 -- the share of A at group g: 1 + the n squares of its bits
 unfoldable pub matchCount : ℕ → ℕ → (ℕ → ℕ) → List ℕ → List ℕ → ℕ → ℕ
-matchCount n side d squares heard g =
-    (constantShare side 1 + sum n (λ k. squareClosing n side (bitDifference n side d (g * n + k)) squares heard (g * n + k))) % modulus n
+matchCount n side d squares incoming g =
+    (constantShare side 1 + sum n (λ k. squareClosing n side (bitDifference n side d (g * n + k)) squares incoming (g * n + k))) % modulus n

@@ -8,7 +8,7 @@ ghost use Rattle.lists.specs.Tabulate.{tabulate};
 ghost use Rattle.field.specs.Width.{listed, modulus};
 ghost use Rattle.tape.specs.Layout.{groupCount};
 ghost use Rattle.tape.specs.Letters.{groupInverse};
-ghost use Rattle.protocol.specs.Words.{Below};
+ghost use Rattle.protocol.specs.Words.{Below, FromLine};
 ghost use Rattle.protocol.specs.Work.{held};
 ghost use Rattle.protocol.specs.Products.{closed};
 ghost use Rattle.protocol.specs.Levels.{levelMatch, wrapShare};
@@ -19,17 +19,17 @@ pub fn close_levels(
     side: u32,
     powers: &[u32],
     triples: &[u32],
-    heard: &[u32],
+    incoming: &[u32],
     work: &mut [u32],
 )
     requires { ⌜ (listed n ≡ true) × (groupCount n ≤ length (now work)) ⌝ }
     requires { ⌜ Below (modulus n) (now powers) × (groupCount n * (n + 1) ≤ length (now powers)) ⌝ }
     requires { ⌜ Below (modulus n) (now triples) × (groupCount n * 3 ≤ length (now triples)) ⌝ }
-    requires { ⌜ Below (modulus n) (now heard) × (groupCount n * 2 ≤ length (now heard)) ⌝ }
+    requires { ⌜ FromLine n (groupCount n * 2) (now incoming) ⌝ }
     ensures { λ _. ⌜ now (work .exit)
         ≡ sets (now (work .entry)) 0
         (tabulate (groupCount n)
-        (λ g. closed n side (held n (now (work .entry)) g) (groupInverse n (now (powers .entry)) g) (now (triples .entry)) g (now (heard .entry)) (g * 2))) ⌝ }
+        (λ g. closed n side (held n (now (work .entry)) g) (groupInverse n (now (powers .entry)) g) (now (triples .entry)) g (now (incoming .entry)) (g * 2))) ⌝ }
 {
     let m = n as usize;
     let mut g: usize = 0;
@@ -42,7 +42,7 @@ pub fn close_levels(
             powers[g * (m + 1)],
             triples,
             g,
-            heard,
+            incoming,
             g * 2,
         );
         g += 1;
@@ -88,11 +88,18 @@ fn level_match(n: u32, side: u32, d: u32, powers: &[u32], g: usize) -> u32
 }
 
 // The share of one test's wrap: the sum over its levels.
-pub fn wrap_of(n: u32, side: u32, powers: &[u32], work: &[u32], heard: &[u32], test: usize) -> u32
+pub fn wrap_of(
+    n: u32,
+    side: u32,
+    powers: &[u32],
+    work: &[u32],
+    incoming: &[u32],
+    test: usize,
+) -> u32
     requires { ⌜ (listed n ≡ true) × (test < 3) × (groupCount n ≤ length (now work)) ⌝ }
     requires { ⌜ Below (modulus n) (now powers) × (groupCount n * (n + 1) ≤ length (now powers)) ⌝ }
-    requires { ⌜ Below (modulus n) (now heard) × (groupCount n ≤ length (now heard)) ⌝ }
-    ensures { λ r. ⌜ r ≡ wrapShare n side (now (powers .entry)) (now (work .entry)) (now (heard .entry)) test ⌝ }
+    requires { ⌜ FromLine n (groupCount n) (now incoming) ⌝ }
+    ensures { λ r. ⌜ r ≡ wrapShare n side (now (powers .entry)) (now (work .entry)) (now (incoming .entry)) test ⌝ }
     ensures below { λ r. ⌜ r < modulus n ⌝ }
 {
     let m = n as usize;
@@ -100,7 +107,7 @@ pub fn wrap_of(n: u32, side: u32, powers: &[u32], work: &[u32], heard: &[u32], t
     let mut i: usize = 0;
     while i < m {
         let g = test * m + i;
-        let d = shares::open(n, field::reduce(n, work[g]), heard[g]);
+        let d = shares::open(n, field::reduce(n, work[g]), incoming[g]);
         total = field::add(n, total, level_match(n, side, d, powers, g));
         i += 1;
     }

@@ -8,7 +8,7 @@ ghost use Rattle.lists.specs.Tabulate.{tabulate};
 ghost use Rattle.field.specs.Width.{listed, modulus};
 ghost use Rattle.shares.specs.Share.{masked};
 ghost use Rattle.tape.specs.Letters.{tripleLeft, tripleRight};
-ghost use Rattle.protocol.specs.Words.{Below};
+ghost use Rattle.protocol.specs.Words.{Below, FromLine};
 ghost use Rattle.protocol.specs.Products.{closed, alternating};
 
 // The two words that open the product of v and u by triple i, put at a place of out.
@@ -22,7 +22,7 @@ pub fn open_product(n: u32, v: u32, u: u32, triples: &[u32], i: usize, out: &mut
     out[at + 1] = shares::mask(n, u, triples[i * 3 + 1]);
 }
 
-// The share of the product of v and u by triple i, the other box's two words standing at a place of heard.
+// The share of the product of v and u by triple i, the other box's two words standing at a place of incoming.
 pub fn close_product(
     n: u32,
     side: u32,
@@ -30,19 +30,19 @@ pub fn close_product(
     u: u32,
     triples: &[u32],
     i: usize,
-    heard: &[u32],
+    incoming: &[u32],
     at: usize,
 ) -> u32
     requires { ⌜ (listed n ≡ true) × (v < modulus n) × (u < modulus n) ⌝ }
     requires { ⌜ Below (modulus n) (now triples) × (i * 3 + 2 < length (now triples)) ⌝ }
-    requires { ⌜ Below (modulus n) (now heard) × (at + 1 < length (now heard)) ⌝ }
-    ensures { λ r. ⌜ r ≡ closed n side v u (now (triples .entry)) i (now (heard .entry)) at ⌝ }
+    requires { ⌜ FromLine n (at + 2) (now incoming) ⌝ }
+    ensures { λ r. ⌜ r ≡ closed n side v u (now (triples .entry)) i (now (incoming .entry)) at ⌝ }
     ensures below { λ r. ⌜ r < modulus n ⌝ }
 {
     let a = triples[i * 3];
     let b = triples[i * 3 + 1];
-    let e = shares::open(n, shares::mask(n, v, a), heard[at]);
-    let f = shares::open(n, shares::mask(n, u, b), heard[at + 1]);
+    let e = shares::open(n, shares::mask(n, v, a), incoming[at]);
+    let f = shares::open(n, shares::mask(n, u, b), incoming[at + 1]);
     shares::product(n, side, e, f, a, b, triples[i * 3 + 2])
 }
 

@@ -9,7 +9,7 @@ ghost use Rattle.lists.specs.Tabulate.{tabulate, sum};
 ghost use Rattle.field.specs.Width.{listed, modulus};
 ghost use Rattle.shares.specs.Share.{constantShare};
 ghost use Rattle.tape.specs.Layout.{squareCount, groupCount};
-ghost use Rattle.protocol.specs.Words.{Below};
+ghost use Rattle.protocol.specs.Words.{Below, FromLine};
 ghost use Rattle.protocol.specs.Squares.{codeDifference, bitDifference, squareOpening, squareClosing, matchCount};
 
 // The n words that open the bit differences of group g, whose code is given.
@@ -50,13 +50,13 @@ pub fn open_squares(n: u32, side: u32, tests: Tests, squares: &[u32], out: &mut 
 }
 
 // The share of 1 + the n squares of group g, whose code is given.
-fn close_group(n: u32, side: u32, code: u32, squares: &[u32], g: usize, heard: &[u32]) -> u32
+fn close_group(n: u32, side: u32, code: u32, squares: &[u32], g: usize, incoming: &[u32]) -> u32
     requires { ⌜ (listed n ≡ true) × (g < groupCount n) ⌝ }
     requires { ⌜ Below (modulus n) (now squares) × (squareCount n * 2 ≤ length (now squares)) ⌝ }
-    requires { ⌜ Below (modulus n) (now heard) × (squareCount n ≤ length (now heard)) ⌝ }
+    requires { ⌜ FromLine n (squareCount n) (now incoming) ⌝ }
     ensures { λ r. ⌜ r
         ≡ (constantShare side 1
-        + sum n (λ k. squareClosing n side (codeDifference n side code k) (now (squares .entry)) (now (heard .entry)) (g * n + k)))
+        + sum n (λ k. squareClosing n side (codeDifference n side code k) (now (squares .entry)) (now (incoming .entry)) (g * n + k)))
         % modulus n ⌝ }
     ensures below { λ r. ⌜ r < modulus n ⌝ }
 {
@@ -67,7 +67,7 @@ fn close_group(n: u32, side: u32, code: u32, squares: &[u32], g: usize, heard: &
         let j = base + k as usize;
         let a = squares[j * 2];
         let share = crate::tests::complement_of(n, side, encoding::codes::bit(code, k));
-        let e = shares::open(n, shares::mask(n, share, a), heard[j]);
+        let e = shares::open(n, shares::mask(n, share, a), incoming[j]);
         total = field::add(n, total, shares::square(n, side, e, a, squares[j * 2 + 1]));
         k += 1;
     }
@@ -80,23 +80,23 @@ pub fn close_squares(
     side: u32,
     tests: Tests,
     squares: &[u32],
-    heard: &[u32],
+    incoming: &[u32],
     work: &mut [u32],
 )
     requires { ⌜ (listed n ≡ true) × Below (modulus n) (tests .doubled) × (groupCount n ≤ length (now work)) ⌝ }
     requires { ⌜ Below (modulus n) (now squares) × (squareCount n * 2 ≤ length (now squares)) ⌝ }
-    requires { ⌜ Below (modulus n) (now heard) × (squareCount n ≤ length (now heard)) ⌝ }
+    requires { ⌜ FromLine n (squareCount n) (now incoming) ⌝ }
     ensures { λ _. ⌜ now (work .exit)
         ≡ sets (now (work .entry)) 0
         (tabulate (groupCount n)
-        (matchCount n side (λ t. getD (tests .doubled) t 0) (now (squares .entry)) (now (heard .entry)))) ⌝ }
+        (matchCount n side (λ t. getD (tests .doubled) t 0) (now (squares .entry)) (now (incoming .entry)))) ⌝ }
 {
     let m = n as usize;
     let mut g: usize = 0;
     while g < 3 * m {
         let t = g / m;
         let code = encoding::codes::level_code(n, side, tests.doubled[t], (g % m) as u32);
-        work[g] = close_group(n, side, code, squares, g, heard);
+        work[g] = close_group(n, side, code, squares, g, incoming);
         g += 1;
     }
 }

@@ -79,7 +79,7 @@ hear-requires c κs =
         readable (a .state .n) (a .state .pair) (a .state .side) (a .number) (a .tape .now) (turn .ordered),
         go .room,
       ),
-      (words-below (a .state .n) (a .incoming .now) (passed told .turn .sound .width) (go .words), omega (arith, go .long)),
+      record { below = words-below (a .state .n) (a .incoming .now) (turn .sound .width) (go .words); long = omega (arith, go .long) },
     )
 
 in-phase-requires : tie.Need-in-phase-requires

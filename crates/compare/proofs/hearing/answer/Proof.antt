@@ -3,10 +3,9 @@ use mathlib.Core.Path.{_∙_}
 use native.Mathlib.Omega.{arith}
 use borrow.Author.Needs.{needs}
 use Rattle.field.specs.Subtraction.{minus}
-use Rattle.shares.specs.Share.{masked}
 use Rattle.protocol.specs.Work.{held}
 use Rattle.protocol.specs.Products.{party}
-use Rattle.protocol.specs.Rounds.{lastProduct, answerShare, replyTo}
+use Rattle.protocol.specs.Rounds.{lastProduct, roundWords, answerShare, replyTo}
 use Rattle.compare.proofs.Sound.{sound}
 use Rattle.compare.proofs.Closings.{closing-one}
 use Rattle.compare.proofs.hearing.answer.Statement.{statement}
@@ -28,6 +27,7 @@ add-close-product : tie.Need-add-close-product
 add-close-product c = search needs
 
 close-product-requires : tie.Need-close-product-requires
+unfolding roundWords
 close-product-requires c κs =
     let t = c .before .before in
     let s = t .before .before .before .before in
@@ -73,7 +73,7 @@ returns c =
           let b = party (a .n) (a .side) x y (a .tape .now) in
           c .add .ensures .0
           ∙ rw (
-            closing-one b (lastProduct b (a .work .now)) (a .heard .now),
+            closing-one b (lastProduct b (a .work .now)) (a .incoming .now),
             difference .sub .ensures .0,
             h .half .ensures .0,
             both .reduce .ensures .0,

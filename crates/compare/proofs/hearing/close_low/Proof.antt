@@ -19,25 +19,26 @@ use Rattle.tape.proofs.Sizes.{small}
 use Rattle.protocol.specs.Tests.{exclusive}
 use Rattle.protocol.specs.Products.{closed}
 use Rattle.protocol.specs.Rounds.{roundWords}
+use Rattle.protocol.proofs.Line.{fewer}
 use Rattle.compare.proofs.hearing.close_low.Statement.{statement}
 use Rattle.compare.proofs.hearing.close_low.Tie as tie
 
 -- the share of S of test t
 abbrev lows : ℕ → ℕ → List ℕ → List ℕ → List ℕ → ℕ → ℕ
-lows n side low triples heard t =
+lows n side low triples incoming t =
     exclusive n (getD low t 0)
-    (closed n side (constantShare side (getD low t 0)) (constantShare (other side) (getD low t 0)) triples (3 * n + t) heard (squareCount n + t * 2))
+    (closed n side (constantShare side (getD low t 0)) (constantShare (other side) (getD low t 0)) triples (3 * n + t) incoming (squareCount n + t * 2))
 
 -- what the other box has of a constant
 rest : (side low : ℕ) → isSide side ≡ true → low - constantShare side low ≡ constantShare (other side) low
 rest side low h = omega (arith, constant-total side low h)
 
 abbrev Inv-loop : tie.InvT-loop
-Inv-loop n side triples heard work₀ tests m t₀ work t =
-    (t ≤ 3) × (length work ≡ length work₀) × (work ≡ sets work₀ (3 * n) (tabulate t (lows n side (tests .low) triples heard)))
+Inv-loop n side triples incoming work₀ tests m t₀ work t =
+    (t ≤ 3) × (length work ≡ length work₀) × (work ≡ sets work₀ (3 * n) (tabulate t (lows n side (tests .low) triples incoming)))
 
 abbrev μ-loop : tie.MeasureT-loop
-μ-loop n side triples heard work₀ tests m t₀ work t = 3 - t
+μ-loop n side triples incoming work₀ tests m t₀ work t = 3 - t
 
 loop-holds : tie.Need-loop-holds Inv-loop μ-loop
 loop-holds c = search needs
@@ -78,13 +79,13 @@ close-product-requires c κs =
     let l = c .before .before .before in
     let s = l .before .before .before .before in
     let low = s .pre .0 .2 .at (l .loop .t) in
-    let room : 3 * (s .args .n * s .args .n) + 6 ≤ length (s .args .heard .now) = s .pre .1 .1 .1 in
+    let room : 3 * (s .args .n * s .args .n) + 6 ≤ length (s .args .incoming .now) = s .pre .1 .1 .long in
     let fewest = bounds (s .pre .0 .0) .seven in
     let most = c .constant .ensures .1 in (
       (s .pre .0 .0, omega arith, omega arith),
       (
         (s .pre .1 .0 .0, omega (arith, s .pre .1 .0 .1, c .before .before .loop-test .taken)),
-        (s .pre .1 .1 .0, omega (arith, c .before .before .loop-test .taken)),
+        fewer (s .pre .1 .1) (3 * (s .args .n * s .args .n) + l .loop .t * 2 + 2) (omega (arith, c .before .before .loop-test .taken)),
       ),
     )
 
@@ -121,7 +122,7 @@ loop-again c =
     let s = l .before .before .before .before in
     let a = s .args in
     let t = l .loop .t in
-    let f : ℕ → ℕ = lows (a .n) (a .side) (a .t3 .low) (a .triples .now) (a .heard .now) in (
+    let f : ℕ → ℕ = lows (a .n) (a .side) (a .t3 .low) (a .triples .now) (a .incoming .now) in (
       omega (arith, split .before .before .loop-test .taken),
       simp length-set (l .loop .inv .1),
       rw (c .exclusive-of .ensures .0, made .close-product .ensures .0, split .constant .ensures .0, rest (a .side) (getD (a .t3 .low) t 0) (s .pre .0 .1), l .loop .inv .2)
@@ -135,7 +136,7 @@ returns : tie.Need-returns Inv-loop μ-loop
 returns c =
     let l = c .before in
     let a = l .before .before .before .before .args in
-    let f : ℕ → ℕ = lows (a .n) (a .side) (a .t3 .low) (a .triples .now) (a .heard .now) in
+    let f : ℕ → ℕ = lows (a .n) (a .side) (a .t3 .low) (a .triples .now) (a .incoming .now) in
     let done : l .loop .t ≡ 3 = omega arith in
     l .loop .inv .2
     ∙ ap (λ (k : ℕ). sets (a .work .now) (3 * a .n) (tabulate k f)) done

@@ -14,23 +14,25 @@ use Rattle.field.specs.Width.{modulus}
 use Rattle.protocol.specs.Tests.{complement, exclusive}
 use Rattle.protocol.specs.Work.{sumSlot, wrapSlot, held}
 use Rattle.protocol.specs.Products.{closed}
+use Rattle.protocol.specs.Rounds.{roundWords}
+use Rattle.protocol.proofs.Line.{fewer}
 use Rattle.compare.proofs.hearing.close_wraps.Statement.{statement}
 use Rattle.compare.proofs.hearing.close_wraps.Tie as tie
 
 -- the share of half test t
 abbrev halves : ℕ → ℕ → List ℕ → List ℕ → List ℕ → ℕ → ℕ
-halves n side triples heard work t =
+halves n side triples incoming work t =
     complement n side
     (exclusive n
     ((held n work (sumSlot n t) + held n work (wrapSlot n t)) % modulus n)
-    (closed n side (held n work (sumSlot n t)) (held n work (wrapSlot n t)) triples (3 * n + 3 + t) heard (t * 2)))
+    (closed n side (held n work (sumSlot n t)) (held n work (wrapSlot n t)) triples (3 * n + 3 + t) incoming (t * 2)))
 
 abbrev Inv-loop : tie.InvT-loop
-Inv-loop n side triples heard work₀ m t₀ work t =
-    (t ≤ 3) × (length work ≡ length work₀) × (work ≡ sets work₀ (3 * n + 6) (tabulate t (halves n side triples heard work₀)))
+Inv-loop n side triples incoming work₀ m t₀ work t =
+    (t ≤ 3) × (length work ≡ length work₀) × (work ≡ sets work₀ (3 * n + 6) (tabulate t (halves n side triples incoming work₀)))
 
 abbrev μ-loop : tie.MeasureT-loop
-μ-loop n side triples heard work₀ m t₀ work t = 3 - t
+μ-loop n side triples incoming work₀ m t₀ work t = 3 - t
 
 loop-holds : tie.Need-loop-holds Inv-loop μ-loop
 loop-holds c = search needs
@@ -81,6 +83,7 @@ mul-close-product-2 : tie.Need-mul-close-product-2 Inv-loop μ-loop
 mul-close-product-2 c = search needs
 
 close-product-requires : tie.Need-close-product-requires Inv-loop μ-loop
+unfolding roundWords
 close-product-requires c κs =
     let r1 = c .before .before in
     let t = r1 .before .before in
@@ -89,7 +92,7 @@ close-product-requires c κs =
       (s .pre .0 .0, r1 .reduce .ensures .1, c .reduce2 .ensures .1),
       (
         (s .pre .1 .0 .0, omega (arith, s .pre .1 .0 .1, t .loop-test .taken)),
-        (s .pre .1 .1 .0, omega (arith, s .pre .1 .1 .1, t .loop-test .taken)),
+        fewer (s .pre .1 .1) (l .loop .t * 2 + 2) (omega (arith, t .loop-test .taken)),
       ),
     )
 
@@ -136,7 +139,7 @@ loop-again c =
     let s = l .before .before .before .before in
     let a = s .args in
     let t = l .loop .t in
-    let f : ℕ → ℕ = halves (a .n) (a .side) (a .triples .now) (a .heard .now) (a .work .now) in
+    let f : ℕ → ℕ = halves (a .n) (a .side) (a .triples .now) (a .incoming .now) (a .work .now) in
     let less = turn .loop-test .taken in (
       omega arith,
       simp length-set (l .loop .inv .1),
@@ -161,7 +164,7 @@ returns : tie.Need-returns Inv-loop μ-loop
 returns c =
     let l = c .before in
     let a = l .before .before .before .before .args in
-    let f : ℕ → ℕ = halves (a .n) (a .side) (a .triples .now) (a .heard .now) (a .work .now) in
+    let f : ℕ → ℕ = halves (a .n) (a .side) (a .triples .now) (a .incoming .now) (a .work .now) in
     let done : l .loop .t ≡ 3 = omega arith in
     l .loop .inv .2
     ∙ ap (λ (k : ℕ). sets (a .work .now) (3 * a .n + 6) (tabulate k f)) done

@@ -1,13 +1,15 @@
 -- `compare::hearing::hear` meets its contract, round by round.
-use Prim.Native.Nat.{ℕ, _*_, _<_, _≤_}
+use Prim.Native.Nat.{ℕ, _*_, _<_}
 use mathlib.Core.Path.{_≡_, sym}
 use native.Mathlib.Omega.{arith}
 use borrow.Author.Needs.{needs}
-use lib.ListN.{length}
 use Rattle.field.specs.Width.{modulus}
 use Rattle.field.proofs.Widths.{bounds}
+use Rattle.tape.specs.Layout.{groupCount}
+use Rattle.protocol.specs.Words.{FromLine}
 use Rattle.protocol.specs.Rounds.{roundWords, afterHearing, replyTo}
 use Rattle.protocol.specs.Products.{party}
+use Rattle.protocol.proofs.Line.{fewer}
 use Rattle.protocol.proofs.ByRound.{no-reply, no-hearing}
 use Rattle.compare.proofs.Sound.{sound}
 use Rattle.compare.proofs.Heard.{levels-closed, wraps-closed}
@@ -15,8 +17,8 @@ use Rattle.compare.proofs.hearing.hear.Statement.{statement}
 use Rattle.compare.proofs.hearing.hear.Tie as tie
 
 -- the words of the round
-words : (s : tie.Start) (round : ℕ) → s .args .round ≡ round → roundWords (s .args .n) round ≤ length (s .args .heard .now)
-words s round e = rw e at (s .pre .1 .1)
+words : (s : tie.Start) (round : ℕ) → s .args .round ≡ round → FromLine (s .args .n) (roundWords (s .args .n) round) (s .args .incoming .now)
+words s round e = rw e at (s .pre .1)
 
 -- no answer yet
 none : (s : tie.Start) → 0 < modulus (s .args .n)
@@ -26,7 +28,7 @@ hear-first-requires : tie.Need-hear-first-requires
 hear-first-requires c κs =
     let m = c .before in
     let s = m .before .before .before .before in
-    (s .pre .0, (s .pre .1 .0, words s 1 (m .match .keys1)))
+    (s .pre .0, words s 1 (m .match .keys1))
 
 section-of-requires : tie.Need-section-of-requires
 section-of-requires c κs = search needs
@@ -42,17 +44,16 @@ close-levels-requires c κs =
     let m = p .before in
     let s = m .before .before .before .before in
     let powers = sound (s .pre .0 .3) 1 (omega arith) (p .section-of .result .now) (p .section-of .ensures) in
-    let triples = sound (s .pre .0 .3) 2 (omega arith) (t .section-of2 .result .now) (t .section-of2 .ensures) in
-    let room : 6 * s .args .n ≤ length (s .args .heard .now) = words s 2 (m .match .keys2) in (
+    let triples = sound (s .pre .0 .3) 2 (omega arith) (t .section-of2 .result .now) (t .section-of2 .ensures) in (
       (s .pre .0 .3 .width, omega (arith, s .pre .0 .4)),
-      ((powers .below, omega (arith, powers .long)), ((triples .below, omega (arith, triples .long)), (s .pre .1 .0, omega arith))),
+      ((powers .below, omega (arith, powers .long)), ((triples .below, omega (arith, triples .long)), fewer (words s 2 (m .match .keys2)) (groupCount (s .args .n) * 2) (omega arith))),
     )
 
 hear-levels-requires : tie.Need-hear-levels-requires
 hear-levels-requires c κs =
     let m = c .before in
     let s = m .before .before .before .before in
-    ((s .pre .0 .1, s .pre .0 .2, s .pre .0 .3, s .pre .0 .4), (s .pre .1 .0, words s 3 (m .match .keys3)))
+    ((s .pre .0 .1, s .pre .0 .2, s .pre .0 .3, s .pre .0 .4), words s 3 (m .match .keys3))
 
 section-of-requires-3 : tie.Need-section-of-requires-3
 section-of-requires-3 c κs = search needs
@@ -64,21 +65,21 @@ close-wraps-requires c κs =
     let m = t .before in
     let s = m .before .before .before .before in
     let triples = sound (s .pre .0 .3) 2 (omega arith) (t .section-of3 .result .now) (t .section-of3 .ensures) in
-    ((s .pre .0 .3 .width, s .pre .0 .4), ((triples .below, omega (arith, triples .long)), (s .pre .1 .0, words s 4 (m .match .keys4))))
+    ((s .pre .0 .3 .width, s .pre .0 .4), ((triples .below, omega (arith, triples .long)), words s 4 (m .match .keys4)))
 
 hear-halves-requires : tie.Need-hear-halves-requires
 unfolding roundWords
 hear-halves-requires c κs =
     let m = c .before in
     let s = m .before .before .before .before in
-    ((s .pre .0 .3, s .pre .0 .4), (s .pre .1 .0, words s 5 (m .match .keys5)))
+    ((s .pre .0 .3, s .pre .0 .4), words s 5 (m .match .keys5))
 
 answer-requires : tie.Need-answer-requires
 unfolding roundWords
 answer-requires c κs =
     let m = c .before in
     let s = m .before .before .before .before in
-    ((s .pre .0 .3, s .pre .0 .4), (s .pre .1 .0, words s 6 (m .match .keys6)))
+    ((s .pre .0 .3, s .pre .0 .4), words s 6 (m .match .keys6))
 
 same-length : tie.Need-same-length
 same-length c = search needs
@@ -106,7 +107,7 @@ returns-2 c =
       (
         rw (m .match .keys2),
         rw (m .match .keys2)
-            (levels-closed (a .n) (a .side) (a .x) (a .y) (a .tape .now) (a .work .now) (a .heard .now)
+            (levels-closed (a .n) (a .side) (a .x) (a .y) (a .tape .now) (a .work .now) (a .incoming .now)
             (p .section-of .result .now) (t .section-of2 .result .now) (done .close-levels .last .1 .1 .1 .1 .1 .0)
             (p .section-of .ensures) (t .section-of2 .ensures) (done .close-levels .ensures)),
       ),
@@ -138,7 +139,7 @@ returns-4 c =
       (
         rw (m .match .keys4),
         rw (m .match .keys4)
-            (wraps-closed (a .n) (a .side) (a .x) (a .y) (a .tape .now) (a .work .now) (a .heard .now)
+            (wraps-closed (a .n) (a .side) (a .x) (a .y) (a .tape .now) (a .work .now) (a .incoming .now)
             (t .section-of3 .result .now) (done .close-wraps .last .1 .1 .1 .1 .0)
             (t .section-of3 .ensures) (done .close-wraps .ensures)),
       ),
@@ -172,8 +173,8 @@ returns-7 c =
     let a = s .args in
     let b = party (a .n) (a .side) (a .x) (a .y) (a .tape .now) in (
       (
-        sym (no-reply (a .round) (c .match .rest) b (a .work .now) (a .heard .now)),
-        sym (no-hearing (a .round) (c .match .rest) b (a .work .now) (a .heard .now)),
+        sym (no-reply (a .round) (c .match .rest) b (a .work .now) (a .incoming .now)),
+        sym (no-hearing (a .round) (c .match .rest) b (a .work .now) (a .incoming .now)),
       ),
       none s,
     )

@@ -3,8 +3,10 @@ use native.Mathlib.Nat.{mod-lt}
 use native.Mathlib.Omega.{arith}
 use borrow.Author.Needs.{needs}
 use Rattle.field.proofs.Widths.{bounds}
+use Rattle.tape.specs.Layout.{squareCount}
 use Rattle.protocol.specs.Tests.{doubled, lowBit}
 use Rattle.protocol.specs.Rounds.{roundWords}
+use Rattle.protocol.proofs.Line.{fewer}
 use Rattle.protocol.proofs.Values.{doubled-below}
 use Rattle.protocol.proofs.Ranges.{tabulated-below}
 use Rattle.compare.proofs.Sound.{sound}
@@ -29,7 +31,7 @@ close-squares-requires c κs =
     let squares = sound (s .pre .0 .3) 0 (omega arith) (q .section-of .result .now) (q .section-of .ensures) in
     let below = tabulated-below 3 (doubled (a .n) (a .x) (a .y)) (doubled-below (a .n) w (a .x) (a .y)) in (
       (w, rw (t .tests-of .ensures .0) below, omega (arith, s .pre .0 .4)),
-      ((squares .below, omega (arith, squares .long)), (s .pre .1 .0, omega (arith, s .pre .1 .1))),
+      ((squares .below, omega (arith, squares .long)), fewer (s .pre .1) (squareCount (a .n)) (omega arith)),
     )
 
 section-of-requires-2 : tie.Need-section-of-requires-2
@@ -60,7 +62,7 @@ returns c =
     let t = d .before .before .before in
     let s = t .before .before .before .before in
     let a = s .args in
-    first-heard (a .n) (a .side) (a .x) (a .y) (a .tape .now) (a .work .now) (a .heard .now)
+    first-heard (a .n) (a .side) (a .x) (a .y) (a .tape .now) (a .work .now) (a .incoming .now)
     (t .tests-of .result .doubled) (t .tests-of .result .low) (d .before .before .section-of .result .now) (q .section-of2 .result .now)
     (d .close-squares .last .1 .1 .1 .1 .1 .0) (e .close-low .last .1 .1 .1 .1 .1 .0)
     (omega (arith, bounds (s .pre .0 .3 .width)))

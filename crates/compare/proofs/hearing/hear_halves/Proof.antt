@@ -1,5 +1,6 @@
 -- `compare::hearing::hear_halves` meets its contract: the share of M is closed by its triple.
 use native.Mathlib.Omega.{arith}
+use Rattle.protocol.specs.Rounds.{roundWords}
 use Rattle.compare.proofs.Sound.{sound}
 use Rattle.compare.proofs.Heard.{both-closed}
 use borrow.Author.Needs.{needs}
@@ -22,13 +23,14 @@ add-close-product : tie.Need-add-close-product
 add-close-product c = search needs
 
 close-product-requires : tie.Need-close-product-requires
+unfolding roundWords
 close-product-requires c κs =
     let h = c .before .before in
     let t = h .before .before in
     let s = t .before .before .before .before in
     let triples = sound (s .pre .0 .0) 2 (omega arith) (t .section-of .result .now) (t .section-of .ensures) in (
       (s .pre .0 .0 .width, h .half .ensures .1, c .half2 .ensures .1),
-      ((triples .below, omega (arith, triples .long)), (s .pre .1 .0, s .pre .1 .1)),
+      ((triples .below, omega (arith, triples .long)), s .pre .1),
     )
 
 mul-work : tie.Need-mul-work
@@ -53,7 +55,7 @@ returns c =
     let t = v .before .before in
     let a = t .before .before .before .before .args in
     λ x y.
-    both-closed (a .n) (a .side) x y (a .tape .now) (a .work .now) (a .heard .now)
+    both-closed (a .n) (a .side) x y (a .tape .now) (a .work .now) (a .incoming .now)
     (t .section-of .result .now) (v .half .result) (u .half2 .result) (c .close-product .result)
     (t .section-of .ensures) (v .half .ensures .0) (u .half2 .ensures .0) (c .close-product .ensures .0)
 

@@ -7,7 +7,7 @@ use borrow.Author.Needs.{needs}
 use lib.ListN.{length, set, length-set, length-map}
 use Rattle.field.specs.Width.{modulus}
 use Rattle.tape.specs.Layout.{groupCount}
-use Rattle.protocol.specs.Words.{Below}
+use Rattle.protocol.specs.Words.{Below, FromLine}
 use Rattle.protocol.specs.Rounds.{roundWords}
 use Rattle.compare.proofs.Sound.{sound}
 use Rattle.compare.proofs.Heard.{wraps-heard}
@@ -26,7 +26,7 @@ powers t =
     (p .below, omega (arith, p .long))
 
 words : (t : tie.After-tests-of)
-    → Below (modulus (start t .args .n)) (start t .args .heard .now) × (groupCount (start t .args .n) ≤ length (start t .args .heard .now))
+    → FromLine (start t .args .n) (groupCount (start t .args .n)) (start t .args .incoming .now)
 unfolding roundWords
 words t = start t .pre .1
 
@@ -132,7 +132,7 @@ returns c =
     let p = t .before in
     let a = start t .args in
     rw (three (t .tests-of .result .wraps) (w1 .wrap-of .result) (w2 .wrap-of2 .result) (w3 .wrap-of3 .result) (filled t))
-    (wraps-heard (a .n) (a .side) (a .x) (a .y) (a .tape .now) (a .work .now) (a .heard .now) (p .section-of .result .now)
+    (wraps-heard (a .n) (a .side) (a .x) (a .y) (a .tape .now) (a .work .now) (a .incoming .now) (p .section-of .result .now)
     (w1 .wrap-of .result) (w2 .wrap-of2 .result) (w3 .wrap-of3 .result) (p .section-of .ensures)
     (w1 .wrap-of .ensures .0) (w2 .wrap-of2 .ensures .0) (w3 .wrap-of3 .ensures .0))
 

@@ -14,19 +14,20 @@ use Rattle.tape.specs.Letters.{groupInverse}
 use Rattle.tape.proofs.Letters.{group-place}
 use Rattle.protocol.specs.Work.{held}
 use Rattle.protocol.specs.Products.{closed}
+use Rattle.protocol.proofs.Line.{fewer}
 use Rattle.steps.proofs.levels.close_levels.Statement.{statement}
 use Rattle.steps.proofs.levels.close_levels.Tie as tie
 
 -- the word of group g
 abbrev level : ℕ → ℕ → List ℕ → List ℕ → List ℕ → List ℕ → ℕ → ℕ
-level n side powers triples heard work g = closed n side (held n work g) (groupInverse n powers g) triples g heard (g * 2)
+level n side powers triples incoming work g = closed n side (held n work g) (groupInverse n powers g) triples g incoming (g * 2)
 
 abbrev Inv-loop : tie.InvT-loop
-Inv-loop n side powers triples heard work₀ m g₀ work g =
-    (g ≤ 3 * n) × (length work ≡ length work₀) × (work ≡ sets work₀ 0 (tabulate g (level n side powers triples heard work₀)))
+Inv-loop n side powers triples incoming work₀ m g₀ work g =
+    (g ≤ 3 * n) × (length work ≡ length work₀) × (work ≡ sets work₀ 0 (tabulate g (level n side powers triples incoming work₀)))
 
 abbrev μ-loop : tie.MeasureT-loop
-μ-loop n side powers triples heard work₀ m g₀ work g = 3 * n - g
+μ-loop n side powers triples incoming work₀ m g₀ work g = 3 * n - g
 
 loop-holds : tie.Need-loop-holds Inv-loop μ-loop
 loop-holds c = search needs
@@ -76,7 +77,7 @@ close-product-requires c κs =
       (s .pre .0 .0, r .reduce .ensures .1, s .pre .1 .0 .0 .at (l .loop .g * (a .n + 1))),
       (
         (s .pre .1 .1 .0 .0, omega (arith, r .before .before .loop-test .taken, s .pre)),
-        (s .pre .1 .1 .1 .0, omega (arith, r .before .before .loop-test .taken, s .pre)),
+        fewer (s .pre .1 .1 .1) (l .loop .g * 2 + 2) (omega (arith, r .before .before .loop-test .taken)),
       ),
     )
 
@@ -98,7 +99,7 @@ loop-again c =
     let r = c .before .before in
     let l = r .before .before .before in
     let a = l .before .before .before .before .before .args in
-    let f : ℕ → ℕ = level (a .n) (a .side) (a .powers .now) (a .triples .now) (a .heard .now) (a .work .now) in
+    let f : ℕ → ℕ = level (a .n) (a .side) (a .powers .now) (a .triples .now) (a .incoming .now) (a .work .now) in
     let g = l .loop .g in (
       omega arith,
       search needs,
@@ -113,7 +114,7 @@ returns : tie.Need-returns Inv-loop μ-loop
 returns c =
     let l = c .before in
     let a = l .before .before .before .before .before .args in
-    let f : ℕ → ℕ = level (a .n) (a .side) (a .powers .now) (a .triples .now) (a .heard .now) (a .work .now) in
+    let f : ℕ → ℕ = level (a .n) (a .side) (a .powers .now) (a .triples .now) (a .incoming .now) (a .work .now) in
     let done : l .loop .g ≡ 3 * a .n = omega arith in
     l .loop .inv .2 ∙ ap (λ (k : ℕ). sets (a .work .now) 0 (tabulate k f)) done
 

@@ -22,14 +22,14 @@ use Rattle.steps.proofs.levels.wrap_of.Tie as tie
 
 -- the share of level i
 abbrev level : ℕ → ℕ → List ℕ → List ℕ → List ℕ → ℕ → ℕ → ℕ
-level n side powers work heard test i = levelMatch n side (levelOpened n work heard (test * n + i)) powers (test * n + i)
+level n side powers work incoming test i = levelMatch n side (levelOpened n work incoming (test * n + i)) powers (test * n + i)
 
 abbrev Inv-loop : tie.InvT-loop
-Inv-loop n side powers work heard test m total₀ i₀ total i =
-    (i ≤ n) × (total < modulus n) × Cong (modulus n) total (sum i (level n side powers work heard test))
+Inv-loop n side powers work incoming test m total₀ i₀ total i =
+    (i ≤ n) × (total < modulus n) × Cong (modulus n) total (sum i (level n side powers work incoming test))
 
 abbrev μ-loop : tie.MeasureT-loop
-μ-loop n side powers work heard test m total₀ i₀ total i = n - i
+μ-loop n side powers work incoming test m total₀ i₀ total i = n - i
 
 abbrev start : tie.In-loop Inv-loop μ-loop → tie.Start Inv-loop μ-loop
 start t = t .before .before .before .before .before
@@ -71,7 +71,7 @@ open-requires c κs =
     let r = c .before in
     let t = r .before .before in
     let s = start t in
-    (s .pre .0 .0, r .reduce .ensures .1, s .pre .1 .1 .0 .at (s .args .test * s .args .n + t .before .loop .i))
+    (s .pre .0 .0, r .reduce .ensures .1, s .pre .1 .1 .below .at (s .args .test * s .args .n + t .before .loop .i))
 
 level-match-requires : tie.Need-level-match-requires Inv-loop μ-loop
 level-match-requires c κs =
@@ -99,12 +99,12 @@ loop-again c =
     let a = start t .args in
     let i = l .loop .i in
     let g = a .test * a .n + i in
-    let d = opening .«open» .ensures .0 ∙ ap (λ (v : ℕ). opened (a .n) v (getD (a .heard .now) g 0)) (reduced .reduce .ensures .0) in
+    let d = opening .«open» .ensures .0 ∙ ap (λ (v : ℕ). opened (a .n) v (getD (a .incoming .now) g 0)) (reduced .reduce .ensures .0) in
     let next = match .level-match .ensures .0 ∙ ap (λ (x : ℕ). levelMatch (a .n) (a .side) x (a .powers .now) g) d in (
       omega arith,
       c .add .ensures .1,
       cong-eq (c .add .ensures .0) ⊙ cong-mod ⊙ cong-add (l .loop .inv .2) (cong-eq next)
-          ⊙ cong-eq (sym (sum-more i (level (a .n) (a .side) (a .powers .now) (a .work .now) (a .heard .now) (a .test)))),
+          ⊙ cong-eq (sym (sum-more i (level (a .n) (a .side) (a .powers .now) (a .work .now) (a .incoming .now) (a .test)))),
     )
 
 returns : tie.Need-returns Inv-loop μ-loop

@@ -1,5 +1,5 @@
 -- `steps::products::close_product` meets its contract.
-use mathlib.Core.Path.{ap, _∙_}
+use mathlib.Core.Path.{_∙_}
 use borrow.Author.Needs.{needs}
 use Rattle.protocol.specs.Products.{closed}
 use Rattle.steps.proofs.products.close_product.Statement.{statement}
@@ -40,7 +40,7 @@ shared-slice-read-open c = search needs
 open-requires : tie.Need-open-requires
 open-requires c κs =
     let s = c .before .before .before .before .before .before in
-    (s .pre .0 .0, c .before .mask .ensures .1, s .pre .1 .1 .0 .at _)
+    (s .pre .0 .0, c .before .mask .ensures .1, s .pre .1 .1 .below .at _)
 
 mask-requires-2 : tie.Need-mask-requires-2
 mask-requires-2 c κs =
@@ -59,7 +59,7 @@ shared-slice-read-open-2 c = search needs
 open-requires-2 : tie.Need-open-requires-2
 open-requires-2 c κs =
     let s = c .before .before .before .before .before .before .before .before .before in
-    (s .pre .0 .0, c .before .mask2 .ensures .1, s .pre .1 .1 .0 .at _)
+    (s .pre .0 .0, c .before .mask2 .ensures .1, s .pre .1 .1 .below .at _)
 
 mul-product : tie.Need-mul-product
 mul-product c = search needs

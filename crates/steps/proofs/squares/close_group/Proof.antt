@@ -19,7 +19,7 @@ use Rattle.steps.proofs.squares.close_group.Tie as tie
 
 -- the share of the square of bit k
 abbrev term : ℕ → ℕ → ℕ → List ℕ → ℕ → List ℕ → ℕ → ℕ
-term n side code squares g heard k = squareClosing n side (codeDifference n side code k) squares heard (g * n + k)
+term n side code squares g incoming k = squareClosing n side (codeDifference n side code k) squares incoming (g * n + k)
 
 -- a turn of the loop: one term more
 total-more : (p a k : ℕ) (f : ℕ → ℕ) → ((a + sum k f) % p + f k) % p ≡ (a + sum (k + 1) f) % p
@@ -28,10 +28,10 @@ total-more p a k f =
     mod-add-mod (a + sum k f) p (f k) ∙ ap (λ (x : ℕ). x % p) all
 
 abbrev Inv-loop : tie.InvT-loop
-Inv-loop n side code squares g heard base total₀ k₀ total k = (k ≤ n) × (total < modulus n) × (total ≡ (constantShare side 1 + sum k (term n side code squares g heard)) % modulus n)
+Inv-loop n side code squares g incoming base total₀ k₀ total k = (k ≤ n) × (total < modulus n) × (total ≡ (constantShare side 1 + sum k (term n side code squares g incoming)) % modulus n)
 
 abbrev μ-loop : tie.MeasureT-loop
-μ-loop n side code squares g heard base total₀ k₀ total k = n - k
+μ-loop n side code squares g incoming base total₀ k₀ total k = n - k
 
 -- the square of bit k is dealt
 placed : (c : tie.In-loop Inv-loop μ-loop)
@@ -107,7 +107,7 @@ shared-slice-read-open c =
 open-requires : tie.Need-open-requires Inv-loop μ-loop
 open-requires c κs =
     let s = c .before .before .before .before .before .before .before .before .before .before in
-    (s .pre .0 .0, c .before .mask .ensures .1, s .pre .1 .1 .0 .at _)
+    (s .pre .0 .0, c .before .mask .ensures .1, s .pre .1 .1 .below .at _)
 
 mul-square : tie.Need-mul-square Inv-loop μ-loop
 mul-square c =
@@ -159,7 +159,7 @@ loop-again c =
       c .add .ensures .1,
       c .add .ensures .0
           ∙ rw (q .square .ensures .0, o .«open» .ensures .0, m .mask .ensures .0, m .before .complement-of .ensures .0, m .before .before .bit .ensures, l .loop .inv .2)
-          (total-more (modulus (a .n)) (constantShare (a .side) 1) (l .loop .k) (term (a .n) (a .side) (a .code) (a .squares .now) (a .g) (a .heard .now))),
+          (total-more (modulus (a .n)) (constantShare (a .side) 1) (l .loop .k) (term (a .n) (a .side) (a .code) (a .squares .now) (a .g) (a .incoming .now))),
     )
 
 returns : tie.Need-returns Inv-loop μ-loop
@@ -168,7 +168,7 @@ returns c =
     let a = l .before .before .before .before .args in
     let done : l .loop .k ≡ a .n = omega arith in (
       l .loop .inv .2
-          ∙ ap (λ (k : ℕ). (constantShare (a .side) 1 + sum k (term (a .n) (a .side) (a .code) (a .squares .now) (a .g) (a .heard .now))) % modulus (a .n)) done,
+          ∙ ap (λ (k : ℕ). (constantShare (a .side) 1 + sum k (term (a .n) (a .side) (a .code) (a .squares .now) (a .g) (a .incoming .now))) % modulus (a .n)) done,
       l .loop .inv .1,
     )
 

@@ -24,28 +24,28 @@ use Rattle.steps.proofs.squares.close_squares.Tie as tie
 
 -- the count of group g
 abbrev counted : ℕ → ℕ → List ℕ → List ℕ → List ℕ → ℕ → ℕ
-counted n side doubled squares heard g = matchCount n side (λ t. getD doubled t 0) squares heard g
+counted n side doubled squares incoming g = matchCount n side (λ t. getD doubled t 0) squares incoming g
 
 -- what a turn of the loop stores
-counts : (n side : ℕ) (doubled squares heard : List ℕ) (g : ℕ)
+counts : (n side : ℕ) (doubled squares incoming : List ℕ) (g : ℕ)
     → (constantShare side 1
-    + sum n (λ k. squareClosing n side (codeDifference n side (levelCode n side (getD doubled (g / n) 0) (g % n)) k) squares heard (g * n + k)))
+    + sum n (λ k. squareClosing n side (codeDifference n side (levelCode n side (getD doubled (g / n) 0) (g % n)) k) squares incoming (g * n + k)))
     % modulus n
-    ≡ counted n side doubled squares heard g
+    ≡ counted n side doubled squares incoming g
 unfolding matchCount
-counts n side doubled squares heard g =
+counts n side doubled squares incoming g =
     let d : ℕ → ℕ = λ t. getD doubled t 0 in
     ap (λ (s : ℕ). (constantShare side 1 + s) % modulus n)
     (sum-same n
-    (λ k. squareClosing n side (codeDifference n side (levelCode n side (d (g / n)) (g % n)) k) squares heard (g * n + k))
-    (λ k. squareClosing n side (bitDifference n side d (g * n + k)) squares heard (g * n + k))
-    (λ k less. ap (λ (v : ℕ). squareClosing n side v squares heard (g * n + k)) (sym (group-difference n side d g k less))))
+    (λ k. squareClosing n side (codeDifference n side (levelCode n side (d (g / n)) (g % n)) k) squares incoming (g * n + k))
+    (λ k. squareClosing n side (bitDifference n side d (g * n + k)) squares incoming (g * n + k))
+    (λ k less. ap (λ (v : ℕ). squareClosing n side v squares incoming (g * n + k)) (sym (group-difference n side d g k less))))
 
 abbrev Inv-loop : tie.InvT-loop
-Inv-loop n side squares heard work₀ tests m g₀ work g = (g ≤ 3 * n) × (length work ≡ length work₀) × (work ≡ sets work₀ 0 (tabulate g (counted n side (tests .doubled) squares heard)))
+Inv-loop n side squares incoming work₀ tests m g₀ work g = (g ≤ 3 * n) × (length work ≡ length work₀) × (work ≡ sets work₀ 0 (tabulate g (counted n side (tests .doubled) squares incoming)))
 
 abbrev μ-loop : tie.MeasureT-loop
-μ-loop n side squares heard work₀ tests m g₀ work g = 3 * n - g
+μ-loop n side squares incoming work₀ tests m g₀ work g = 3 * n - g
 
 -- the test and the level of the group
 tested : (c : tie.In-loop Inv-loop μ-loop) → c .before .loop .g / c .before .before .before .before .before .args .n < 3
@@ -116,8 +116,8 @@ loop-again c =
     let g = l .loop .g in (
       omega (arith, code .before .before .loop-test .taken),
       simp length-set (l .loop .inv .1),
-      rw (c .close-group .ensures .0, code .level-code .ensures, counts (a .n) (a .side) (a .t3 .doubled) (a .squares .now) (a .heard .now) g, l .loop .inv .2)
-          (rw (zero-add g) at (sets-more (a .work .now) 0 g (counted (a .n) (a .side) (a .t3 .doubled) (a .squares .now) (a .heard .now)))),
+      rw (c .close-group .ensures .0, code .level-code .ensures, counts (a .n) (a .side) (a .t3 .doubled) (a .squares .now) (a .incoming .now) g, l .loop .inv .2)
+          (rw (zero-add g) at (sets-more (a .work .now) 0 g (counted (a .n) (a .side) (a .t3 .doubled) (a .squares .now) (a .incoming .now)))),
     )
 
 same-length : tie.Need-same-length Inv-loop μ-loop
@@ -129,7 +129,7 @@ returns c =
     let a = l .before .before .before .before .args in
     let done : l .loop .g ≡ groupCount (a .n) = omega arith in
     l .loop .inv .2
-    ∙ ap (λ (k : ℕ). sets (a .work .now) 0 (tabulate k (counted (a .n) (a .side) (a .t3 .doubled) (a .squares .now) (a .heard .now)))) done
+    ∙ ap (λ (k : ℕ). sets (a .work .now) 0 (tabulate k (counted (a .n) (a .side) (a .t3 .doubled) (a .squares .now) (a .incoming .now)))) done
 
 pub close-squares-spec : {M : Type 1} → statement M
 close-squares-spec =
