@@ -1,6 +1,6 @@
 -- Remainders modulo 2^n − 1 without a division.
-use Prim.Native.Nat.{ℕ, _+_, _*_, _/_, _%_, _^_, _<_, _≤_}
-use mathlib.Core.Path.{_≡_, sym, ap, _∙_}
+use Prim.Native.Nat.{ℕ, zero, suc, _+_, _*_, _/_, _%_, _^_, _<_, _≤_}
+use mathlib.Core.Path.{_≡_, refl, sym, ap, _∙_}
 use native.Mathlib.Nat.{add-mul-mod-self-left, mod-eq-of-lt, mod-add-div, mod-lt, div-lt-iff-lt-mul}
 use native.Mathlib.Omega.{arith}
 use lib.Pow.{pow-pos}
@@ -34,3 +34,19 @@ module _ (n : ℕ) (b : Bounds n) where
 
   pub twice : (x : ℕ) → x < 5 * modulus n → x % 2 ^ n + x / 2 ^ n < modulus n + 5
   twice x l = omega (arith, below x, above x 5 (omega arith))
+
+  -- one fold of x + 1, for x below 2p: what is left is 1 to p
+  pub record Single (x : ℕ) : Type 0 where
+    pub least : 1 ≤ (x + 1) % 2 ^ n + (x + 1) / 2 ^ n
+    pub most : (x + 1) % 2 ^ n + (x + 1) / 2 ^ n ≤ modulus n
+
+  pub single : (x : ℕ) → x < 2 * modulus n → Single x
+  single x l = go ((x + 1) / 2 ^ n) refl
+    where
+      few : (x + 1) / 2 ^ n < 2
+      few = above (x + 1) 2 (omega (arith, b .power))
+
+      go : (q : ℕ) → (x + 1) / 2 ^ n ≡ q → Single x
+      go zero e = record { least = omega (arith, rw e at (fold-same (x + 1)), e); most = omega (arith, below (x + 1), e) }
+      go (suc zero) e = record { least = omega (arith, e); most = omega (arith, rw e at (fold-same (x + 1)), e) }
+      go (suc (suc q)) e = absurd (omega (arith, few, e))

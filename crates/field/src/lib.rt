@@ -32,28 +32,6 @@ pub fn in_range(n: u32, w: u32) -> bool
     w < modulus_of(n)
 }
 
-pub fn add(n: u32, a: u32, b: u32) -> u32
-    requires { ⌜ (listed n ≡ true) × (a < modulus n) × (b < modulus n) ⌝ }
-    ensures { λ r. ⌜ r ≡ (a + b) % modulus n ⌝ }
-    ensures below { λ r. ⌜ r < modulus n ⌝ }
-{
-    let p = modulus_of(n);
-    let sum = a + b;
-    if sum < p { sum } else { sum - p }
-}
-
-pub fn sub(n: u32, a: u32, b: u32) -> u32
-    requires { ⌜ (listed n ≡ true) × (a < modulus n) × (b < modulus n) ⌝ }
-    ensures { λ r. ⌜ r ≡ minus n a b ⌝ }
-    ensures below { λ r. ⌜ r < modulus n ⌝ }
-{
-    if b <= a {
-        a - b
-    } else {
-        a + (modulus_of(n) - b)
-    }
-}
-
 // One step of the reduction: 2^n is 1 modulo p, so the words above and below bit n are added.
 fn folded(n: u32, x: u64) -> u64
     requires { ⌜ listed n ≡ true ⌝ }
@@ -63,15 +41,38 @@ fn folded(n: u32, x: u64) -> u64
     (x & p) + (x >> n)
 }
 
+// A number below 2p, reduced without a comparison, so that the time does not tell whether p was taken off.
+pub fn reduce_once(n: u32, x: u64) -> u32
+    requires { ⌜ (listed n ≡ true) × (x < 2 * modulus n) ⌝ }
+    ensures { λ r. ⌜ r ≡ x % modulus n ⌝ }
+    ensures below { λ r. ⌜ r < modulus n ⌝ }
+{
+    (folded(n, x + 1) - 1) as u32
+}
+
 // A sum of up to four products of words below p, reduced without a division.
 pub fn reduce_wide(n: u32, x: u64) -> u32
     requires { ⌜ (listed n ≡ true) × (x < 4 * (modulus n * modulus n)) ⌝ }
     ensures { λ r. ⌜ r ≡ x % modulus n ⌝ }
     ensures below { λ r. ⌜ r < modulus n ⌝ }
 {
-    let p = modulus_of(n);
-    let rest = folded(n, folded(n, x)) as u32;
-    if rest < p { rest } else { rest - p }
+    reduce_once(n, folded(n, folded(n, x)))
+}
+
+pub fn add(n: u32, a: u32, b: u32) -> u32
+    requires { ⌜ (listed n ≡ true) × (a < modulus n) × (b < modulus n) ⌝ }
+    ensures { λ r. ⌜ r ≡ (a + b) % modulus n ⌝ }
+    ensures below { λ r. ⌜ r < modulus n ⌝ }
+{
+    reduce_once(n, a as u64 + b as u64)
+}
+
+pub fn sub(n: u32, a: u32, b: u32) -> u32
+    requires { ⌜ (listed n ≡ true) × (a < modulus n) × (b < modulus n) ⌝ }
+    ensures { λ r. ⌜ r ≡ minus n a b ⌝ }
+    ensures below { λ r. ⌜ r < modulus n ⌝ }
+{
+    reduce_once(n, a as u64 + (modulus_of(n) - b) as u64)
 }
 
 // The whole product of two words.
@@ -89,12 +90,11 @@ pub fn mul(n: u32, a: u32, b: u32) -> u32
     reduce_wide(n, wide_mul(a, b))
 }
 
-// Any word, reduced. A word below p, as every word of a sound job is, costs one comparison.
+// Any word, reduced. One division, whatever the word, since a word that is read back may be secret.
 pub fn reduce(n: u32, w: u32) -> u32
     requires { ⌜ listed n ≡ true ⌝ }
     ensures { λ r. ⌜ r ≡ w % modulus n ⌝ }
     ensures below { λ r. ⌜ r < modulus n ⌝ }
 {
-    let p = modulus_of(n);
-    if w < p { w } else { w % p }
+    w % modulus_of(n)
 }

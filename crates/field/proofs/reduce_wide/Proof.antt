@@ -1,11 +1,12 @@
 -- `field::reduce_wide` meets its contract: two folds bring a sum of four products below p + 5.
-use mathlib.Core.Path.{_≡_, ap, _∙_}
+use mathlib.Core.Path.{_≡_, sym, ap, _∙_}
 use Prim.Native.Nat.{ℕ, _+_, _*_, _/_, _%_, _^_, _<_}
+use native.Mathlib.Nat.{add-mul-mod-self-left}
 use native.Mathlib.Omega.{arith}
 use borrow.Author.Needs.{needs}
-use Rattle.field.specs.Width.{modulus, listed}
+use Rattle.field.specs.Width.{modulus}
 use Rattle.field.proofs.Widths.{Bounds, bounds}
-use Rattle.field.proofs.Remainders.{remainder, fold-same, once, twice}
+use Rattle.field.proofs.Remainders.{fold-same, once, twice}
 use Rattle.field.proofs.reduce_wide.Statement.{statement}
 use Rattle.field.proofs.reduce_wide.Tie as tie
 
@@ -25,36 +26,27 @@ folds n x part rest b l ep er =
       few = omega (arith, twice n b part first);
     }
 
-cast-rest : tie.Need-cast-rest
-cast-rest c =
-    let s = c .before .before .before in
-    let b = bounds {n = s .args .n} (s .pre .0) in
-    omega (arith, folds (s .args .n) (s .args .x) _ _ b (s .pre .1) (c .before .folded .ensures) (c .folded2 .ensures))
-
-modulus-of-requires : tie.Need-modulus-of-requires
-modulus-of-requires c κs = search needs
-
 folded-requires : tie.Need-folded-requires
 folded-requires c κs = search needs
 
 folded-requires-2 : tie.Need-folded-requires-2
 folded-requires-2 c κs = search needs
 
+reduce-once-requires : tie.Need-reduce-once-requires
+reduce-once-requires c κs =
+    let s = c .before .before in
+    let b = bounds {n = s .args .n} (s .pre .0) in
+    (s .pre .0, omega (arith, folds (s .args .n) (s .args .x) _ _ b (s .pre .1) (c .before .folded .ensures) (c .folded2 .ensures), b))
+
 returns : tie.Need-returns
 returns c =
-    let s = c .before .before .before .before in
-    let b = bounds {n = s .args .n} (s .pre .0) in
-    let f = folds (s .args .n) (s .args .x) _ _ b (s .pre .1) (c .before .before .folded .ensures) (c .before .folded2 .ensures) in
-    remainder (f .turns) (f .same) (omega arith)
-
-returns-2 : tie.Need-returns-2
-returns-2 c =
-    let s = c .before .before .before .before in
-    let b = bounds {n = s .args .n} (s .pre .0) in
-    let f = folds (s .args .n) (s .args .x) _ _ b (s .pre .1) (c .before .before .folded .ensures) (c .before .folded2 .ensures) in
-    remainder (f .turns + 1) (omega arith) (omega arith)
+    let s = c .before .before .before in
+    let n = s .args .n in
+    let b = bounds {n = n} (s .pre .0) in
+    let f = folds n (s .args .x) _ _ b (s .pre .1) (c .before .before .folded .ensures) (c .before .folded2 .ensures) in
+    let r = c .reduce-once .ensures in
+    (r .0 ∙ sym (ap (λ (y : ℕ). y % modulus n) (f .same) ∙ add-mul-mod-self-left _ (modulus n) (f .turns)), r .1)
 
 pub reduce-wide-spec : {M : Type 1} → statement M
 reduce-wide-spec =
-    tie.close
-    (tie.spec modulus-of-requires folded-requires folded-requires-2 cast-rest returns returns-2)
+    tie.close (tie.spec folded-requires folded-requires-2 reduce-once-requires returns)
