@@ -12,15 +12,13 @@ pub fn bit(v: u32, k: u32) -> u32
     (v >> k) & 1
 }
 
+// The choice is made by a product, so that the time does not tell the bit.
 fn range_code(n: u32, x: u32, level: u32) -> u32
     requires { ⌜ (listed n ≡ true) × (x < modulus n) × (level < n) ⌝ }
     ensures { λ r. ⌜ r ≡ rangeCode n x level ⌝ }
 {
-    if bit(x, level) == 0 {
-        (x >> level) + 1
-    } else {
-        field::modulus_of(n)
-    }
+    let code = (x >> level) + 1;
+    code + bit(x, level) * (field::modulus_of(n) - code)
 }
 
 // The box's code of its share v at a level.
