@@ -1,8 +1,10 @@
 // Arithmetic modulo p = 2^n - 1 on words, for the widths n that document 01 lists.
 ghost use mathlib.Core.Path.{_≡_};
-ghost use mathlib.Core.Bool.{true};
+ghost use mathlib.Core.Bool.{true, _&&_};
 ghost use Prim.Native.Nat.{_+_, _-_, _*_, _/_, _%_, _^_, _<_};
 ghost use lib.Dec.{ltb};
+ghost use lib.ListN.{length, getD};
+ghost use Rattle.lists.specs.Every.{every};
 ghost use Rattle.field.specs.Width.{listed, modulus};
 ghost use Rattle.field.specs.Subtraction.{minus};
 
@@ -30,6 +32,27 @@ pub fn in_range(n: u32, w: u32) -> bool
     ensures { λ r. ⌜ r ≡ ltb w (modulus n) ⌝ }
 {
     w < modulus_of(n)
+}
+
+fn both(a: bool, b: bool) -> bool
+    ensures { λ r. ⌜ r ≡ (a && b) ⌝ }
+{
+    a && b
+}
+
+// Whether all of the words are below p. Each is read whatever the others are, so that several can be read at a time.
+pub fn all_in_range(n: u32, words: &[u32]) -> bool
+    requires { ⌜ listed n ≡ true ⌝ }
+    ensures { λ r. ⌜ r ≡ every (length (now (words .entry))) (λ i. ltb (getD (now (words .entry)) i 0) (modulus n)) ⌝ }
+{
+    let p = modulus_of(n);
+    let mut all = true;
+    let mut i = 0;
+    while i < words.len() {
+        all = both(all, words[i] < p);
+        i += 1;
+    }
+    all
 }
 
 // One step of the reduction: 2^n is 1 modulo p, so the words above and below bit n are added.

@@ -1,9 +1,9 @@
 // The one-time tape: where its sections stand, whether a lent tape is in order, and its sections as parts of it.
 ghost use mathlib.Core.Path.{_≡_};
 ghost use mathlib.Core.Bool.{true};
-ghost use Prim.Native.Nat.{_<_, _≤_};
-ghost use lib.ListN.{length};
-ghost use Rattle.field.specs.Width.{listed};
+ghost use Prim.Native.Nat.{ℕ, _+_, _<_, _≤_};
+ghost use lib.ListN.{length, getD};
+ghost use Rattle.field.specs.Width.{listed, modulus};
 ghost use Rattle.tape.specs.Layout.{sectionLength, sectionStart, section, tapeLength, distanceBack, trailer};
 ghost use Rattle.tape.specs.Order.{inOrder, trailerFits, bodyInRange, Readable};
 
@@ -17,6 +17,9 @@ pub const TRIPLES: usize = 2;
 const SECTIONS: usize = 3;
 
 const TRAILER: usize = 7;
+
+// The words of a block that is looked at as one.
+const BLOCK: usize = 16;
 
 // The words of a section.
 pub fn section_words(n: u32, which: usize) -> usize
@@ -93,21 +96,36 @@ fn trailer_fits(tape: &[u32], n: u32, pair: u32, side: u32, number: u32) -> bool
     true
 }
 
-// Whether every word of the body is below p. Reading ends at the first that is not.
+// How many words from i on can be passed over: a block that is all below p, else one word, or none if that is p or more.
+fn passable(tape: &[u32], n: u32, i: usize, end: usize) -> usize
+    requires { ⌜ (listed n ≡ true) × (i < end) × (end ≤ length (now tape)) ⌝ }
+    ensures within { λ r. ⌜ i + r ≤ end ⌝ }
+    ensures below { λ r. ⌜ ((k : ℕ) → k < r → getD (now (tape .entry)) (i + k) 0 < modulus n) ⌝ }
+    ensures stopped { λ r. ⌜ (r ≡ 0 → modulus n ≤ getD (now (tape .entry)) i 0) ⌝ }
+{
+    if BLOCK <= end - i {
+        if field::all_in_range(n, &tape[i..i + BLOCK]) {
+            return BLOCK;
+        }
+    }
+    if field::in_range(n, tape[i]) { 1 } else { 0 }
+}
+
+// Whether every word of the body is below p. Reading ends at the first that is not, but for the rest of its block.
 fn body_in_range(tape: &[u32], n: u32) -> bool
     requires { ⌜ (listed n ≡ true) × (length (now tape) ≡ tapeLength n) ⌝ }
     ensures { λ r. ⌜ r ≡ bodyInRange n (now (tape .entry)) ⌝ }
 {
-    let p = field::modulus_of(n);
     let mut which = 0;
     let mut i = 0;
     'sections: while which < SECTIONS {
         let end = i + section_words(n, which);
         while i < end {
-            if p <= tape[i] {
+            let step = passable(tape, n, i, end);
+            if step == 0 {
                 break 'sections;
             }
-            i += 1;
+            i += step;
         }
         which += 1;
     }

@@ -1,0 +1,64 @@
+-- `field::all_in_range` meets its contract: what is kept is the test of the words read so far.
+use Prim.Native.Nat.{_-_, _≤_}
+use mathlib.Core.Path.{_≡_, refl, _∙_}
+use native.Mathlib.Numerals.{add-one}
+use native.Mathlib.Omega.{arith}
+use borrow.Author.Needs.{needs}
+use lib.Dec.{ltb}
+use lib.ListN.{length, getD}
+use Rattle.lists.specs.Every.{every}
+use Rattle.field.proofs.all_in_range.Statement.{statement}
+use Rattle.field.proofs.all_in_range.Tie as tie
+
+abbrev Inv-loop : tie.InvT-loop
+Inv-loop n words p all₀ i₀ all i = (i ≤ length words) × (all ≡ every i (λ k. ltb (getD words k 0) p))
+
+abbrev μ-loop : tie.MeasureT-loop
+μ-loop n words p all₀ i₀ all i = length words - i
+
+modulus-of-requires : tie.Need-modulus-of-requires Inv-loop μ-loop
+modulus-of-requires c κs = search needs
+
+loop-holds : tie.Need-loop-holds Inv-loop μ-loop
+loop-holds c = (omega arith, refl)
+
+mul-both : tie.Need-mul-both Inv-loop μ-loop
+mul-both c = search needs
+
+shared-slice-read-both : tie.Need-shared-slice-read-both Inv-loop μ-loop
+shared-slice-read-both c = search needs
+
+both-requires : tie.Need-both-requires Inv-loop μ-loop
+both-requires c κs = search needs
+
+add-i : tie.Need-add-i Inv-loop μ-loop
+add-i c = search needs
+
+loop-less : tie.Need-loop-less Inv-loop μ-loop
+loop-less c = omega arith
+
+loop-again : tie.Need-loop-again Inv-loop μ-loop
+loop-again c =
+    let i = c .before .before .before .loop in
+    (omega arith, rw add-one (c .both .ensures ∙ rw (i .inv .1) refl))
+
+returns : tie.Need-returns Inv-loop μ-loop
+returns c =
+    let end : c .before .loop .i ≡ length (c .before .before .before .before .args .words .now) = omega (arith, c .before .loop .inv .0, c .loop-test .left) in
+    rw (← end, ← c .before .before .modulus-of .ensures) (c .before .loop .inv .1)
+
+pub all-in-range-spec : {M : Type 1} → statement M
+all-in-range-spec =
+    tie.close
+    (tie.spec
+    Inv-loop
+    μ-loop
+    modulus-of-requires
+    loop-holds
+    mul-both
+    shared-slice-read-both
+    both-requires
+    add-i
+    loop-less
+    loop-again
+    returns)
