@@ -13,6 +13,7 @@ ghost use Rattle.rules.specs.declared.state.Answer.the-variants.{Refused};
 
 mod checks;
 mod modes;
+pub mod numbers;
 mod tally;
 
 // Counts the fresh tapes, and keeps the width, the side, the pair and the tally's length. The tally is lent for reading only, so it cannot
