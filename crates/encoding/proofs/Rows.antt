@@ -6,7 +6,7 @@ use mathlib.Core.List.{List, [], _++_, map}
 use native.Mathlib.Omega.{arith}
 use borrow.Author.Tests.{eqb-true, ltb-true}
 use lib.Dec.{eqb, ltb}
-use lib.ListN.{getD, take, replicate}
+use lib.ListN.{length, getD, take, replicate}
 use Rattle.lists.specs.Every.{every}
 use Rattle.lists.proofs.Every.{every-at}
 use Rattle.field.specs.Width.{widths, listed}
@@ -35,3 +35,6 @@ entry-right n k l most =
 
 pub place-below : (n : ℕ) → listed n ≡ true → placeOf n widths < 7
 place-below n l = ltb-true (placeOf n widths) 7 (each-listed (λ w. ltb (placeOf w widths) 7) refl l)
+
+pub row-length : (n : ℕ) → listed n ≡ true → length (getD filled (placeOf n widths) []) ≡ 32
+row-length n l = eqb-true _ 32 (each-listed (λ w. eqb (length (getD filled (placeOf w widths) [])) 32) refl l)

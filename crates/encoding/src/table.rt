@@ -1,7 +1,8 @@
 // The coefficients of P for all widths.
 ghost use mathlib.Core.Path.{_≡_};
 ghost use mathlib.Core.Bool.{true};
-ghost use Prim.Native.Nat.{_≤_};
+ghost use Prim.Native.Nat.{ℕ, _≤_};
+ghost use lib.ListN.{length, getD};
 ghost use Rattle.field.specs.Width.{listed, widths};
 ghost use Rattle.encoding.specs.Polynomial.{coefficient, placeOf};
 
@@ -260,6 +261,15 @@ fn row_of(n: u32) -> usize
         19 => 5,
         _ => 6,
     }
+}
+
+// g_0 to g_n of a width, filled up with 0: a row by value, to be fetched once and not once a coefficient.
+pub fn coefficients_of(n: u32) -> [u32; 32]
+    requires { ⌜ listed n ≡ true ⌝ }
+    ensures { λ r. ⌜ (length r ≡ 32) × ((k : ℕ) → k ≤ n → getD r k 0 ≡ coefficient n k) ⌝ }
+{
+    let row = row_of(n);
+    COEFFICIENTS[row]
 }
 
 // g_k at width n.
