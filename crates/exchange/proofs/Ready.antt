@@ -16,7 +16,7 @@ use Rattle.protocol.proofs.Lengths.{after-length}
 use Rattle.rules.specs.Answers.{spoke, share, replyOf}
 use Rattle.rules.specs.Tally.{tapesOf}
 use Rattle.rules.specs.Modes.{roundOf, roundFits, phaseFits, sameTurn}
-use Rattle.rules.specs.Grounds.{firstOf, wordsFit, turnGrounds, speakGround, hearGround}
+use Rattle.rules.specs.Grounds.{firstOf, wordsFit, messageFits, turnGrounds, speakGround, hearGround}
 use Rattle.rules.specs.Calls.{Result, outcome, inPhase, xOf, yOf, partyOf, turned, speakRule, hearRule}
 use Rattle.rules.proofs.Ranges.{ranged, range-mode}
 use Rattle.rules.specs.declared.state.Turn.{Turn}
@@ -60,20 +60,20 @@ same-turn (Hear round) = eq-eqb round round refl
 
 module _ (s : State) (number : ℕ) (tape work : List ℕ) where
   -- none of the grounds that a speak and a hear have in common holds
-  turn-goes : (turn : Turn) → Ready s number turn tape work → firstOf (turnGrounds s number turn tape) ≡ 0
-  turn-goes turn r = rw (range-mode s (r .ranged), r .job, eq-eqb number number refl, same-turn turn, r .ordered)
+  turn-goes : (turn : Turn) (buffer : List ℕ) → Ready s number turn tape work → messageFits (s .n) turn (length buffer) ≡ true
+      → firstOf (turnGrounds s number turn tape work buffer) ≡ 0
+  turn-goes turn buffer r fits =
+      rw (range-mode s (r .ranged), r .job, eq-eqb number number refl, same-turn turn, r .ordered, le-leb (workLength (s .n)) (length work) (r .room), fits)
 
   speak-goes : (round : ℕ) (out : List ℕ) → Ready s number (Speak round) tape work → roundWords (s .n) round ≤ length out
       → speakGround s number round tape work out ≡ 0
   unfolding speakGround
-  speak-goes round out r room =
-      rw (le-leb (workLength (s .n)) (length work) (r .room), le-leb (roundWords (s .n) round) (length out) room) (turn-goes (Speak round) r)
+  speak-goes round out r room = turn-goes (Speak round) out r (le-leb (roundWords (s .n) round) (length out) room)
 
   hear-goes : (round : ℕ) (words : List ℕ) → Ready s number (Hear round) tape work → length words ≡ roundWords (s .n) round
       → wordsFit (s .n) words ≡ true → hearGround s number round tape work words ≡ 0
   unfolding hearGround
-  hear-goes round words r long fits =
-      rw (le-leb (workLength (s .n)) (length work) (r .room), eq-eqb (length words) (roundWords (s .n) round) long, fits) (turn-goes (Hear round) r)
+  hear-goes round words r long fits = rw fits (turn-goes (Hear round) words r (eq-eqb (length words) (roundWords (s .n) round) long))
 
 -- ---- a round of a box that is ready for it
 

@@ -2,17 +2,14 @@
 -- the first does and no hear is lent a message of a larger width. The second then meets them too.
 use Prim.Native.Nat.{ℕ, suc}
 use mathlib.Core.Path.{_≡_, refl, sym, ap, _∙_}
-use mathlib.Core.Bool.{Bool, true, false, not, _||_, cond, true≢false}
+use mathlib.Core.Bool.{Bool, true, false, not, cond, true≢false}
 use mathlib.Core.List.{List, [], _∷_, _++_}
 use native.Mathlib.Nat.{le-of-eq}
-use native.Mathlib.Omega.{arith}
-use lib.Dec.{eqb, leb}
 use lib.ListN.{length}
-use Rattle.tape.specs.Order.{inOrder}
-use Rattle.protocol.specs.Work.{workLength}
-use Rattle.protocol.specs.Rounds.{roundWords}
-use Rattle.rules.specs.Modes.{modeOf, isAsleep, inJob, isDue}
-use Rattle.rules.specs.Grounds.{Ground, _when_, firstOf, wordsFit, hearGround}
+use Rattle.refusals.specs.Numbers.{numberOf}
+use Rattle.refusals.specs.declared.Refusal.{Refusal}
+use Rattle.refusals.specs.declared.Refusal.the-variants.{Word}
+use Rattle.rules.specs.Grounds.{Ground, _when_, firstOf, turnGrounds, wordsFit, hearGround}
 use Rattle.rules.specs.declared.state.Turn.the-variants.{Hear}
 use Rattle.rules.specs.declared.state.State.{State}
 use Rattle.guarantees.specs.Boxes.{Box}
@@ -23,7 +20,7 @@ use Rattle.guarantees.specs.View.{covered}
 use Rattle.guarantees.specs.Premises.{TrueMessage, Keeps, Meets, Compatible, AllCompatible}
 use Rattle.guarantees.specs.AnyTapes.{NotWider, Narrow, AllNarrow}
 use Rattle.guarantees.proofs.LowEquivalence.{LowState, LowEquivalent}
-use Rattle.rules.proofs.Chains.{Numbered, first-none, both-none}
+use Rattle.rules.proofs.Chains.{first-none, both-none}
 use Rattle.rules.proofs.Passed.{hear-passed}
 use Rattle.guarantees.proofs.LowModes.{asleep-same, job-same, due-same}
 use Rattle.guarantees.proofs.Refusals.{OrderAlike, speak-same, hear-same}
@@ -36,10 +33,10 @@ use Rattle.guarantees.proofs.SameGrounds.{order-same, start-ground, com
 -- ---- refused alike before the last ground
 
 -- where a ground before the last one holds, the last one does not count
-last-free : (gs : List Ground) (number : ℕ) (t : Bool) → (firstOf (gs ++ ((number when false) ∷ [])) ≡ 0 → ⊥)
-    → firstOf (gs ++ ((number when false) ∷ [])) ≡ firstOf (gs ++ ((number when t) ∷ []))
-last-free [] number t some = absurd (some refl)
-last-free (g ∷ gs) number t some = skip (g .holds) (g .number) _ _ (last-free gs number t) some
+last-free : (gs : List Ground) (refusal : Refusal) (t : Bool) → (firstOf (gs ++ ((refusal when false) ∷ [])) ≡ 0 → ⊥)
+    → firstOf (gs ++ ((refusal when false) ∷ [])) ≡ firstOf (gs ++ ((refusal when t) ∷ []))
+last-free [] refusal t some = absurd (some refl)
+last-free (g ∷ gs) refusal t some = skip (g .holds) (numberOf (g .refusal)) _ _ (last-free gs refusal t) some
   where
     skip : (b : Bool) (k u v : ℕ) → ((u ≡ 0 → ⊥) → u ≡ v) → (cond b k u ≡ 0 → ⊥) → cond b k u ≡ cond b k v
     skip true k u v rest nonzero = refl
@@ -48,20 +45,14 @@ last-free (g ∷ gs) number t some = skip (g .holds) (g .number) _ _ (last-free 
 module _ {s s′ : State} (number round : ℕ) (tape tape′ work work′ incoming incoming′ : List ℕ) (t : LowState s s′)
     (room : length work ≡ length work′) (order : OrderAlike s number tape tape′) (long : length incoming ≡ length incoming′) where
   abbrev early : List Ground
-  early =
-      (1 when isAsleep (modeOf s))
-      ∷ (6 when not (inJob (modeOf s)))
-      ∷ (11 when not (isDue (modeOf s) number (Hear round)))
-      ∷ (10 when not (inOrder (s .n) (s .pair) (s .side) number tape))
-      ∷ (12 when not (leb (workLength (s .n)) (length work)) || not (eqb (length incoming) (roundWords (s .n) round)))
-      ∷ []
+  early = turnGrounds s number (Hear round) tape work incoming
 
   -- the second run's ground, by the first run's tests but for the words
-  hear-early : hearGround s′ number round tape′ work′ incoming′ ≡ firstOf (early ++ ((13 when not (wordsFit (s .n) incoming′)) ∷ []))
+  hear-early : hearGround s′ number round tape′ work′ incoming′ ≡ firstOf (early ++ ((Word when not (wordsFit (s .n) incoming′)) ∷ []))
   unfolding hearGround
   hear-early = rw (asleep-same t, job-same t, due-same number (Hear round) t, order, room, long, t .n, t .side, t .pair)
 
-  hear-own : hearGround s number round tape work incoming ≡ firstOf (early ++ ((13 when not (wordsFit (s .n) incoming)) ∷ []))
+  hear-own : hearGround s number round tape work incoming ≡ firstOf (early ++ ((Word when not (wordsFit (s .n) incoming)) ∷ []))
   unfolding hearGround
   hear-own = refl
 
@@ -69,25 +60,24 @@ module _ {s s′ : State} (number round : ℕ) (tape tape′ work work′ incomi
   hear-before : wordsFit (s .n) incoming ≡ true → (hearGround s number round tape work incoming ≡ 0 → ⊥)
       → hearGround s number round tape work incoming ≡ hearGround s′ number round tape′ work′ incoming′
   hear-before fits some =
-      let own = hear-own ∙ ap (λ (b : Bool). firstOf (early ++ ((13 when not b) ∷ []))) fits in
-      own ∙ last-free early 13 (not (wordsFit (s .n) incoming′)) (λ z. some (own ∙ z)) ∙ sym hear-early
+      let own = hear-own ∙ ap (λ (b : Bool). firstOf (early ++ ((Word when not b) ∷ []))) fits in
+      own ∙ last-free early Word (not (wordsFit (s .n) incoming′)) (λ z. some (own ∙ z)) ∙ sym hear-early
 
   -- or in the second
   hear-after : wordsFit (s .n) incoming′ ≡ true → (hearGround s′ number round tape′ work′ incoming′ ≡ 0 → ⊥)
       → hearGround s number round tape work incoming ≡ hearGround s′ number round tape′ work′ incoming′
   hear-after fits some =
-      let there = hear-early ∙ ap (λ (b : Bool). firstOf (early ++ ((13 when not b) ∷ []))) fits in
-      hear-own ∙ sym (last-free early 13 (not (wordsFit (s .n) incoming)) (λ z. some (there ∙ z))) ∙ sym there
+      let there = hear-early ∙ ap (λ (b : Bool). firstOf (early ++ ((Word when not b) ∷ []))) fits in
+      hear-own ∙ sym (last-free early Word (not (wordsFit (s .n) incoming)) (λ z. some (there ∙ z))) ∙ sym there
 
   -- taken in the second run, a message with a word p or more is refused with 13 in the first
   hear-thirteen : hearGround s′ number round tape′ work′ incoming′ ≡ 0 → wordsFit (s .n) incoming ≡ false
       → hearGround s number round tape work incoming ≡ 13
   hear-thirteen taken unfit =
-      let numbered : Numbered early = omega arith in
-      let passed = both-none early ((13 when not (wordsFit (s .n) incoming′)) ∷ []) numbered (sym hear-early ∙ taken) .0 in
+      let passed = both-none early ((Word when not (wordsFit (s .n) incoming′)) ∷ []) (sym hear-early ∙ taken) .0 in
       hear-own
-      ∙ ap (λ (b : Bool). firstOf (early ++ ((13 when not b) ∷ []))) unfit
-      ∙ first-none early ((13 when true) ∷ []) numbered passed
+      ∙ ap (λ (b : Bool). firstOf (early ++ ((Word when not b) ∷ []))) unfit
+      ∙ first-none early ((Word when true) ∷ []) passed
 
   -- where a message that is taken in one run fits in the other, both refuse alike
   hear-alike : (hearGround s number round tape work incoming ≡ 0 → wordsFit (s .n) incoming′ ≡ true)

@@ -7,3 +7,8 @@ use Rattle.limit_box.specs.declared.checks.Check.the-variants.{Passed, R
 abbrev pub groundOf : Check → ℕ
 groundOf Passed = 0
 groundOf (Refused refusal) = numberOf refusal
+
+-- a check that comes after another: the earlier refusal, or, where there is none, what is found now
+abbrev pub thenGround : Check → ℕ → ℕ
+thenGround Passed ground = ground
+thenGround (Refused refusal) ground = numberOf refusal

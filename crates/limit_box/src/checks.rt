@@ -1,11 +1,19 @@
 // Each call's grounds of refusal, in document 01's order. A check reads what the call was lent and writes nothing.
+use crate::grounds::asleep_check;
+use crate::grounds::idle_check;
+use crate::grounds::job_check;
+use crate::grounds::mark_check;
+use crate::grounds::message_check;
+use crate::grounds::room_check;
+use crate::grounds::share_check;
+use crate::grounds::tape_check;
+use crate::grounds::when;
+use crate::grounds::word_check;
 use refusals::Refusal;
 use rules::state::State;
 use rules::state::Turn;
 ghost use mathlib.Core.Path.{_≡_};
-ghost use mathlib.Core.Bool.{true};
-ghost use Rattle.field.specs.Width.{listed};
-ghost use Rattle.rules.specs.Grounds.{firstOf, turnGrounds, wordsFit, wakeGround, startGround, speakGround, hearGround, dropGround};
+ghost use Rattle.rules.specs.Grounds.{firstOf, turnGrounds, wakeGround, startGround, speakGround, hearGround, dropGround};
 ghost use Rattle.limit_box.specs.Checks.{groundOf};
 
 // The call goes on, or is refused.
@@ -17,20 +25,10 @@ pub enum Check {
 pub fn wake_check(state: State, n: u32, side: u32, tally: &[u8]) -> Check
     ensures { λ r. ⌜ groundOf r ≡ wakeGround state n side (now (tally .entry)) ⌝ }
 {
-    let mode = crate::modes::mode_of(state);
-    if !crate::modes::is_asleep(mode) {
-        return Check::Refused(Refusal::Busy);
-    }
-    if !field::is_listed(n) {
-        return Check::Refused(Refusal::Width);
-    }
-    if !shares::is_side(side) {
-        return Check::Refused(Refusal::Side);
-    }
-    if !crate::tally::tally_fits(tally.len()) {
-        return Check::Refused(Refusal::Tally);
-    }
-    Check::Passed
+    let asleep = asleep_check(crate::modes::mode_of(state));
+    let width = when(asleep, !field::is_listed(n), Refusal::Width);
+    let own = when(width, !shares::is_side(side), Refusal::Side);
+    when(own, !crate::tally::tally_fits(tally.len()), Refusal::Tally)
 }
 
 pub fn start_check(
@@ -44,55 +42,12 @@ pub fn start_check(
 ) -> Check
     ensures { λ r. ⌜ groundOf r ≡ startGround state number x y (now (tape .entry)) (now (work .entry)) (now (tally .entry)) ⌝ }
 {
-    let mode = crate::modes::mode_of(state);
-    if crate::modes::is_asleep(mode) {
-        return Check::Refused(Refusal::Asleep);
-    }
-    if crate::modes::in_job(mode) {
-        return Check::Refused(Refusal::Busy);
-    }
-    if tally.len() != state.tally as usize {
-        return Check::Refused(Refusal::Tally);
-    }
-    if crate::tally::tapes_of(tally.len()) <= number as usize {
-        return Check::Refused(Refusal::Number);
-    }
-    if !crate::tally::is_fresh(tally, number as usize) {
-        return Check::Refused(Refusal::Spent);
-    }
-    if !field::in_range(state.n, x) {
-        return Check::Refused(Refusal::Share);
-    }
-    if !field::in_range(state.n, y) {
-        return Check::Refused(Refusal::Share);
-    }
-    if !tape::in_order(tape, state.n, state.pair, state.side, number) {
-        return Check::Refused(Refusal::Tape);
-    }
-    if work.len() < compare::words::work_words(state.n) {
-        return Check::Refused(Refusal::Room);
-    }
-    Check::Passed
-}
-
-// What a speak and a hear have in common: the turn that is due, and the job's tape.
-fn turn_check(state: State, number: u32, turn: Turn, tape: &[u32]) -> Check
-    ensures { λ r. ⌜ groundOf r ≡ firstOf (turnGrounds state number turn (now (tape .entry))) ⌝ }
-{
-    let mode = crate::modes::mode_of(state);
-    if crate::modes::is_asleep(mode) {
-        return Check::Refused(Refusal::Asleep);
-    }
-    if !crate::modes::in_job(mode) {
-        return Check::Refused(Refusal::NoJob);
-    }
-    if !crate::modes::is_due(mode, number, turn) {
-        return Check::Refused(Refusal::Turn);
-    }
-    if !tape::in_order(tape, state.n, state.pair, state.side, number) {
-        return Check::Refused(Refusal::Tape);
-    }
-    Check::Passed
+    let idle = idle_check(crate::modes::mode_of(state));
+    let length = when(idle, tally.len() != state.tally as usize, Refusal::Tally);
+    let mark = mark_check(length, number, tally);
+    let share = share_check(mark, state.n, x, y);
+    let ordered = tape_check(share, state, number, tape);
+    room_check(ordered, state.n, work, true)
 }
 
 pub fn speak_check(
@@ -105,19 +60,7 @@ pub fn speak_check(
 ) -> Check
     ensures { λ r. ⌜ groundOf r ≡ speakGround state number round (now (tape .entry)) (now (work .entry)) (now (out .entry)) ⌝ }
 {
-    let turn = turn_check(state, number, Turn::Speak(round), tape);
-    match turn {
-        Check::Refused(refusal) => Check::Refused(refusal),
-        Check::Passed => {
-            if work.len() < compare::words::work_words(state.n) {
-                return Check::Refused(Refusal::Room);
-            }
-            if out.len() < compare::words::words_of(state.n, round) {
-                return Check::Refused(Refusal::Room);
-            }
-            Check::Passed
-        }
-    }
+    turn_check(state, number, Turn::Speak(round), tape, work, out)
 }
 
 pub fn hear_check(
@@ -130,48 +73,34 @@ pub fn hear_check(
 ) -> Check
     ensures { λ r. ⌜ groundOf r ≡ hearGround state number round (now (tape .entry)) (now (work .entry)) (now (incoming .entry)) ⌝ }
 {
-    let turn = turn_check(state, number, Turn::Hear(round), tape);
-    match turn {
-        Check::Refused(refusal) => Check::Refused(refusal),
-        Check::Passed => {
-            if work.len() < compare::words::work_words(state.n) {
-                return Check::Refused(Refusal::Room);
-            }
-            if incoming.len() != compare::words::words_of(state.n, round) {
-                return Check::Refused(Refusal::Room);
-            }
-            if !words_fit(state.n, incoming) {
-                return Check::Refused(Refusal::Word);
-            }
-            Check::Passed
-        }
-    }
-}
-
-// Whether every incoming word is below p. Reading ends at the first that is not.
-fn words_fit(n: u32, words: &[u32]) -> bool
-    requires { ⌜ listed n ≡ true ⌝ }
-    ensures { λ r. ⌜ r ≡ wordsFit n (now (words .entry)) ⌝ }
-{
-    let mut i = 0;
-    while i < words.len() {
-        if !field::in_range(n, words[i]) {
-            return false;
-        }
-        i += 1;
-    }
-    true
+    let turn = turn_check(state, number, Turn::Hear(round), tape, work, incoming);
+    word_check(turn, state.n, incoming)
 }
 
 pub fn drop_check(state: State) -> Check
     ensures { λ r. ⌜ groundOf r ≡ dropGround state ⌝ }
 {
+    job_check(crate::modes::mode_of(state))
+}
+
+// What a speak and a hear have in common: the turn that is due, the job's tape, and room for the message in out or incoming.
+fn turn_check(
+    state: State,
+    number: u32,
+    turn: Turn,
+    tape: &[u32],
+    work: &[u32],
+    buffer: &[u32],
+) -> Check
+    ensures { λ r. ⌜ groundOf r ≡ firstOf (turnGrounds state number turn (now (tape .entry)) (now (work .entry)) (now (buffer .entry))) ⌝ }
+{
     let mode = crate::modes::mode_of(state);
-    if crate::modes::is_asleep(mode) {
-        return Check::Refused(Refusal::Asleep);
-    }
-    if !crate::modes::in_job(mode) {
-        return Check::Refused(Refusal::NoJob);
-    }
-    Check::Passed
+    let job = job_check(mode);
+    let due = when(
+        job,
+        !crate::modes::is_due(mode, number, turn),
+        Refusal::Turn,
+    );
+    let ordered = tape_check(due, state, number, tape);
+    message_check(ordered, state.n, turn, work, buffer)
 }

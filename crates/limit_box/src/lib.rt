@@ -12,6 +12,7 @@ ghost use Rattle.rules.specs.Calls.{outcome, inPhase, xOf, yOf, wakeRule, start
 ghost use Rattle.rules.specs.declared.state.Answer.the-variants.{Refused};
 
 mod checks;
+mod grounds;
 mod modes;
 pub mod numbers;
 mod tally;

@@ -5,7 +5,7 @@ use rules::state::Turn;
 ghost use mathlib.Core.Path.{_≡_};
 ghost use mathlib.Core.Bool.{true};
 ghost use Rattle.field.specs.Width.{listed};
-ghost use Rattle.rules.specs.Modes.{roundOf, roundFits, phaseFits, modeOf, isAsleep, inJob, sameTurn, isDue};
+ghost use Rattle.rules.specs.Modes.{roundOf, roundFits, phaseFits, modeOf, sameTurn, isDue};
 ghost use Rattle.rules.specs.declared.state.Phase.the-variants.{Job};
 
 fn round_of(turn: Turn) -> u32
@@ -68,36 +68,6 @@ pub fn mode_of(state: State) -> Phase
         return phase;
     }
     Phase::Asleep
-}
-
-pub fn is_asleep(phase: Phase) -> bool
-    ensures { λ r. ⌜ r ≡ isAsleep phase ⌝ }
-{
-    match phase {
-        Phase::Asleep => true,
-        Phase::Idle => false,
-        Phase::Job {
-            turn: _,
-            number: _,
-            x: _,
-            y: _,
-        } => false,
-    }
-}
-
-pub fn in_job(phase: Phase) -> bool
-    ensures { λ r. ⌜ r ≡ inJob phase ⌝ }
-{
-    match phase {
-        Phase::Asleep => false,
-        Phase::Idle => false,
-        Phase::Job {
-            turn: _,
-            number: _,
-            x: _,
-            y: _,
-        } => true,
-    }
 }
 
 fn same_turn(turn: Turn, due: Turn) -> bool

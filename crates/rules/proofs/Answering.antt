@@ -1,9 +1,8 @@
 -- Demand 1 over the rules, proved: from what is refused (Refusals), what a call that goes on was given (Passed), and its moves (Moves).
-use Prim.Native.Nat.{ℕ, _<_, _≤_}
+use Prim.Native.Nat.{ℕ, _<_}
 use mathlib.Core.Path.{_≡_, refl, sym, ap, _∙_}
 use mathlib.Core.Bool.{Bool, true, false, cond, true≢false}
-use mathlib.Core.List.{List, [], _∷_, map}
-use mathlib.Core.Logic.{_⊎_, inl, inr}
+use mathlib.Core.List.{List, map}
 use native.Mathlib.Omega.{arith}
 use borrow.Author.Tests.{eqb-true, eqb-false}
 use lib.Dec.{eqb}
@@ -11,6 +10,7 @@ use lib.ListN.{length, getD}
 use lib.Seq.{getD-set-other}
 use Rattle.field.specs.Width.{listed}
 use Rattle.shares.specs.Side.{isSide}
+use Rattle.refusals.specs.Numbers.{numberOf}
 use Rattle.rules.specs.Tally.{tallyFits, tapesOf, isFresh, marked}
 use Rattle.rules.specs.Modes.{inRange, modeOf, isAsleep, inJob, asleepState}
 use Rattle.rules.specs.Grounds.{Ground, firstOf, wakeGround, startGround, speakGround, hearGround, dropGround}
@@ -20,6 +20,7 @@ use Rattle.rules.specs.Answering.{Opens, TakesJob, Answering}
 use Rattle.rules.specs.declared.state.Phase.the-variants.{Asleep}
 use Rattle.rules.specs.declared.state.State.{State}
 use Rattle.rules.proofs.Refusals.{tells, asleep-refuses, awake-refuses}
+use Rattle.rules.proofs.Chains.{first-most}
 use Rattle.rules.proofs.Marks.{marked-spent, marked-length}
 use Rattle.rules.proofs.Passed.{start-passed}
 use Rattle.rules.proofs.Moves.{woken, started-job, moves, keeps}
@@ -52,11 +53,6 @@ wakes s n side pair tally asleep width sided fits =
 
 -- ---- the numbers
 
--- one of the numbers, or 0
-abbrev OneOf : List ℕ → ℕ → Type 0
-OneOf [] k = k ≡ 0
-OneOf (number ∷ numbers) k = (k ≡ number) ⊎ OneOf numbers k
-
 -- the ground is the first of the call's
 first-is : (s : State) (call : Call) → groundOf s call ≡ firstOf (groundsOf s call)
 unfolding wakeGround startGround speakGround hearGround dropGround
@@ -66,43 +62,12 @@ first-is s (speak number round tape work out) = refl
 first-is s (hear number round tape work incoming) = refl
 first-is s drop = refl
 
-abbrev numbersOf : List Ground → List ℕ
-numbersOf gs = map (λ (g : Ground). g .number) gs
-
-pick-one : (t : Bool) (number rest : ℕ) (numbers : List ℕ) → OneOf numbers rest → OneOf (number ∷ numbers) (cond t number rest)
-pick-one true number rest numbers h = inl refl
-pick-one false number rest numbers h = inr h
-
-pick : (gs : List Ground) → OneOf (numbersOf gs) (firstOf gs)
-pick [] = refl
-pick (g ∷ gs) = pick-one (g .holds) (g .number) (firstOf gs) (numbersOf gs) (pick gs)
-
-order-is : (s : State) (call : Call) → numbersOf (groundsOf s call) ≡ orderOf call
+order-is : (s : State) (call : Call) → map (λ (g : Ground). numberOf (g .refusal)) (groundsOf s call) ≡ orderOf call
 order-is s (wake n side pair tally) = refl
 order-is s (start number x y tape work tally) = refl
 order-is s (speak number round tape work out) = refl
 order-is s (hear number round tape work incoming) = refl
 order-is s drop = refl
-
-one-of : (s : State) (call : Call) → OneOf (orderOf call) (groundOf s call)
-one-of s call = rw (first-is s call, sym (order-is s call)) (pick (groundsOf s call))
-
--- none of the numbers is above 13
-abbrev Low : List ℕ → Type 0
-Low [] = Unit {0}
-Low (number ∷ numbers) = (number ≤ 13) × Low numbers
-
-low : (numbers : List ℕ) (k : ℕ) → Low numbers → OneOf numbers k → k ≤ 13
-low [] k h e = omega (arith, e)
-low (number ∷ numbers) k h (inl e) = omega (arith, e, h .0)
-low (number ∷ numbers) k h (inr e) = low numbers k (h .1) e
-
-order-low : (call : Call) → Low (orderOf call)
-order-low (wake n side pair tally) = omega arith
-order-low (start number x y tape work tally) = omega arith
-order-low (speak number round tape work out) = omega arith
-order-low (hear number round tape work incoming) = omega arith
-order-low drop = omega arith
 
 -- ---- jobs
 
@@ -227,7 +192,7 @@ answering =
           λ s call. record {
             first = first-is s call;
             order = order-is s call;
-            numbered = low (orderOf call) (groundOf s call) (order-low call) (one-of s call);
+            numbered = rw (first-is s call) (first-most (groundsOf s call));
             answers = tells s call .answers;
             refuses = tells s call .refuses;
           };

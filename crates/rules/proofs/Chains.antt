@@ -1,12 +1,14 @@
--- Grounds in a chain: the first that holds counts, and 0 says that none does.
-use Prim.Native.Nat.{ℕ, _<_}
+-- Grounds in a chain: the first that holds counts, and 0 says that none does. The laws that join short lists of them.
+use Prim.Native.Nat.{ℕ, _<_, _≤_}
 use mathlib.Core.Path.{_≡_, refl}
 use mathlib.Core.Bool.{Bool, true, false, cond}
 use mathlib.Core.List.{List, [], _∷_, _++_}
 use native.Mathlib.Omega.{arith}
 use lib.Dec.{eqb}
 use borrow.Author.Tests.{eqb-true}
-use Rattle.rules.specs.Grounds.{Ground, firstOf}
+use Rattle.refusals.specs.Numbers.{numberOf, lastRefusal}
+use Rattle.refusals.proofs.Numbers.{numbered}
+use Rattle.rules.specs.Grounds.{Ground, firstOf, joined}
 use Rattle.rules.specs.Answers.{refused}
 use Rattle.rules.specs.Calls.{Result, unless}
 use Rattle.rules.specs.declared.state.State.{State}
@@ -16,48 +18,66 @@ abbrev pub None : List Ground → Type 0
 None [] = Unit {0}
 None (g ∷ gs) = (g .holds ≡ false) × None gs
 
--- their numbers are above 0, so 0 stands for none
-abbrev pub Numbered : List Ground → Type 0
-Numbered [] = Unit {0}
-Numbered (g ∷ gs) = (0 < g .number) × Numbered gs
+-- 0 stands for none, since a refusal's number is above 0
+pub pass : (g : Ground) (gs : List Ground) → firstOf (g ∷ gs) ≡ 0 → (g .holds ≡ false) × (firstOf gs ≡ 0)
+pass g gs e = go (g .holds) e
+  where
+    go : (t : Bool) → cond t (numberOf (g .refusal)) (firstOf gs) ≡ 0 → (t ≡ false) × (firstOf gs ≡ 0)
+    go true z = absurd (omega (arith, z, numbered (g .refusal) .0))
+    go false z = (refl, z)
 
-first-not : (t : Bool) (k rest : ℕ) → 0 < k → cond t k rest ≡ 0 → (t ≡ false) × (rest ≡ 0)
-first-not true k rest positive e = absurd (omega arith)
-first-not false k rest positive e = (refl, e)
+pub none : (gs : List Ground) → firstOf gs ≡ 0 → None gs
+none [] e = tt
+none (g ∷ gs) e =
+    let p = pass g gs e in
+    (p .0, none gs (p .1))
 
-pub pass : (g : Ground) (gs : List Ground) → 0 < g .number → firstOf (g ∷ gs) ≡ 0 → (g .holds ≡ false) × (firstOf gs ≡ 0)
-pass g gs positive e = first-not (g .holds) (g .number) (firstOf gs) positive e
+-- the numbers go to document 01's last
+pub first-most : (gs : List Ground) → firstOf gs ≤ lastRefusal
+first-most [] = omega arith
+first-most (g ∷ gs) = go (g .holds) (first-most gs)
+  where
+    go : (t : Bool) → firstOf gs ≤ lastRefusal → cond t (numberOf (g .refusal)) (firstOf gs) ≤ lastRefusal
+    go true later = numbered (g .refusal) .1
+    go false later = later
 
-pub none : (gs : List Ground) → Numbered gs → firstOf gs ≡ 0 → None gs
-none [] positive e = tt
-none (g ∷ gs) positive e =
-    let p = pass g gs (positive .0) e in
-    (p .0, none gs (positive .1) (p .1))
-
--- ---- grounds one after another
+-- ---- one list after another
 
 pub first-some : (gs hs : List Ground) (k : ℕ) → firstOf gs ≡ k → 0 < k → firstOf (gs ++ hs) ≡ k
 first-some [] hs k e positive = absurd (omega (arith, e))
 first-some (g ∷ gs) hs k e positive = go (g .holds) e (λ h. first-some gs hs k h positive)
   where
-    go : (t : Bool) → cond t (g .number) (firstOf gs) ≡ k → (firstOf gs ≡ k → firstOf (gs ++ hs) ≡ k)
-        → cond t (g .number) (firstOf (gs ++ hs)) ≡ k
+    go : (t : Bool) → cond t (numberOf (g .refusal)) (firstOf gs) ≡ k → (firstOf gs ≡ k → firstOf (gs ++ hs) ≡ k)
+        → cond t (numberOf (g .refusal)) (firstOf (gs ++ hs)) ≡ k
     go true h later = h
     go false h later = later h
 
-pub first-none : (gs hs : List Ground) → Numbered gs → firstOf gs ≡ 0 → firstOf (gs ++ hs) ≡ firstOf hs
-first-none [] hs positive e = refl
-first-none (g ∷ gs) hs positive e =
-    let p = pass g gs (positive .0) e in
-    rw (p .0) (first-none gs hs (positive .1) (p .1))
+pub first-none : (gs hs : List Ground) → firstOf gs ≡ 0 → firstOf (gs ++ hs) ≡ firstOf hs
+first-none [] hs e = refl
+first-none (g ∷ gs) hs e =
+    let p = pass g gs e in
+    rw (p .0) (first-none gs hs (p .1))
 
 -- none of both
-pub both-none : (gs hs : List Ground) → Numbered gs → firstOf (gs ++ hs) ≡ 0 → (firstOf gs ≡ 0) × (firstOf hs ≡ 0)
-both-none [] hs positive e = (refl, e)
-both-none (g ∷ gs) hs positive e =
-    let p = pass g (gs ++ hs) (positive .0) e in
-    let rest = both-none gs hs (positive .1) (p .1) in
+pub both-none : (gs hs : List Ground) → firstOf (gs ++ hs) ≡ 0 → (firstOf gs ≡ 0) × (firstOf hs ≡ 0)
+both-none [] hs e = (refl, e)
+both-none (g ∷ gs) hs e =
+    let p = pass g (gs ++ hs) e in
+    let rest = both-none gs hs (p .1) in
     (rw (p .0) (rest .0), rest .1)
+
+-- ---- lists joined
+
+-- none of their grounds holds
+abbrev pub Nones : List (List Ground) → Type 0
+Nones [] = Unit {0}
+Nones (gs ∷ parts) = None gs × Nones parts
+
+pub nones : (parts : List (List Ground)) → firstOf (joined parts) ≡ 0 → Nones parts
+nones [] e = tt
+nones (gs ∷ parts) e =
+    let both = both-none gs (joined parts) e in
+    (none gs (both .0), nones parts (both .1))
 
 -- refused, or not: what holds of a rule's result
 pub decide : (P : Result → Type 0) (k : ℕ) (s : State) (buffer : List ℕ) (ok : Result) → (k ≡ 0 → P ok)

@@ -141,7 +141,7 @@ hear-moves s number round tape work incoming z = go (eqb round lastRound) refl
 drop-moves : (s : State) → dropGround s ≡ 0 → Moves (s .n) (modeOf s) drop (dropRule s .reply) (modeOf (dropRule s .state))
 unfolding dropRule dropGround
 drop-moves s z =
-    let c = none (dropGrounds s) (omega arith) z in
+    let c = none (dropGrounds s) z in
     rw (z, phase-mode s Idle (awake-range s (c .0)) refl) (go (modeOf s) (not-false (inJob (modeOf s)) (c .1 .0)))
   where
     go : (p : Phase) → inJob p ≡ true → Moves (s .n) p drop dropped Idle

@@ -2,7 +2,7 @@
 use Prim.Native.Nat.{ℕ, _<_, _≤_}
 use mathlib.Core.Path.{_≡_, refl}
 use mathlib.Core.Bool.{Bool, true, false, not, _||_, true≢false}
-use mathlib.Core.List.{List, [], _∷_}
+use mathlib.Core.List.{List}
 use native.Mathlib.Omega.{arith}
 use lib.Dec.{eqb, leb, ltb}
 use lib.ListN.{length, getD, List·getD-eq-default}
@@ -17,18 +17,24 @@ use Rattle.protocol.specs.Work.{workLength}
 use Rattle.protocol.specs.Rounds.{roundWords}
 use Rattle.rules.specs.Tally.{tallyFits, tapesOf, isFresh}
 use Rattle.rules.specs.Modes.{modeOf, isAsleep, inJob, isDue}
-use Rattle.rules.specs.Grounds.{_when_, firstOf, turnGrounds, wordsFit, wakeGrounds, startGrounds, wakeGround, startGround, speakGround, hearGround}
+use Rattle.rules.specs.Grounds.{firstOf, idleGrounds, jobGrounds, messageFits, roomGrounds, wordGrounds, wordsFit, wakeGrounds, startParts, turnParts, turnGrounds, wakeGround, startGround, speakGround, hearGround}
 use Rattle.rules.specs.Calls.{xOf, yOf}
 use Rattle.rules.specs.declared.state.Turn.{Turn}
 use Rattle.rules.specs.declared.state.Turn.the-variants.{Speak, Hear}
 use Rattle.rules.specs.declared.state.State.{State}
-use Rattle.rules.proofs.Chains.{none, both-none}
-use Rattle.rules.proofs.Ranges.{Ranged, ranged, awake-range, Due, due-job, JobRange, due-range}
+use Rattle.rules.proofs.Chains.{None, none, both-none, nones}
+use Rattle.rules.proofs.Ranges.{Ranged, ranged, awake-range, awake-listed, Due, due-job, JobRange, due-range}
 
 both-true : (a b : Bool) → not a || not b ≡ false → (a ≡ true) × (b ≡ true)
 both-true true true e = (refl, refl)
 both-true true false e = absurd (true≢false e)
 both-true false b e = absurd (true≢false e)
+
+-- work has its room, and the call's other buffer fits
+room-passed : (n : ℕ) (work : List ℕ) (fits : Bool) → None (roomGrounds n work fits) → (workLength n ≤ length work) × (fits ≡ true)
+room-passed n work fits c =
+    let both = both-true (leb (workLength n) (length work)) fits (c .0) in
+    (leb-true (workLength n) (length work) (both .0), both .1)
 
 -- ---- wake
 
@@ -41,7 +47,7 @@ pub record WakePassed (s : State) (n side : ℕ) (tally : List ℕ) : Type 0 whe
 pub wake-passed : (s : State) (n side : ℕ) (tally : List ℕ) → wakeGround s n side tally ≡ 0 → WakePassed s n side tally
 unfolding wakeGround
 wake-passed s n side tally e =
-    let c = none (wakeGrounds s n side tally) (omega arith) e in
+    let c = none (wakeGrounds s n side tally) e in
     record {
       asleep = not-false (isAsleep (modeOf s)) (c .0);
       width = not-false (listed n) (c .1 .0);
@@ -69,19 +75,27 @@ pub start-passed : (s : State) (number x y : ℕ) (tape work tally : List ℕ) �
     → StartPassed s number x y tape work tally
 unfolding startGround
 start-passed s number x y tape work tally e =
-    let c = none (startGrounds s number x y tape work tally) (omega arith) e in
-    let shares = both-true (ltb x (modulus (s .n))) (ltb y (modulus (s .n))) (c .1 .1 .1 .1 .1 .0) in
+    let c = nones (startParts s number x y tape work tally) e in
+    let mark = c .1 .1 .0 in
+    let shares = both-true (ltb x (modulus (s .n))) (ltb y (modulus (s .n))) (c .1 .1 .1 .0 .0) in
     record {
-      awake = c .0;
-      idle = c .1 .0;
-      same-tally = eqb-true (length tally) (s .tally) (not-false (eqb (length tally) (s .tally)) (c .1 .1 .0));
-      numbered = ltb-true number (tapesOf (length tally)) (not-false (ltb number (tapesOf (length tally))) (c .1 .1 .1 .0));
-      fresh = not-false (isFresh tally number) (c .1 .1 .1 .1 .0);
+      awake = c .0 .0;
+      idle = c .0 .1 .0;
+      same-tally = eqb-true (length tally) (s .tally) (not-false (eqb (length tally) (s .tally)) (c .1 .0 .0));
+      numbered = ltb-true number (tapesOf (length tally)) (not-false (ltb number (tapesOf (length tally))) (mark .0));
+      fresh = not-false (isFresh tally number) (mark .1 .0);
       x-fits = ltb-true x (modulus (s .n)) (shares .0);
       y-fits = ltb-true y (modulus (s .n)) (shares .1);
-      ordered = not-false (inOrder (s .n) (s .pair) (s .side) number tape) (c .1 .1 .1 .1 .1 .1 .0);
-      room = leb-true (workLength (s .n)) (length work) (not-false (leb (workLength (s .n)) (length work)) (c .1 .1 .1 .1 .1 .1 .1 .0));
+      ordered = not-false (inOrder (s .n) (s .pair) (s .side) number tape) (c .1 .1 .1 .1 .0 .0);
+      room = room-passed (s .n) work true (c .1 .1 .1 .1 .1 .0) .0;
     }
+
+-- past the first grounds of a call, the state's width is listed
+pub idle-listed : (s : State) → firstOf (idleGrounds (modeOf s)) ≡ 0 → listed (s .n) ≡ true
+idle-listed s e = awake-listed s (none (idleGrounds (modeOf s)) e .0)
+
+pub job-listed : (s : State) → firstOf (jobGrounds (modeOf s)) ≡ 0 → listed (s .n) ≡ true
+job-listed s e = awake-listed s (none (jobGrounds (modeOf s)) e .0)
 
 -- ---- speak and hear
 
@@ -93,18 +107,21 @@ pub record TurnPassed (s : State) (number : ℕ) (turn : Turn) (tape : List ℕ)
   pub range : JobRange s turn (xOf (s .phase)) (yOf (s .phase))
   pub ordered : inOrder (s .n) (s .pair) (s .side) number tape ≡ true
 
-pub turn-passed : (s : State) (number : ℕ) (turn : Turn) (tape : List ℕ) → firstOf (turnGrounds s number turn tape) ≡ 0
-    → TurnPassed s number turn tape
-turn-passed s number turn tape e =
-    let c = none (turnGrounds s number turn tape) (omega arith) e in
-    let due = due-job s number turn (c .0) (not-false (isDue (modeOf s) number turn) (c .1 .1 .0)) in
-    record {
-      awake = c .0;
-      sound = ranged s (awake-range s (c .0));
-      due = due;
-      range = due-range s number turn (c .0) due;
-      ordered = not-false (inOrder (s .n) (s .pair) (s .side) number tape) (c .1 .1 .1 .0);
-    }
+pub turn-passed : (s : State) (number : ℕ) (turn : Turn) (tape work buffer : List ℕ) → firstOf (turnGrounds s number turn tape work buffer) ≡ 0
+    → TurnPassed s number turn tape × ((workLength (s .n) ≤ length work) × (messageFits (s .n) turn (length buffer) ≡ true))
+turn-passed s number turn tape work buffer e =
+    let c = nones (turnParts s number turn tape work buffer) e in
+    let awake = c .0 .0 in
+    let due = due-job s number turn awake (not-false (isDue (modeOf s) number turn) (c .1 .0 .0)) in (
+      record {
+        awake = awake;
+        sound = ranged s (awake-range s awake);
+        due = due;
+        range = due-range s number turn awake due;
+        ordered = not-false (inOrder (s .n) (s .pair) (s .side) number tape) (c .1 .1 .0 .0);
+      },
+      room-passed (s .n) work (messageFits (s .n) turn (length buffer)) (c .1 .1 .1 .0),
+    )
 
 pub record SpeakPassed (s : State) (number round : ℕ) (tape work out : List ℕ) : Type 0 where
   pub turn : TurnPassed s number (Speak round) tape
@@ -115,15 +132,8 @@ pub speak-passed : (s : State) (number round : ℕ) (tape work out : List ℕ) �
     → SpeakPassed s number round tape work out
 unfolding speakGround
 speak-passed s number round tape work out e =
-    let enough = leb (workLength (s .n)) (length work) in
-    let fits = leb (roundWords (s .n) round) (length out) in
-    let c = both-none (turnGrounds s number (Speak round) tape) ((12 when not enough || not fits) ∷ []) (omega arith) e in
-    let rooms = both-true enough fits (none ((12 when not enough || not fits) ∷ []) (omega arith) (c .1) .0) in
-    record {
-      turn = turn-passed s number (Speak round) tape (c .0);
-      room = leb-true (workLength (s .n)) (length work) (rooms .0);
-      out-room = leb-true (roundWords (s .n) round) (length out) (rooms .1);
-    }
+    let t = turn-passed s number (Speak round) tape work out e in
+    record { turn = t .0; room = t .1 .0; out-room = leb-true (roundWords (s .n) round) (length out) (t .1 .1) }
 
 pub record HearPassed (s : State) (number round : ℕ) (tape work incoming : List ℕ) : Type 0 where
   pub turn : TurnPassed s number (Hear round) tape
@@ -135,17 +145,13 @@ pub hear-passed : (s : State) (number round : ℕ) (tape work incoming : List �
     → HearPassed s number round tape work incoming
 unfolding hearGround
 hear-passed s number round tape work incoming e =
-    let enough = leb (workLength (s .n)) (length work) in
-    let fits = eqb (length incoming) (roundWords (s .n) round) in
-    let own = (12 when not enough || not fits) ∷ (13 when not (wordsFit (s .n) incoming)) ∷ [] in
-    let c = both-none (turnGrounds s number (Hear round) tape) own (omega arith) e in
-    let left = none own (omega arith) (c .1) in
-    let rooms = both-true enough fits (left .0) in
+    let c = both-none (turnGrounds s number (Hear round) tape work incoming) (wordGrounds (s .n) incoming) e in
+    let t = turn-passed s number (Hear round) tape work incoming (c .0) in
     record {
-      turn = turn-passed s number (Hear round) tape (c .0);
-      room = leb-true (workLength (s .n)) (length work) (rooms .0);
-      long = eqb-true (length incoming) (roundWords (s .n) round) (rooms .1);
-      words = not-false (wordsFit (s .n) incoming) (left .1 .0);
+      turn = t .0;
+      room = t .1 .0;
+      long = eqb-true (length incoming) (roundWords (s .n) round) (t .1 .1);
+      words = not-false (wordsFit (s .n) incoming) (none (wordGrounds (s .n) incoming) (c .1) .0);
     }
 
 -- a word past the end reads as 0

@@ -7,7 +7,7 @@ use lib.ListN.{length, getD}
 use Rattle.field.specs.Width.{listed}
 use Rattle.shares.specs.Side.{isSide}
 use Rattle.protocol.specs.Rounds.{lastRound, roundWords}
-use Rattle.refusals.specs.Numbers.{lastRefusal}
+use Rattle.refusals.specs.Numbers.{numberOf, lastRefusal}
 use Rattle.rules.specs.Answers.{Reply, fresh, started, spoke, heard, share, dropped, refused}
 use Rattle.rules.specs.Tally.{tallyFits, isFresh, freshCount}
 use Rattle.rules.specs.Modes.{inRange, modeOf, isAsleep, inJob, asleepState}
@@ -25,8 +25,8 @@ pub record Answered (s : State) (call : Call) : Type 0 where
   -- the ground is the first that holds of the call's grounds
   pub first : groundOf s call ≡ firstOf (groundsOf s call)
   -- these stand in document 01's order
-  pub order : map (λ (g : Ground). g .number) (groundsOf s call) ≡ orderOf call
-  -- it is one of the numbers of document 01, or 0
+  pub order : map (λ (g : Ground). numberOf (g .refusal)) (groundsOf s call) ≡ orderOf call
+  -- the numbers go to document 01's last
   pub numbered : groundOf s call ≤ lastRefusal
   -- where no ground holds, the reply is an answer
   pub answers : groundOf s call ≡ 0 → isRefused (resultOf s call .reply) ≡ false

@@ -1,19 +1,10 @@
--- `limit_box::checks::hear_check` meets its contract: the grounds of a turn, then its own.
-use mathlib.Core.Path.{_≡_, refl, sym, _∙_}
-use mathlib.Core.Bool.{true, not, _||_}
-use mathlib.Core.List.{List, [], _∷_}
-use native.Mathlib.Omega.{arith}
-use borrow.Author.Tests.{eq-eqb, ne-eqb, le-leb, lt-leb}
-use lib.Dec.{eqb, leb}
-use lib.ListN.{length}
-use Rattle.field.specs.Width.{listed}
-use Rattle.protocol.specs.Work.{workLength}
-use Rattle.protocol.specs.Rounds.{roundWords}
-use Rattle.rules.specs.Grounds.{Ground, _when_, firstOf, turnGrounds, hearGround, wordsFit}
+-- `limit_box::checks::hear_check` meets its contract: the grounds of a turn, then the words.
+use mathlib.Core.Path.{sym, _∙_}
+use mathlib.Core.List.{[], _∷_}
+use Rattle.rules.specs.Grounds.{turnGrounds, wordGrounds, hearGround}
 use Rattle.rules.proofs.Passed.{turn-passed}
-use Rattle.rules.proofs.Chains.{first-none}
 use Rattle.rules.specs.declared.state.Turn.the-variants.{Hear}
-use Rattle.limit_box.proofs.Outcomes.{refused-first, passed-ground}
+use Rattle.limit_box.proofs.Outcomes.{decides, decided, then}
 use borrow.Author.Needs.{needs}
 use Rattle.limit_box.proofs.checks.hear_check.Statement.{statement}
 use Rattle.limit_box.proofs.checks.hear_check.Tie as tie
@@ -21,106 +12,21 @@ use Rattle.limit_box.proofs.checks.hear_check.Tie as tie
 abbrev start : tie.After-turn-check → tie.Start
 start c = c .before .before .before .before
 
--- the grounds of its own
-abbrev own : tie.Start → List Ground
-own s =
-    let a = s .args in
-    (12 when not (leb (workLength (a .state .n)) (length (a .work .now))) || not (eqb (length (a .incoming .now)) (roundWords (a .state .n) (a .round))))
-    ∷ (13 when not (wordsFit (a .state .n) (a .incoming .now)))
-    ∷ []
-
--- the turn is due and its tape in order: its own grounds decide
-on-turn : (c : tie.After-enum-told)
-    → let a = start (c .before .before) .args in
-    firstOf (turnGrounds (a .state) (a .number) (Hear (a .round)) (a .tape .now)) ≡ 0
-on-turn c =
-    passed-ground _ _ (c .enum-told .given .1) (c .before .before .turn-check .ensures)
-
-goes : (c : tie.After-enum-told)
-    → let a = start (c .before .before) .args in
-    hearGround (a .state) (a .number) (a .round) (a .tape .now) (a .work .now) (a .incoming .now) ≡ firstOf (own (start (c .before .before)))
-unfolding hearGround
-goes c =
-    let a = start (c .before .before) .args in
-    first-none (turnGrounds (a .state) (a .number) (Hear (a .round)) (a .tape .now)) (own (start (c .before .before))) (omega arith) (on-turn c)
-
-width : (c : tie.After-enum-told) → listed (start (c .before .before) .args .state .n) ≡ true
-width c = let a = start (c .before .before) .args in turn-passed (a .state) (a .number) (Hear (a .round)) (a .tape .now) (on-turn c) .sound .width
-
--- whether work has room
-room : (c : tie.Else1)
-    → let a = start (c .before .before .before .before) .args in
-    leb (workLength (a .state .n)) (length (a .work .now)) ≡ true
-room c =
-    let a = start (c .before .before .before .before) .args in
-    le-leb (workLength (a .state .n)) (length (a .work .now)) (omega (arith, c .if1 .left, c .before .work-words .ensures))
-
-long : (c : tie.Else2)
-    → let a = start (c .before .before .before .before .before .before) .args in
-    eqb (length (a .incoming .now)) (roundWords (a .state .n) (a .round)) ≡ true
-long c = eq-eqb _ _ (c .if2 .left ∙ c .before .words-of .ensures)
-
 turn-check-requires : tie.Need-turn-check-requires
 turn-check-requires c κs = search needs
 
-enum-known-turn : tie.Need-enum-known-turn
-enum-known-turn c = search needs
-
-enum-told : tie.Need-enum-told
-enum-told c = search needs
-
-work-words-requires : tie.Need-work-words-requires
-work-words-requires c κs = search needs
+word-check-requires : tie.Need-word-check-requires
+word-check-requires c κs =
+    let a = start c .args in
+    λ zero. turn-passed (a .state) (a .number) (Hear (a .round)) (a .tape .now) (a .work .now) (a .incoming .now) (sym (c .turn-check .ensures) ∙ zero) .0 .sound .width
 
 returns : tie.Need-returns
-returns c =
-    let told = c .before .before in
-    let a = start (told .before .before) .args in
-    let short = lt-leb (workLength (a .state .n)) (length (a .work .now)) (omega (arith, c .if1 .taken, c .before .work-words .ensures)) in
-    rw (goes told, short) refl
-
-words-of-requires : tie.Need-words-of-requires
-words-of-requires c κs = width (c .before .before)
-
-returns-2 : tie.Need-returns-2
-returns-2 c =
-    let one = c .before .before in
-    rw (goes (one .before .before), room one, ne-eqb _ _ (λ e. c .if2 .taken (e ∙ sym (c .before .words-of .ensures)))) refl
-
-words-fit-requires : tie.Need-words-fit-requires
-words-fit-requires c κs = width (c .before .before .before .before)
-
-returns-3 : tie.Need-returns-3
-returns-3 c =
-    let two = c .before .before in
-    let one = two .before .before in
-    rw (goes (one .before .before), room one, long two, ← c .before .words-fit .ensures, c .if3 .taken) refl
-
-returns-4 : tie.Need-returns-4
 unfolding hearGround
-returns-4 c =
-    let call = c .before .before .before in
-    let a = start call .args in
-    refused-first _ _ (turnGrounds (a .state) (a .number) (Hear (a .round)) (a .tape .now)) (own (start call)) (c .before .turn .given .1) (call .turn-check .ensures)
-
-returns-5 : tie.Need-returns-5
-returns-5 c =
-    let two = c .before .before in
-    let one = two .before .before in
-    rw (goes (one .before .before), room one, long two, ← c .before .words-fit .ensures, c .if3 .left) refl
+returns c =
+    let turn = c .before in
+    let a = start turn .args in
+    decided {parts = turnGrounds (a .state) (a .number) (Hear (a .round)) (a .tape .now) (a .work .now) (a .incoming .now) ∷ wordGrounds (a .state .n) (a .incoming .now) ∷ []}
+    (then (turn .turn-check .result) (turn .turn-check .ensures) (decides (c .word-check .ensures)))
 
 pub hear-check-spec : {M : Type 1} → statement M
-hear-check-spec =
-    tie.close
-    (tie.spec
-    turn-check-requires
-    enum-known-turn
-    enum-told
-    work-words-requires
-    returns
-    words-of-requires
-    returns-2
-    words-fit-requires
-    returns-3
-    returns-4
-    returns-5)
+hear-check-spec = tie.close (tie.spec turn-check-requires word-check-requires returns)

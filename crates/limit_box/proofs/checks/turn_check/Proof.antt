@@ -1,78 +1,63 @@
--- `limit_box::checks::turn_check` meets its contract: the rule's grounds, in its order.
-use mathlib.Core.Path.{_≡_, refl}
-use mathlib.Core.Bool.{false, not}
-use Rattle.rules.specs.Modes.{modeOf, isAsleep, inJob, isDue}
+-- `limit_box::checks::turn_check` meets its contract: the lists of grounds, one after another.
+use mathlib.Core.Path.{_≡_, sym, _∙_}
+use Rattle.rules.specs.Modes.{modeOf}
+use Rattle.rules.specs.Grounds.{firstOf, jobGrounds, turnParts}
+use Rattle.rules.proofs.Passed.{job-listed}
+use Rattle.limit_box.specs.Checks.{groundOf}
+use Rattle.limit_box.proofs.Outcomes.{decides, decided, then, then-passed}
 use borrow.Author.Needs.{needs}
 use Rattle.limit_box.proofs.checks.turn_check.Statement.{statement}
 use Rattle.limit_box.proofs.checks.turn_check.Tie as tie
 
-abbrev start : tie.Else1 → tie.Start
-start c = c .before .before .before .before
+abbrev start : tie.After-job-check → tie.Start
+start c = c .before .before .before .before .before
 
--- what each test says where the call goes on
-awake : (c : tie.Else1) → isAsleep (modeOf (start c .args .state)) ≡ false
-awake c = rw (← c .before .before .mode-of .ensures, ← c .before .is-asleep .ensures) (c .if1 .left)
-
-busy : (c : tie.Else2) → not (inJob (modeOf (start (c .before .before) .args .state))) ≡ false
-busy c = rw (← c .before .before .before .before .mode-of .ensures, ← c .before .in-job .ensures) (c .if2 .left)
-
-due : (c : tie.Else3)
-    → let a = start (c .before .before .before .before) .args in
-    not (isDue (modeOf (a .state)) (a .number) (a .turn)) ≡ false
-due c = rw (← c .before .before .before .before .before .before .mode-of .ensures, ← c .before .is-due .ensures) (c .if3 .left)
+job : (c : tie.After-job-check) → groundOf (c .job-check .result) ≡ firstOf (jobGrounds (modeOf (start c .args .state)))
+job c = rw (← c .before .mode-of .ensures) (c .job-check .ensures)
 
 mode-of-requires : tie.Need-mode-of-requires
 mode-of-requires c κs = search needs
 
-is-asleep-requires : tie.Need-is-asleep-requires
-is-asleep-requires c κs = search needs
-
-returns : tie.Need-returns
-returns c = rw (← c .before .before .mode-of .ensures, ← c .before .is-asleep .ensures, c .if1 .taken) refl
-
-in-job-requires : tie.Need-in-job-requires
-in-job-requires c κs = search needs
-
-returns-2 : tie.Need-returns-2
-returns-2 c =
-    let one = c .before .before in
-    rw (awake one, ← one .before .before .mode-of .ensures, ← c .before .in-job .ensures, c .if2 .taken) refl
+job-check-requires : tie.Need-job-check-requires
+job-check-requires c κs = search needs
 
 is-due-requires : tie.Need-is-due-requires
 is-due-requires c κs = search needs
 
-returns-3 : tie.Need-returns-3
-returns-3 c =
-    let two = c .before .before in
-    let one = two .before .before in
-    rw (awake one, busy two, ← one .before .before .mode-of .ensures, ← c .before .is-due .ensures, c .if3 .taken) refl
+when-requires : tie.Need-when-requires
+when-requires c κs = search needs
 
-in-order-requires : tie.Need-in-order-requires
-in-order-requires c κs = search needs
+tape-check-requires : tie.Need-tape-check-requires
+tape-check-requires c κs = search needs
 
-returns-4 : tie.Need-returns-4
-returns-4 c =
-    let three = c .before .before in
-    let two = three .before .before in
-    rw (awake (two .before .before), busy two, due three, ← c .before .in-order .ensures, c .if4 .taken) refl
+message-check-requires : tie.Need-message-check-requires
+message-check-requires c κs =
+    let due = c .before in
+    let first = due .before .before in
+    λ zero.
+    let same = then-passed (due .when .result) _ _ (c .tape-check .ensures) zero in
+    job-listed (start first .args .state) (sym (job first) ∙ then-passed (first .job-check .result) _ _ (due .when .ensures) same)
 
-returns-5 : tie.Need-returns-5
-returns-5 c =
-    let three = c .before .before in
-    let two = three .before .before in
-    rw (awake (two .before .before), busy two, due three, ← c .before .in-order .ensures, c .if4 .left) refl
+returns : tie.Need-returns
+returns c =
+    let ordered = c .before in
+    let due = ordered .before in
+    let first = due .before .before in
+    let a = start first .args in
+    decided {parts = turnParts (a .state) (a .number) (a .turn) (a .tape .now) (a .work .now) (a .buffer .now)}
+    (then (first .job-check .result) (job first)
+    (then (due .when .result) (rw (← first .before .mode-of .ensures, ← due .before .is-due .ensures) (due .when .ensures))
+    (then (ordered .tape-check .result) (ordered .tape-check .ensures)
+    (decides (c .message-check .ensures)))))
 
 pub turn-check-spec : {M : Type 1} → statement M
 turn-check-spec =
     tie.close
     (tie.spec
     mode-of-requires
-    is-asleep-requires
-    returns
-    in-job-requires
-    returns-2
+    job-check-requires
     is-due-requires
-    returns-3
-    in-order-requires
-    returns-4
-    returns-5)
+    when-requires
+    tape-check-requires
+    message-check-requires
+    returns)

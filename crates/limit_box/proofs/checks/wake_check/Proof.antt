@@ -1,76 +1,57 @@
--- `limit_box::checks::wake_check` meets its contract: the rule's grounds, in its order.
-use mathlib.Core.Path.{_≡_, refl}
-use mathlib.Core.Bool.{false, not}
-use Rattle.field.specs.Width.{listed}
-use Rattle.shares.specs.Side.{isSide}
-use Rattle.rules.specs.Modes.{modeOf, isAsleep}
-use Rattle.rules.specs.Grounds.{wakeGround}
+-- `limit_box::checks::wake_check` meets its contract: the grounds, one after another.
+use Rattle.rules.specs.Grounds.{wakeGrounds, wakeGround}
+use Rattle.limit_box.proofs.Outcomes.{each, decides, decided, then}
 use borrow.Author.Needs.{needs}
 use Rattle.limit_box.proofs.checks.wake_check.Statement.{statement}
 use Rattle.limit_box.proofs.checks.wake_check.Tie as tie
 
--- what each test says where the call goes on
-asleep : (c : tie.Else1) → not (isAsleep (modeOf (c .before .before .before .before .args .state))) ≡ false
-asleep c = rw (← c .before .before .mode-of .ensures, ← c .before .is-asleep .ensures) (c .if1 .left)
-
-width : (c : tie.Else2) → not (listed (c .before .before .before .before .before .before .args .n)) ≡ false
-width c = rw (← c .before .is-listed .ensures) (c .if2 .left)
-
-box : (c : tie.Else3) → not (isSide (c .before .before .before .before .before .before .before .before .args .side)) ≡ false
-box c = rw (← c .before .is-side .ensures) (c .if3 .left)
-
 mode-of-requires : tie.Need-mode-of-requires
 mode-of-requires c κs = search needs
 
-is-asleep-requires : tie.Need-is-asleep-requires
-is-asleep-requires c κs = search needs
-
-returns : tie.Need-returns
-unfolding wakeGround
-returns c = rw (← c .before .before .mode-of .ensures, ← c .before .is-asleep .ensures, c .if1 .taken) refl
+asleep-check-requires : tie.Need-asleep-check-requires
+asleep-check-requires c κs = search needs
 
 is-listed-requires : tie.Need-is-listed-requires
 is-listed-requires c κs = search needs
 
-returns-2 : tie.Need-returns-2
-unfolding wakeGround
-returns-2 c = rw (asleep (c .before .before), ← c .before .is-listed .ensures, c .if2 .taken) refl
+when-requires : tie.Need-when-requires
+when-requires c κs = search needs
 
 is-side-requires : tie.Need-is-side-requires
 is-side-requires c κs = search needs
 
-returns-3 : tie.Need-returns-3
-unfolding wakeGround
-returns-3 c = let two = c .before .before in rw (asleep (two .before .before), width two, ← c .before .is-side .ensures, c .if3 .taken) refl
+when-requires-2 : tie.Need-when-requires-2
+when-requires-2 c κs = search needs
 
 tally-fits-requires : tie.Need-tally-fits-requires
 tally-fits-requires c κs = search needs
 
-returns-4 : tie.Need-returns-4
-unfolding wakeGround
-returns-4 c =
-    let three = c .before .before in
-    let two = three .before .before in
-    rw (asleep (two .before .before), width two, box three, ← c .before .tally-fits .ensures, c .if4 .taken) refl
+when-requires-3 : tie.Need-when-requires-3
+when-requires-3 c κs = search needs
 
-returns-5 : tie.Need-returns-5
+returns : tie.Need-returns
 unfolding wakeGround
-returns-5 c =
-    let three = c .before .before in
-    let two = three .before .before in
-    rw (asleep (two .before .before), width two, box three, ← c .before .tally-fits .ensures, c .if4 .left) refl
+returns c =
+    let own = c .before .before in
+    let width = own .before .before in
+    let first = width .before .before in
+    let a = first .before .before .before .args in
+    decided {parts = each (wakeGrounds (a .state) (a .n) (a .side) (a .tally .now))}
+    (then (first .asleep-check .result) (rw (← first .before .mode-of .ensures) (first .asleep-check .ensures))
+    (then (width .when .result) (rw (← width .before .is-listed .ensures) (width .when .ensures))
+    (then (own .when2 .result) (rw (← own .before .is-side .ensures) (own .when2 .ensures))
+    (decides (rw (← c .before .tally-fits .ensures) (c .when3 .ensures))))))
 
 pub wake-check-spec : {M : Type 1} → statement M
 wake-check-spec =
     tie.close
     (tie.spec
     mode-of-requires
-    is-asleep-requires
-    returns
+    asleep-check-requires
     is-listed-requires
-    returns-2
+    when-requires
     is-side-requires
-    returns-3
+    when-requires-2
     tally-fits-requires
-    returns-4
-    returns-5)
+    when-requires-3
+    returns)

@@ -1,4 +1,4 @@
--- `limit_box::checks::words_fit` meets its contract. The loop's invariant: the words passed are below p.
+-- `limit_box::grounds::words_fit` meets its contract. The loop's invariant: the words passed are below p.
 use Prim.Native.Nat.{ℕ, _-_, _<_, _≤_}
 use mathlib.Core.Path.{_≡_, sym, _∙_}
 use mathlib.Core.Bool.{true}
@@ -10,8 +10,8 @@ use lib.Dec.{ltb}
 use lib.ListN.{length, getD}
 use Rattle.lists.proofs.Every.{every-intro, every-fails}
 use Rattle.field.specs.Width.{modulus}
-use Rattle.limit_box.proofs.checks.words_fit.Statement.{statement}
-use Rattle.limit_box.proofs.checks.words_fit.Tie as tie
+use Rattle.limit_box.proofs.grounds.words_fit.Statement.{statement}
+use Rattle.limit_box.proofs.grounds.words_fit.Tie as tie
 
 abbrev Inv-loop : tie.InvT-loop
 Inv-loop n words i₀ i = (i ≤ length words) × ((k : ℕ) → k < i → ltb (getD words k 0) (modulus n) ≡ true)

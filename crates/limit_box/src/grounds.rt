@@ -1,0 +1,177 @@
+// What a call's checks look at, one thing after another: each hands an earlier refusal on.
+use crate::checks::Check;
+use refusals::Refusal;
+use rules::state::Phase;
+use rules::state::State;
+use rules::state::Turn;
+ghost use mathlib.Core.Path.{_≡_};
+ghost use mathlib.Core.Bool.{true, not};
+ghost use mathlib.Core.List.{[], _∷_};
+ghost use lib.ListN.{length};
+ghost use Rattle.field.specs.Width.{listed};
+ghost use Rattle.refusals.specs.declared.Refusal.the-variants.{Busy};
+ghost use Rattle.rules.specs.Modes.{isAsleep};
+ghost use Rattle.rules.specs.Grounds.{_when_, firstOf, wordsFit, messageFits};
+ghost use Rattle.rules.specs.Grounds.{idleGrounds, jobGrounds, markGrounds, shareGrounds, tapeGrounds, roomGrounds, wordGrounds};
+ghost use Rattle.limit_box.specs.Checks.{groundOf, thenGround};
+
+// One ground.
+pub fn when(earlier: Check, holds: bool, refusal: Refusal) -> Check
+    ensures { λ r. ⌜ groundOf r ≡ thenGround earlier (firstOf ((refusal when holds) ∷ [])) ⌝ }
+{
+    if let Check::Refused(first) = earlier {
+        return Check::Refused(first);
+    }
+    if holds {
+        return Check::Refused(refusal);
+    }
+    Check::Passed
+}
+
+// The box is asleep.
+pub fn asleep_check(mode: Phase) -> Check
+    ensures { λ r. ⌜ groundOf r ≡ firstOf ((Busy when not (isAsleep mode)) ∷ []) ⌝ }
+{
+    match mode {
+        Phase::Asleep => Check::Passed,
+        Phase::Idle => Check::Refused(Refusal::Busy),
+        Phase::Job {
+            turn: _,
+            number: _,
+            x: _,
+            y: _,
+        } => Check::Refused(Refusal::Busy),
+    }
+}
+
+// The box is awake and in no job.
+pub fn idle_check(mode: Phase) -> Check
+    ensures { λ r. ⌜ groundOf r ≡ firstOf (idleGrounds mode) ⌝ }
+{
+    match mode {
+        Phase::Asleep => Check::Refused(Refusal::Asleep),
+        Phase::Idle => Check::Passed,
+        Phase::Job {
+            turn: _,
+            number: _,
+            x: _,
+            y: _,
+        } => Check::Refused(Refusal::Busy),
+    }
+}
+
+// The box is in a job.
+pub fn job_check(mode: Phase) -> Check
+    ensures { λ r. ⌜ groundOf r ≡ firstOf (jobGrounds mode) ⌝ }
+{
+    match mode {
+        Phase::Asleep => Check::Refused(Refusal::Asleep),
+        Phase::Idle => Check::Refused(Refusal::NoJob),
+        Phase::Job {
+            turn: _,
+            number: _,
+            x: _,
+            y: _,
+        } => Check::Passed,
+    }
+}
+
+// The tape has a mark, and it is fresh.
+pub fn mark_check(earlier: Check, number: u32, tally: &[u8]) -> Check
+    ensures { λ r. ⌜ groundOf r ≡ thenGround earlier (firstOf (markGrounds number (now (tally .entry)))) ⌝ }
+{
+    if crate::tally::tapes_of(tally.len()) <= number as usize {
+        return when(earlier, true, Refusal::Number);
+    }
+    when(
+        earlier,
+        !crate::tally::is_fresh(tally, number as usize),
+        Refusal::Spent,
+    )
+}
+
+// Both shares are below p.
+pub fn share_check(earlier: Check, n: u32, x: u32, y: u32) -> Check
+    requires { ⌜ (groundOf earlier ≡ 0 → listed n ≡ true) ⌝ }
+    ensures { λ r. ⌜ groundOf r ≡ thenGround earlier (firstOf (shareGrounds n x y)) ⌝ }
+{
+    if let Check::Refused(refusal) = earlier {
+        return Check::Refused(refusal);
+    }
+    if !field::in_range(n, x) {
+        return Check::Refused(Refusal::Share);
+    }
+    when(earlier, !field::in_range(n, y), Refusal::Share)
+}
+
+// The lent tape is this job's, and in order.
+pub fn tape_check(earlier: Check, state: State, number: u32, tape: &[u32]) -> Check
+    ensures { λ r. ⌜ groundOf r ≡ thenGround earlier (firstOf (tapeGrounds state number (now (tape .entry)))) ⌝ }
+{
+    if let Check::Refused(refusal) = earlier {
+        return Check::Refused(refusal);
+    }
+    when(
+        earlier,
+        !tape::in_order(tape, state.n, state.pair, state.side, number),
+        Refusal::Tape,
+    )
+}
+
+// Work has its room, and the call's other buffer fits.
+pub fn room_check(earlier: Check, n: u32, work: &[u32], fits: bool) -> Check
+    ensures { λ r. ⌜ groundOf r ≡ thenGround earlier (firstOf (roomGrounds n (now (work .entry)) fits)) ⌝ }
+{
+    if work.len() < compare::words::work_words(n) {
+        return when(earlier, true, Refusal::Room);
+    }
+    when(earlier, !fits, Refusal::Room)
+}
+
+// The room of a speak or a hear: its other buffer is out or incoming.
+pub fn message_check(earlier: Check, n: u32, turn: Turn, work: &[u32], buffer: &[u32]) -> Check
+    requires { ⌜ (groundOf earlier ≡ 0 → listed n ≡ true) ⌝ }
+    ensures { λ r. ⌜ groundOf r ≡ thenGround earlier (firstOf (roomGrounds n (now (work .entry)) (messageFits n turn (length (now (buffer .entry)))))) ⌝ }
+{
+    if let Check::Refused(refusal) = earlier {
+        return Check::Refused(refusal);
+    }
+    room_check(earlier, n, work, message_fits(n, turn, buffer.len()))
+}
+
+// Out has room for the round's words, incoming has just as many.
+fn message_fits(n: u32, turn: Turn, length: usize) -> bool
+    requires { ⌜ listed n ≡ true ⌝ }
+    ensures { λ r. ⌜ r ≡ messageFits n turn length ⌝ }
+{
+    match turn {
+        Turn::Speak(round) => compare::words::words_of(n, round) <= length,
+        Turn::Hear(round) => length == compare::words::words_of(n, round),
+    }
+}
+
+// The incoming words are below p.
+pub fn word_check(earlier: Check, n: u32, incoming: &[u32]) -> Check
+    requires { ⌜ (groundOf earlier ≡ 0 → listed n ≡ true) ⌝ }
+    ensures { λ r. ⌜ groundOf r ≡ thenGround earlier (firstOf (wordGrounds n (now (incoming .entry)))) ⌝ }
+{
+    if let Check::Refused(refusal) = earlier {
+        return Check::Refused(refusal);
+    }
+    when(earlier, !words_fit(n, incoming), Refusal::Word)
+}
+
+// Whether every incoming word is below p. Reading ends at the first that is not.
+fn words_fit(n: u32, words: &[u32]) -> bool
+    requires { ⌜ listed n ≡ true ⌝ }
+    ensures { λ r. ⌜ r ≡ wordsFit n (now (words .entry)) ⌝ }
+{
+    let mut i = 0;
+    while i < words.len() {
+        if !field::in_range(n, words[i]) {
+            return false;
+        }
+        i += 1;
+    }
+    true
+}
