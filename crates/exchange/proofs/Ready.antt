@@ -1,7 +1,7 @@
 -- A box that is ready for a round: neither its speak nor its hear is refused, and after them it is ready for the next.
 use Prim.Native.Nat.{ℕ, _+_, _<_, _≤_}
 use mathlib.Core.Path.{_≡_, refl, ap, subst, _∙_}
-use mathlib.Core.Bool.{Bool, true, _&&_}
+use mathlib.Core.Bool.{true, false}
 use mathlib.Core.List.{List}
 use native.Mathlib.Omega.{arith}
 use borrow.Author.Tests.{eq-eqb, ne-eqb, le-leb}
@@ -15,38 +15,34 @@ use Rattle.protocol.specs.Rounds.{lastRound, roundWords, message, afterHearing,
 use Rattle.protocol.proofs.Lengths.{after-length}
 use Rattle.rules.specs.Answers.{spoke, share, replyOf}
 use Rattle.rules.specs.Tally.{tapesOf}
-use Rattle.rules.specs.Modes.{roundOf, roundFits, phaseFits, sameTurn}
+use Rattle.rules.specs.Modes.{roundOf, roundFits, modeOf, isAsleep, sameTurn}
 use Rattle.rules.specs.Grounds.{firstOf, wordsFit, messageFits, turnGrounds, speakGround, hearGround}
 use Rattle.rules.specs.Calls.{Result, outcome, inPhase, xOf, yOf, partyOf, turned, speakRule, hearRule}
-use Rattle.rules.proofs.Ranges.{ranged, range-mode}
+use Rattle.rules.proofs.Ranges.{ranged, range-mode, awake-range, job-range, turned-mode}
 use Rattle.rules.specs.declared.state.Turn.{Turn}
 use Rattle.rules.specs.declared.state.Turn.the-variants.{Speak, Hear}
 use Rattle.rules.specs.declared.state.Phase.{Phase}
 use Rattle.rules.specs.declared.state.State.{State}
 use Rattle.rules.specs.declared.state.Outcome.{Outcome}
 use Rattle.exchange.specs.Boxes.{Ready, heardAfter}
-use Rattle.exchange.proofs.Turned.{turned-x, turned-y, turned-twice, same-party, turned-ranged}
+use Rattle.exchange.proofs.Turned.{turned-x, turned-y, turned-twice, same-party}
 
 -- ---- a box with a turn due
 
-second-test : (a b c d : Bool) → a && b && c && d ≡ true → b ≡ true
-second-test a b c d e = and-right a b (and-left (a && b) c (and-left (a && b && c) d e))
-
 module _ {s : State} {number : ℕ} {turn : Turn} {tape work : List ℕ} (r : Ready s number turn tape work) where
+  ready-awake : isAsleep (modeOf s) ≡ false
+  ready-awake = ap isAsleep (range-mode s (r .ranged) ∙ r .job)
+
   -- its turn is of one of the six rounds
   ready-round : roundFits (roundOf turn) ≡ true
-  ready-round =
-      let x-fits = ltb (xOf (s .phase)) (modulus (s .n)) in
-      let y-fits = ltb (yOf (s .phase)) (modulus (s .n)) in
-      let all = subst (λ (p : Phase). phaseFits (s .n) (s .tally) p ≡ true) (r .job) (ranged s (r .ranged) .phased) in
-      second-test (ltb number (tapesOf (s .tally))) (roundFits (roundOf turn)) x-fits y-fits all
+  ready-round = job-range s (xOf (s .phase)) (yOf (s .phase)) ready-awake (r .job) .round-fits
 
   -- with another turn it is ready for that one
   ready-turned : (next : Turn) (work′ : List ℕ) → roundFits (roundOf next) ≡ true → workLength (s .n) ≤ length work′
       → Ready (inPhase s (turned (s .phase) next)) number next tape work′
   ready-turned next work′ fits room =
       record {
-        ranged = turned-ranged s next fits (r .ranged);
+        ranged = awake-range (inPhase s (turned (s .phase) next)) (ap isAsleep (turned-mode s next fits (r .ranged)) ∙ rw (r .job) refl);
         job = rw (r .job) refl;
         ordered = r .ordered;
         room = room;
