@@ -3,17 +3,14 @@ use Prim.Native.Nat.{ℕ, _%_}
 use mathlib.Core.Bool.{Bool, _&&_}
 use mathlib.Core.List.{List}
 use lib.Dec.{eqb}
-use lib.ListN.{replicate}
 use Rattle.tape.specs.Order.{inOrder}
 use Rattle.encoding.specs.Matching.{indicator}
-use Rattle.exchange.specs.Jobs.{Ended, lent, jobOf}
+use Rattle.exchange.specs.Jobs.{Ended}
+use Rattle.exchange.specs.Memory.{freshJob}
 
--- a job of pair 1 and tape number 0, with x = 2 + 1 and y + 1: each box has one fresh tape, and its work and out hold zeros
+-- a job of pair 1 and tape number 0, with x = 2 + 1 and y + 1, on one fresh tape of each box
 unfoldable pub jobAt : ℕ → ℕ → List ℕ → List ℕ → Ended
-jobAt n y t1 t2 =
-    jobOf n 1 0
-    (lent (record { x = 2; y = y }) t1 (replicate 436 0) (replicate 1 255) (replicate 2889 0))
-    (lent (record { x = 1; y = 1 }) t2 (replicate 436 0) (replicate 1 255) (replicate 2889 0))
+jobAt n y t1 t2 = freshJob n 1 0 (record { x = 2; y = y }) (record { x = 1; y = 1 }) t1 t2
 
 -- 1 if the job of a turn is not refused, and if it answers 1
 abbrev pub answeredAt : ℕ → List ℕ → List ℕ → ℕ → ℕ

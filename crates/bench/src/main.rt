@@ -23,13 +23,6 @@ fn sizes(n: u32)
     io::write_all(1, b" words\n");
 }
 
-// Zeros for the longest tape.
-fn blank() -> [u32; 9052]
-    ensures { λ r. ⌜ length r ≡ 9052 ⌝ }
-{
-    [0; 9052]
-}
-
 // On plain tapes.
 fn run(n: u32, count: u32, jobs: bool, t1: &mut [u32], t2: &mut [u32])
     requires { ⌜ (listed n ≡ true) × (length (now t1) ≡ tapeLength n) × (length (now t2) ≡ tapeLength n) ⌝ }
@@ -52,8 +45,8 @@ fn run(n: u32, count: u32, jobs: bool, t1: &mut [u32], t2: &mut [u32])
 fn often(n: u32, count: u32, jobs: bool)
     requires { ⌜ listed n ≡ true ⌝ }
 {
-    let mut t1 = blank();
-    let mut t2 = blank();
+    let mut t1 = exchange::memory::blank_tape();
+    let mut t2 = exchange::memory::blank_tape();
     let len = tape::tape_words(n);
     run(n, count, jobs, &mut t1[..len], &mut t2[..len]);
 }

@@ -3,7 +3,6 @@ use exchange::Shares;
 use exchange::Verdict;
 ghost use mathlib.Core.Path.{_≡_};
 ghost use Prim.Native.Nat.{_*_};
-ghost use lib.ListN.{replicate};
 ghost use Rattle.lists.specs.Tabulate.{sum};
 ghost use Rattle.tape.specs.Dealt.{Dealt};
 ghost use Rattle.encoding.specs.Matching.{indicator};
@@ -12,13 +11,6 @@ ghost use Rattle.bench.specs.Work.{jobAt, answeredAt, lessAt, bothInOrde
 const PAIR: u32 = 1;
 
 const NUMBER: u32 = 0;
-
-// Zeros for the longest message.
-fn message() -> [u32; 2889]
-    ensures { λ r. ⌜ r ≡ replicate 2889 0 ⌝ }
-{
-    [0; 2889]
-}
 
 // A test as a number.
 fn one_if(test: bool) -> u32
@@ -56,29 +48,9 @@ fn job(n: u32, y: u32, t1: &[u32], t2: &[u32]) -> Verdict
     ensures { λ r. ⌜ (r .refusal ≡ jobAt n y (now (t1 .entry)) (now (t2 .entry)) .refusal)
         × (r .less ≡ jobAt n y (now (t1 .entry)) (now (t2 .entry)) .less) ⌝ }
 {
-    let one = Shares { x: 2, y };
-    let two = Shares { x: 1, y: 1 };
-    let mut w1 = [0u32; 436];
-    let mut w2 = [0u32; 436];
-    let mut k1 = [255u8; 1];
-    let mut k2 = [255u8; 1];
-    let mut o1 = message();
-    let mut o2 = message();
-    exchange::less(
-        n,
-        PAIR,
-        NUMBER,
-        one,
-        two,
-        t1,
-        t2,
-        &mut w1,
-        &mut w2,
-        &mut k1,
-        &mut k2,
-        &mut o1,
-        &mut o2,
-    )
+    let box1 = Shares { x: 2, y };
+    let box2 = Shares { x: 1, y: 1 };
+    exchange::memory::fresh_job(n, PAIR, NUMBER, box1, box2, t1, t2)
 }
 
 // Checks of both tapes: how many found both in order.
@@ -99,10 +71,10 @@ fn check(n: u32, even: bool, t1: &[u32], t2: &[u32]) -> bool
     ensures { λ r. ⌜ r ≡ bothInOrder n (now (t1 .entry)) (now (t2 .entry)) ⌝ }
 {
     if even {
-        let one = tape::in_order(t1, n, PAIR, 1, NUMBER);
-        one && tape::in_order(t2, n, PAIR, 2, NUMBER)
+        let box1 = tape::in_order(t1, n, PAIR, 1, NUMBER);
+        box1 && tape::in_order(t2, n, PAIR, 2, NUMBER)
     } else {
-        let two = tape::in_order(t2, n, PAIR, 2, NUMBER);
-        two && tape::in_order(t1, n, PAIR, 1, NUMBER)
+        let box2 = tape::in_order(t2, n, PAIR, 2, NUMBER);
+        box2 && tape::in_order(t1, n, PAIR, 1, NUMBER)
     }
 }

@@ -9,28 +9,28 @@ use Rattle.protocol.specs.Rounds.{message, afterHearing, answerShare}
 use Rattle.protocol.specs.Exchange.{Both, exchanged, sentOwn, sentOthers, answerOwn, answerOthers}
 use Rattle.protocol.proofs.Below.{answer-below}
 
-module _ (b c : Party) (w : Both) where
+module _ (own other : Party) (w : Both) where
   -- one round more
-  pub more-own : (r : ℕ) → exchanged b c w (r + 1) .own ≡ afterHearing b (exchanged b c w r .own) (r + 1) (message c (exchanged b c w r .others) (r + 1))
+  pub more-own : (r : ℕ) → exchanged own other w (r + 1) .own ≡ afterHearing own (exchanged own other w r .own) (r + 1) (message other (exchanged own other w r .others) (r + 1))
   unfolding exchanged
   more-own r = rw (add-one r)
 
-  pub more-others : (r : ℕ) → exchanged b c w (r + 1) .others ≡ afterHearing c (exchanged b c w r .others) (r + 1) (message b (exchanged b c w r .own) (r + 1))
+  pub more-others : (r : ℕ) → exchanged own other w (r + 1) .others ≡ afterHearing other (exchanged own other w r .others) (r + 1) (message own (exchanged own other w r .own) (r + 1))
   unfolding exchanged
   more-others r = rw (add-one r)
 
   -- the last one
-  pub last-own : answerOwn b c w ≡ answerShare b (exchanged b c w 5 .own) (message c (exchanged b c w 5 .others) 6)
+  pub last-own : answerOwn own other w ≡ answerShare own (exchanged own other w 5 .own) (message other (exchanged own other w 5 .others) 6)
   unfolding answerOwn sentOthers
   last-own = refl
 
-  pub last-others : answerOthers b c w ≡ answerShare c (exchanged b c w 5 .others) (message b (exchanged b c w 5 .own) 6)
+  pub last-others : answerOthers own other w ≡ answerShare other (exchanged own other w 5 .others) (message own (exchanged own other w 5 .own) 6)
   unfolding answerOthers sentOwn
   last-others = refl
 
   -- the answer shares are below p
-  pub own-below : listed (b .n) ≡ true → answerOwn b c w < modulus (b .n)
-  own-below l = rw last-own (answer-below b l (exchanged b c w 5 .own) (message c (exchanged b c w 5 .others) 6))
+  pub own-below : listed (own .n) ≡ true → answerOwn own other w < modulus (own .n)
+  own-below l = rw last-own (answer-below own l (exchanged own other w 5 .own) (message other (exchanged own other w 5 .others) 6))
 
-  pub others-below : listed (c .n) ≡ true → answerOthers b c w < modulus (c .n)
-  others-below l = rw last-others (answer-below c l (exchanged b c w 5 .others) (message b (exchanged b c w 5 .own) 6))
+  pub others-below : listed (other .n) ≡ true → answerOthers own other w < modulus (other .n)
+  others-below l = rw last-others (answer-below other l (exchanged own other w 5 .others) (message own (exchanged own other w 5 .own) 6))

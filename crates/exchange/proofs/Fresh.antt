@@ -1,18 +1,22 @@
--- Two boxes at first, each with one fresh tape: which refusal a job of theirs gives first.
-use Prim.Native.Nat.{ℕ, _≤_}
+-- Two boxes at first, each with one fresh tape: which refusal a job of theirs gives first, and what it answers.
+use Prim.Native.Nat.{ℕ, _+_, _%_, _≤_}
 use mathlib.Core.Path.{_≡_, refl}
 use mathlib.Core.Bool.{Bool, true, false, _&&_, cond}
 use mathlib.Core.List.{List}
+use native.Mathlib.Omega.{arith}
 use borrow.Author.Tests.{le-leb}
 use lib.Dec.{eqb, leb, ltb}
-use lib.ListN.{length, replicate}
+use lib.ListN.{length, length-replicate}
 use Rattle.field.specs.Width.{listed, modulus}
+use Rattle.field.proofs.Widths.{bounds}
 use Rattle.shares.specs.Side.{isSide, other}
 use Rattle.tape.specs.Order.{inOrder}
 use Rattle.tape.specs.Dealt.{Dealt}
 use Rattle.tape.proofs.Dealing.{own-readable}
+use Rattle.encoding.specs.Matching.{indicator}
 use Rattle.protocol.specs.Work.{workLength}
 use Rattle.protocol.specs.Rounds.{roundWords}
+use Rattle.protocol.proofs.Lengths.{words-most}
 use Rattle.rules.specs.Tally.{tallyFits, tapesOf, isFresh, freshCount}
 use Rattle.rules.specs.Modes.{inRange, modeOf, isAsleep}
 use Rattle.rules.specs.Grounds.{wakeGround, startGround}
@@ -22,11 +26,9 @@ use Rattle.rules.specs.declared.state.Phase.the-variants.{Idle}
 use Rattle.rules.specs.declared.state.State.{State}
 use Rattle.exchange.specs.declared.Shares.{Shares}
 use Rattle.exchange.specs.Opening.{firstState, refusalOf, begun}
-use Rattle.exchange.specs.Jobs.{lent, jobRefusal}
-
--- one fresh tape
-abbrev pub oneFresh : List ℕ
-oneFresh = replicate 1 255
+use Rattle.exchange.specs.Jobs.{lent, jobRefusal, jobOf}
+use Rattle.exchange.specs.Memory.{oneFresh, blankWork, blankWords, freshLent, freshJob}
+use Rattle.exchange.proofs.Right.{job-answer}
 
 zero-unlisted : listed 0 ≡ false
 unfolding listed
@@ -70,7 +72,7 @@ module _ (n side pair x y : ℕ) (tape work : List ℕ) (width : listed n ≡ tr
   shares-decide = rw woken (share-test (ltb x (modulus n)) (ltb y (modulus n)) refl refl)
 
 -- box 1's refusal comes before box 2's
-abbrev nine : Bool → ℕ
+abbrev pub nine : Bool → ℕ
 nine fits = cond fits 0 9
 
 joined : (a b c : Bool) → cond (eqb (nine a) 0) (cond (eqb (nine (b && c)) 0) 0 (nine (b && c))) (nine a) ≡ nine (a && b && c)
@@ -79,24 +81,55 @@ joined true true false = refl
 joined true false c = refl
 joined false b c = refl
 
-module _ (n pair : ℕ) (one two : Shares) (t1 t2 w1 w2 o1 o2 : List ℕ) where
+module _ (n pair : ℕ) (box1 box2 : Shares) (t1 t2 w1 w2 o1 o2 : List ℕ) where
   -- 2: the width is not listed
-  pub width-refusal : listed n ≡ false → jobRefusal n pair 0 (lent one t1 w1 oneFresh o1) (lent two t2 w2 oneFresh o2) ≡ 2
+  pub width-refusal : listed n ≡ false → jobRefusal n pair 0 (lent box1 t1 w1 oneFresh o1) (lent box2 t2 w2 oneFresh o2) ≡ 2
   unfolding jobRefusal
-  width-refusal e = rw (unlisted n 1 pair (one .x) (one .y) t1 w1 e) refl
+  width-refusal e = rw (unlisted n 1 pair (box1 .x) (box1 .y) t1 w1 e) refl
 
   -- with tapes dealt by the rules and with room, only the shares can be wrong: 9
   pub share-refusal : Dealt n pair 0 t1 t2 → workLength n ≤ length w1 → workLength n ≤ length w2
       → roundWords n 1 ≤ length o1 → roundWords n 1 ≤ length o2
-      → jobRefusal n pair 0 (lent one t1 w1 oneFresh o1) (lent two t2 w2 oneFresh o2)
-      ≡ nine (ltb (one .x) (modulus n) && ltb (one .y) (modulus n) && ltb (two .x) (modulus n) && ltb (two .y) (modulus n))
+      → jobRefusal n pair 0 (lent box1 t1 w1 oneFresh o1) (lent box2 t2 w2 oneFresh o2)
+      ≡ nine (ltb (box1 .x) (modulus n) && ltb (box1 .y) (modulus n) && ltb (box2 .x) (modulus n) && ltb (box2 .y) (modulus n))
   unfolding jobRefusal isSide other
   share-refusal m room1 room2 out1 out2 =
       let width = own-readable m .width in
       rw (
-        shares-decide n 1 pair (one .x) (one .y) t1 w1 width refl (m .own-order) room1,
-        shares-decide n 2 pair (two .x) (two .y) t2 w2 width refl (m .others-order) room2,
+        shares-decide n 1 pair (box1 .x) (box1 .y) t1 w1 width refl (m .own-order) room1,
+        shares-decide n 2 pair (box2 .x) (box2 .y) t2 w2 width refl (m .others-order) room2,
         le-leb (roundWords n 1) (length o1) out1,
         le-leb (roundWords n 1) (length o2) out2,
       )
-      (joined (ltb (one .x) (modulus n) && ltb (one .y) (modulus n)) (ltb (two .x) (modulus n)) (ltb (two .y) (modulus n)))
+      (joined (ltb (box1 .x) (modulus n) && ltb (box1 .y) (modulus n)) (ltb (box2 .x) (modulus n)) (ltb (box2 .y) (modulus n)))
+
+-- ---- with memory for any width
+
+work-room : (n : ℕ) → listed n ≡ true → workLength n ≤ length blankWork
+unfolding blankWork
+work-room n width = omega (arith, bounds width, length-replicate {A = ℕ} 436 0)
+
+words-room : (n : ℕ) → listed n ≡ true → roundWords n 1 ≤ length blankWords
+unfolding blankWords
+words-room n width = omega (arith, words-most n 1 width, length-replicate {A = ℕ} 2889 0)
+
+module _ (n pair : ℕ) (box1 box2 : Shares) (t1 t2 : List ℕ) where
+  pub fresh-width-refusal : listed n ≡ false → freshJob n pair 0 box1 box2 t1 t2 .refusal ≡ 2
+  unfolding freshJob jobOf
+  fresh-width-refusal e = width-refusal n pair box1 box2 t1 t2 blankWork blankWork blankWords blankWords e
+
+  pub fresh-share-refusal : Dealt n pair 0 t1 t2
+      → freshJob n pair 0 box1 box2 t1 t2 .refusal
+      ≡ nine (ltb (box1 .x) (modulus n) && ltb (box1 .y) (modulus n) && ltb (box2 .x) (modulus n) && ltb (box2 .y) (modulus n))
+  unfolding freshJob jobOf
+  fresh-share-refusal m =
+      let width = own-readable m .width in
+      share-refusal n pair box1 box2 t1 t2 blankWork blankWork blankWords blankWords m
+      (work-room n width) (work-room n width) (words-room n width) (words-room n width)
+
+  -- on dealt tapes the answer is right, and 0 where the job is refused
+  pub fresh-answer : (freshJob n pair 0 box1 box2 t1 t2 .refusal ≡ 0 → Dealt n pair 0 t1 t2)
+      → freshJob n pair 0 box1 box2 t1 t2 .less
+      ≡ cond (eqb (freshJob n pair 0 box1 box2 t1 t2 .refusal) 0) (indicator (ltb ((box1 .x + box2 .x) % modulus n) ((box1 .y + box2 .y) % modulus n))) 0
+  unfolding freshJob jobOf
+  fresh-answer dealt = job-answer n pair 0 (freshLent box1 t1) (freshLent box2 t2) dealt

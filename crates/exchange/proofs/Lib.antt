@@ -1,9 +1,10 @@
 mod Turned
 pub mod Ready
 mod Told
-mod Course
-mod Exchanges
+pub mod Course
+pub mod Exchanges
 pub mod Begun
 pub mod Right
 mod Jobs
 pub mod Fresh
+pub mod Cut

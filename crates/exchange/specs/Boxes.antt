@@ -48,8 +48,8 @@ abbrev pub after : State → State → List ℕ → List ℕ → List ℕ → Li
 after s1 s2 t1 t2 w1 w2 = exchanged (partyOf s1 t1) (partyOf s2 t2) (works w1 w2)
 
 -- the answer shares of box 1 and of box 2, after all six
-abbrev pub answerOne : State → State → List ℕ → List ℕ → List ℕ → List ℕ → ℕ
-answerOne s1 s2 t1 t2 w1 w2 = answerOwn (partyOf s1 t1) (partyOf s2 t2) (works w1 w2)
+abbrev pub answer1 : State → State → List ℕ → List ℕ → List ℕ → List ℕ → ℕ
+answer1 s1 s2 t1 t2 w1 w2 = answerOwn (partyOf s1 t1) (partyOf s2 t2) (works w1 w2)
 
-abbrev pub answerTwo : State → State → List ℕ → List ℕ → List ℕ → List ℕ → ℕ
-answerTwo s1 s2 t1 t2 w1 w2 = answerOthers (partyOf s1 t1) (partyOf s2 t2) (works w1 w2)
+abbrev pub answer2 : State → State → List ℕ → List ℕ → List ℕ → List ℕ → ℕ
+answer2 s1 s2 t1 t2 w1 w2 = answerOthers (partyOf s1 t1) (partyOf s2 t2) (works w1 w2)

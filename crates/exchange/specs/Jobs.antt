@@ -11,7 +11,7 @@ use Rattle.rules.specs.declared.state.State.{State}
 use Rattle.exchange.specs.declared.Shares.{Shares}
 use Rattle.exchange.specs.declared.Verdict.{Verdict}
 use Rattle.exchange.specs.Opening.{refusalOf, begun}
-use Rattle.exchange.specs.Boxes.{answerOne, answerTwo}
+use Rattle.exchange.specs.Boxes.{answer1, answer2}
 
 -- a box's shares, and what it is lent for a job
 pub record Lent : Type 0 where
@@ -36,14 +36,14 @@ roomy n o1 o2 = leb (roundWords n 1) (length o1) && leb (roundWords n 1) (length
 
 -- the sum of the two answer shares
 abbrev pub answerSum : ℕ → State → State → List ℕ → List ℕ → List ℕ → List ℕ → ℕ
-answerSum n s1 s2 t1 t2 w1 w2 = (answerOne s1 s2 t1 t2 w1 w2 + answerTwo s1 s2 t1 t2 w1 w2) % modulus n
+answerSum n s1 s2 t1 t2 w1 w2 = (answer1 s1 s2 t1 t2 w1 w2 + answer2 s1 s2 t1 t2 w1 w2) % modulus n
 
 -- the number of the first refusal, 0 where there is none: box 1's wake and start, box 2's, then the first speaks, which want room (12)
 unfoldable pub jobRefusal : ℕ → ℕ → ℕ → Lent → Lent → ℕ
-jobRefusal n pair number one two =
-    let first = refusalOf (comes n 1 pair number one .reply) in
-    let second = refusalOf (comes n 2 pair number two .reply) in
-    cond (eqb first 0) (cond (eqb second 0) (cond (roomy n (one .out) (two .out)) 0 12) second) first
+jobRefusal n pair number box1 box2 =
+    let refusal1 = refusalOf (comes n 1 pair number box1 .reply) in
+    let refusal2 = refusalOf (comes n 2 pair number box2 .reply) in
+    cond (eqb refusal1 0) (cond (eqb refusal2 0) (cond (roomy n (box1 .out) (box2 .out)) 0 12) refusal2) refusal1
 
 -- what a job gives, and what it leaves in the tallies
 pub record Ended : Type 0 where
@@ -57,13 +57,13 @@ ended v k1 k2 = record { refusal = v .refusal; less = v .less; tally1 = k1; tall
 
 -- refused, it answers 0; and where box 1 is refused, box 2 does not come to the job
 unfoldable pub jobOf : ℕ → ℕ → ℕ → Lent → Lent → Ended
-jobOf n pair number one two =
-    let a = comes n 1 pair number one in
-    let b = comes n 2 pair number two in
-    let refusal = jobRefusal n pair number one two in
+jobOf n pair number box1 box2 =
+    let begun1 = comes n 1 pair number box1 in
+    let begun2 = comes n 2 pair number box2 in
+    let refusal = jobRefusal n pair number box1 box2 in
     record {
       refusal = refusal;
-      less = cond (eqb refusal 0) (answerSum n (a .state) (b .state) (one .tape) (two .tape) (one .work) (two .work)) 0;
-      tally1 = a .buffer;
-      tally2 = cond (eqb (refusalOf (a .reply)) 0) (b .buffer) (two .tally);
+      less = cond (eqb refusal 0) (answerSum n (begun1 .state) (begun2 .state) (box1 .tape) (box2 .tape) (box1 .work) (box2 .work)) 0;
+      tally1 = begun1 .buffer;
+      tally2 = cond (eqb (refusalOf (begun1 .reply)) 0) (begun2 .buffer) (box2 .tally);
     }

@@ -1,3 +1,4 @@
 pub mod Opening
 pub mod Boxes
 pub mod Jobs
+pub mod Memory

@@ -18,8 +18,10 @@ ghost use Rattle.rules.specs.Answers.{share, replyOf};
 ghost use Rattle.rules.specs.Calls.{outcome, partyOf};
 ghost use Rattle.rules.specs.declared.state.Turn.the-variants.{Speak};
 ghost use Rattle.exchange.specs.Opening.{firstState, refusalOf, shareOf, begun};
-ghost use Rattle.exchange.specs.Boxes.{Ready, heardAfter, answerOne, answerTwo};
+ghost use Rattle.exchange.specs.Boxes.{Ready, heardAfter, answer1, answer2};
 ghost use Rattle.exchange.specs.Jobs.{lent, roomy, answerSum, ended, jobOf};
+
+pub mod memory;
 
 // A box's shares of x and y.
 pub struct Shares {
@@ -29,14 +31,14 @@ pub struct Shares {
 
 // Both boxes' states.
 pub struct Boxes {
-    pub one: State,
-    pub two: State,
+    pub box1: State,
+    pub box2: State,
 }
 
 // What the two hears of a round gave.
 pub struct Heard {
-    pub one: Outcome,
-    pub two: Outcome,
+    pub box1: Outcome,
+    pub box2: Outcome,
 }
 
 // A box at first.
@@ -117,26 +119,26 @@ pub fn round(
     o1: &mut [u32],
     o2: &mut [u32],
 ) -> Heard
-    requires { ⌜ Ready (boxes .one) number (Speak round) (now t1) (now w1) × (roundWords (boxes .one .n) round ≤ length (now o1)) ⌝ }
-    requires { ⌜ Ready (boxes .two) number (Speak round) (now t2) (now w2) × (roundWords (boxes .two .n) round ≤ length (now o2)) ⌝ }
-    requires { ⌜ boxes .one .n ≡ boxes .two .n ⌝ }
-    ensures first { λ r. ⌜ (now (o1 .exit) ≡ sets (now (o1 .entry)) 0 (message (partyOf (boxes .one) (now (t1 .entry))) (now (w1 .entry)) round))
-        × (outcome (r .one) (now (w1 .exit))
-        ≡ heardAfter (boxes .one) (now (t1 .entry)) (now (w1 .entry)) round (message (partyOf (boxes .two) (now (t2 .entry))) (now (w2 .entry)) round)) ⌝ }
-    ensures second { λ r. ⌜ (now (o2 .exit) ≡ sets (now (o2 .entry)) 0 (message (partyOf (boxes .two) (now (t2 .entry))) (now (w2 .entry)) round))
-        × (outcome (r .two) (now (w2 .exit))
-        ≡ heardAfter (boxes .two) (now (t2 .entry)) (now (w2 .entry)) round (message (partyOf (boxes .one) (now (t1 .entry))) (now (w1 .entry)) round)) ⌝ }
+    requires { ⌜ Ready (boxes .box1) number (Speak round) (now t1) (now w1) × (roundWords (boxes .box1 .n) round ≤ length (now o1)) ⌝ }
+    requires { ⌜ Ready (boxes .box2) number (Speak round) (now t2) (now w2) × (roundWords (boxes .box2 .n) round ≤ length (now o2)) ⌝ }
+    requires { ⌜ boxes .box1 .n ≡ boxes .box2 .n ⌝ }
+    ensures box1 { λ r. ⌜ (now (o1 .exit) ≡ sets (now (o1 .entry)) 0 (message (partyOf (boxes .box1) (now (t1 .entry))) (now (w1 .entry)) round))
+        × (outcome (r .box1) (now (w1 .exit))
+        ≡ heardAfter (boxes .box1) (now (t1 .entry)) (now (w1 .entry)) round (message (partyOf (boxes .box2) (now (t2 .entry))) (now (w2 .entry)) round)) ⌝ }
+    ensures box2 { λ r. ⌜ (now (o2 .exit) ≡ sets (now (o2 .entry)) 0 (message (partyOf (boxes .box2) (now (t2 .entry))) (now (w2 .entry)) round))
+        × (outcome (r .box2) (now (w2 .exit))
+        ≡ heardAfter (boxes .box2) (now (t2 .entry)) (now (w2 .entry)) round (message (partyOf (boxes .box1) (now (t1 .entry))) (now (w1 .entry)) round)) ⌝ }
 {
-    let s1 = boxes.one;
-    let s2 = boxes.two;
+    let s1 = boxes.box1;
+    let s2 = boxes.box2;
     let words = compare::words::words_of(s1.n, round);
-    let a = limit_box::speak(s1, number, round, t1, &*w1, &mut *o1);
-    let b = limit_box::speak(s2, number, round, t2, &*w2, &mut *o2);
-    let s3 = a.state;
-    let s4 = b.state;
-    let one = limit_box::hear(s3, number, round, t1, w1, &o2[..words]);
-    let two = limit_box::hear(s4, number, round, t2, w2, &o1[..words]);
-    Heard { one, two }
+    let spoken1 = limit_box::speak(s1, number, round, t1, &*w1, &mut *o1);
+    let spoken2 = limit_box::speak(s2, number, round, t2, &*w2, &mut *o2);
+    let due1 = spoken1.state;
+    let due2 = spoken2.state;
+    let box1 = limit_box::hear(due1, number, round, t1, w1, &o2[..words]);
+    let box2 = limit_box::hear(due2, number, round, t2, w2, &o1[..words]);
+    Heard { box1, box2 }
 }
 
 // All six rounds, from whatever work holds: what the last two hears gave.
@@ -150,13 +152,13 @@ fn answers(
     o1: &mut [u32],
     o2: &mut [u32],
 ) -> Heard
-    requires { ⌜ Ready (boxes .one) number (Speak 1) (now t1) (now w1) × (roundWords (boxes .one .n) 1 ≤ length (now o1)) ⌝ }
-    requires { ⌜ Ready (boxes .two) number (Speak 1) (now t2) (now w2) × (roundWords (boxes .two .n) 1 ≤ length (now o2)) ⌝ }
-    requires { ⌜ boxes .one .n ≡ boxes .two .n ⌝ }
-    ensures first { λ r. ⌜ replyOf (r .one .answer)
-        ≡ share (answerOne (boxes .one) (boxes .two) (now (t1 .entry)) (now (t2 .entry)) (now (w1 .entry)) (now (w2 .entry))) ⌝ }
-    ensures second { λ r. ⌜ replyOf (r .two .answer)
-        ≡ share (answerTwo (boxes .one) (boxes .two) (now (t1 .entry)) (now (t2 .entry)) (now (w1 .entry)) (now (w2 .entry))) ⌝ }
+    requires { ⌜ Ready (boxes .box1) number (Speak 1) (now t1) (now w1) × (roundWords (boxes .box1 .n) 1 ≤ length (now o1)) ⌝ }
+    requires { ⌜ Ready (boxes .box2) number (Speak 1) (now t2) (now w2) × (roundWords (boxes .box2 .n) 1 ≤ length (now o2)) ⌝ }
+    requires { ⌜ boxes .box1 .n ≡ boxes .box2 .n ⌝ }
+    ensures box1 { λ r. ⌜ replyOf (r .box1 .answer)
+        ≡ share (answer1 (boxes .box1) (boxes .box2) (now (t1 .entry)) (now (t2 .entry)) (now (w1 .entry)) (now (w2 .entry))) ⌝ }
+    ensures box2 { λ r. ⌜ replyOf (r .box2 .answer)
+        ≡ share (answer2 (boxes .box1) (boxes .box2) (now (t1 .entry)) (now (t2 .entry)) (now (w1 .entry)) (now (w2 .entry))) ⌝ }
 {
     let mut due = boxes;
     let mut heard: u32 = 0;
@@ -172,11 +174,11 @@ fn answers(
             &mut *o1,
             &mut *o2,
         );
-        let a = r.one;
-        let b = r.two;
-        let one = a.state;
-        let two = b.state;
-        due = Boxes { one, two };
+        let heard1 = r.box1;
+        let heard2 = r.box2;
+        let box1 = heard1.state;
+        let box2 = heard2.state;
+        due = Boxes { box1, box2 };
         heard += 1;
     }
     round(number, 6, due, t1, t2, w1, w2, o1, o2)
@@ -193,8 +195,8 @@ pub fn less(
     n: u32,
     pair: u32,
     number: u32,
-    one: Shares,
-    two: Shares,
+    box1: Shares,
+    box2: Shares,
     t1: &[u32],
     t2: &[u32],
     w1: &mut [u32],
@@ -205,29 +207,29 @@ pub fn less(
     o2: &mut [u32],
 ) -> Verdict
     ensures { λ r. ⌜ ended r (now (k1 .exit)) (now (k2 .exit))
-        ≡ jobOf n pair number (lent one (now (t1 .entry)) (now (w1 .entry)) (now (k1 .entry)) (now (o1 .entry)))
-        (lent two (now (t2 .entry)) (now (w2 .entry)) (now (k2 .entry)) (now (o2 .entry))) ⌝ }
+        ≡ jobOf n pair number (lent box1 (now (t1 .entry)) (now (w1 .entry)) (now (k1 .entry)) (now (o1 .entry)))
+        (lent box2 (now (t2 .entry)) (now (w2 .entry)) (now (k2 .entry)) (now (o2 .entry))) ⌝ }
     ensures right { λ r. ⌜ (r .refusal ≡ 0 → Dealt n pair number (now (t1 .entry)) (now (t2 .entry))
-        → r .less ≡ indicator (ltb ((one .x + two .x) % modulus n) ((one .y + two .y) % modulus n))) ⌝ }
+        → r .less ≡ indicator (ltb ((box1 .x + box2 .x) % modulus n) ((box1 .y + box2 .y) % modulus n))) ⌝ }
 {
-    let a = begin(n, 1, pair, number, one, t1, &*w1, k1);
-    let first = a.answer;
-    let refused = refusal_of(first);
+    let begun1 = begin(n, 1, pair, number, box1, t1, &*w1, k1);
+    let answer1 = begun1.answer;
+    let refused = refusal_of(answer1);
     if refused != 0 {
         return Verdict {
             refusal: refused,
             less: 0,
         };
     }
-    let b = begin(n, 2, pair, number, two, t2, &*w2, k2);
-    let second = b.answer;
-    let refusal = refusal_of(second);
+    let begun2 = begin(n, 2, pair, number, box2, t2, &*w2, k2);
+    let answer2 = begun2.answer;
+    let refusal = refusal_of(answer2);
     if refusal != 0 {
         return Verdict { refusal, less: 0 };
     }
-    let s1 = a.state;
-    let s2 = b.state;
-    let boxes = Boxes { one: s1, two: s2 };
+    let s1 = begun1.state;
+    let s2 = begun2.state;
+    let boxes = Boxes { box1: s1, box2: s2 };
     opened(n, number, boxes, t1, t2, w1, w2, o1, o2)
 }
 
@@ -252,11 +254,11 @@ fn opened(
     o1: &mut [u32],
     o2: &mut [u32],
 ) -> Verdict
-    requires { ⌜ Ready (boxes .one) number (Speak 1) (now t1) (now w1) × Ready (boxes .two) number (Speak 1) (now t2) (now w2) ⌝ }
-    requires { ⌜ (boxes .one .n ≡ n) × (boxes .two .n ≡ n) ⌝ }
+    requires { ⌜ Ready (boxes .box1) number (Speak 1) (now t1) (now w1) × Ready (boxes .box2) number (Speak 1) (now t2) (now w2) ⌝ }
+    requires { ⌜ (boxes .box1 .n ≡ n) × (boxes .box2 .n ≡ n) ⌝ }
     ensures { λ r. ⌜ (r .refusal ≡ cond (roomy n (now (o1 .entry)) (now (o2 .entry))) 0 12)
         × (r .less ≡ cond (roomy n (now (o1 .entry)) (now (o2 .entry)))
-        (answerSum n (boxes .one) (boxes .two) (now (t1 .entry)) (now (t2 .entry)) (now (w1 .entry)) (now (w2 .entry))) 0) ⌝ }
+        (answerSum n (boxes .box1) (boxes .box2) (now (t1 .entry)) (now (t2 .entry)) (now (w1 .entry)) (now (w2 .entry))) 0) ⌝ }
 {
     if !has_room(n, &*o1, &*o2) {
         return Verdict {
@@ -265,12 +267,12 @@ fn opened(
         };
     }
     let last = answers(number, boxes, t1, t2, w1, w2, o1, o2);
-    let a = last.one;
-    let b = last.two;
-    let first = a.answer;
-    let second = b.answer;
+    let heard1 = last.box1;
+    let heard2 = last.box2;
+    let answer1 = heard1.answer;
+    let answer2 = heard2.answer;
     Verdict {
         refusal: 0,
-        less: field::add(n, share_of(first), share_of(second)),
+        less: field::add(n, share_of(answer1), share_of(answer2)),
     }
 }

@@ -6,7 +6,6 @@ use mathlib.Core.List.{List}
 use native.Mathlib.Omega.{arith}
 use borrow.Author.Tests.{lt-ltb, eq-eqb, ne-eqb}
 use lib.Dec.{eqb}
-use lib.ListN.{replicate}
 use Rattle.lists.proofs.Sums.{sum-equal}
 use Rattle.lists.proofs.Tests.{and-both}
 use Rattle.field.specs.Width.{listed, modulus}
@@ -16,38 +15,35 @@ use Rattle.tape.proofs.Plains.{plain-dealt}
 use Rattle.encoding.specs.Matching.{indicator}
 use Rattle.exchange.specs.declared.Shares.{Shares}
 use Rattle.exchange.specs.declared.Verdict.{Verdict}
-use Rattle.exchange.specs.Jobs.{lent, ended, jobOf, jobRefusal}
-use Rattle.exchange.proofs.Fresh.{share-refusal}
-use Rattle.exchange.proofs.Right.{job-right}
+use Rattle.exchange.proofs.Fresh.{fresh-share-refusal, fresh-answer}
 use Rattle.exhaustive.specs.Inputs.{comparison, jobAt, agreesAt, rightAt, rightOf, plainAt, plainRight}
 use Rattle.exhaustive.proofs.Small.{small, first-below, second-below}
 
 -- ---- from what a job gave
 
-module _ (n : ℕ) (one two : Shares) (t1 t2 : List ℕ) (v : Verdict) (k1 k2 : List ℕ) (e : ended v k1 k2 ≡ jobAt n one two t1 t2) where
-  pub refused-disagrees : (v .refusal ≡ 0 → ⊥) → false ≡ agreesAt n one two t1 t2
+module _ (n : ℕ) (box1 box2 : Shares) (t1 t2 : List ℕ) (v : Verdict)
+    (e : (v .refusal ≡ jobAt n box1 box2 t1 t2 .refusal) × (v .less ≡ jobAt n box1 box2 t1 t2 .less)) where
+  pub refused-disagrees : (v .refusal ≡ 0 → ⊥) → false ≡ agreesAt n box1 box2 t1 t2
   unfolding agreesAt
-  refused-disagrees some = rw (← e, ne-eqb (v .refusal) 0 some)
+  refused-disagrees some = rw (← e .0, ne-eqb (v .refusal) 0 some)
 
-  pub taken-agrees : v .refusal ≡ 0 → (less : ℕ) → less ≡ comparison (modulus n) one two → eqb (v .less) less ≡ agreesAt n one two t1 t2
+  pub taken-agrees : v .refusal ≡ 0 → (less : ℕ) → less ≡ comparison (modulus n) box1 box2 → eqb (v .less) less ≡ agreesAt n box1 box2 t1 t2
   unfolding agreesAt
-  taken-agrees none less told = rw (← e, none, ← told)
+  taken-agrees none less told = rw (← e .0, ← e .1, none, ← told)
 
 -- ---- on tapes dealt by the rules
 
 module _ (n : ℕ) (width : listed n ≡ true) (most : n ≤ 5) where
   module _ (t1 t2 : List ℕ) (m : Dealt n 7 0 t1 t2) where
-    pub dealt-agrees : (one two : Shares) → one .x < modulus n → one .y < modulus n → two .x < modulus n → two .y < modulus n
-        → agreesAt n one two t1 t2 ≡ true
-    unfolding agreesAt jobOf
-    dealt-agrees one two lx1 ly1 lx2 ly2 =
-        let words = small width most refl .words in
-        let own = lent one t1 (replicate 124 0) (replicate 1 255) (replicate 81 0) in
-        let others = lent two t2 (replicate 124 0) (replicate 1 255) (replicate 81 0) in
-        let taken : jobRefusal n 7 0 own others ≡ 0 =
-        share-refusal n 7 one two t1 t2 (replicate 124 0) (replicate 124 0) (replicate 81 0) (replicate 81 0) m (omega (arith, most)) (omega (arith, most)) words words
-        ∙ rw (lt-ltb _ _ lx1, lt-ltb _ _ ly1, lt-ltb _ _ lx2, lt-ltb _ _ ly2) refl in
-        and-both (eq-eqb _ 0 taken) (eq-eqb _ _ (job-right n 7 0 own others taken m))
+    pub dealt-agrees : (box1 box2 : Shares) → box1 .x < modulus n → box1 .y < modulus n → box2 .x < modulus n → box2 .y < modulus n
+        → agreesAt n box1 box2 t1 t2 ≡ true
+    unfolding agreesAt
+    dealt-agrees box1 box2 lx1 ly1 lx2 ly2 =
+        let taken : jobAt n box1 box2 t1 t2 .refusal ≡ 0 =
+        fresh-share-refusal n 7 box1 box2 t1 t2 m ∙ rw (lt-ltb _ _ lx1, lt-ltb _ _ ly1, lt-ltb _ _ lx2, lt-ltb _ _ ly2) refl in
+        let right : jobAt n box1 box2 t1 t2 .less ≡ comparison (modulus n) box1 box2 =
+        fresh-answer n 7 box1 box2 t1 t2 (λ none. m) ∙ rw taken refl in
+        and-both (eq-eqb _ 0 taken) (eq-eqb _ _ right)
 
     pub dealt-all : (x1 x2 : ℕ) → x1 < modulus n → x2 < modulus n → rightOf n x1 x2 t1 t2 ≡ modulus n * modulus n
     unfolding rightOf

@@ -1,4 +1,4 @@
--- The widths that are run whole: how small p, the tapes and the buffers are, and the shares that an input's number gives.
+-- The widths that are run whole: how small p is, and the shares that an input's number gives.
 use Prim.Native.Nat.{ℕ, _+_, _*_, _/_, _%_, _^_, _<_, _≤_}
 use mathlib.Core.Bool.{true}
 use mathlib.Core.Path.{_≡_, subst}
@@ -7,29 +7,22 @@ use native.Mathlib.Omega.{arith}
 use lib.Pow.{pow-mono}
 use Rattle.field.specs.Width.{listed, modulus}
 use Rattle.field.proofs.Widths.{bounds}
-use Rattle.tape.specs.Layout.{tapeLength}
-use Rattle.protocol.specs.Rounds.{roundWords}
 
-pub record Small (n p : ℕ) : Type 0 where
+pub record Small (p : ℕ) : Type 0 where
   pub some : 0 < p
   pub few : p ≤ 31
   pub pairs : p * p ≤ 961
-  pub tape : tapeLength n ≤ 316
-  pub words : roundWords n 1 ≤ 81
 
-pub small : {n p : ℕ} → listed n ≡ true → n ≤ 5 → p ≡ modulus n → Small n p
-unfolding modulus roundWords
+pub small : {n p : ℕ} → listed n ≡ true → n ≤ 5 → p ≡ modulus n → Small p
+unfolding modulus
 small {n} {p} l most e =
     let b = bounds l in
     let power : 2 ^ n ≤ 2 ^ 5 = pow-mono most in
     let few : p ≤ 31 = omega (arith, b .power) in
-    let square : n * n ≤ 25 = mul-le-mul most most in
     record {
       some = omega (arith, b .seven);
       few = few;
       pairs = mul-le-mul few few;
-      tape = omega arith;
-      words = omega arith;
     }
 
 -- a count of at most p * p in each of at most p * p turns

@@ -13,46 +13,26 @@ ghost use Rattle.tape.specs.Plain.{plainTape};
 ghost use Rattle.exhaustive.specs.Inputs.{comparison, agreesAt, rightOf, plainRight};
 
 // The ordinary comparison.
-fn expected(p: u32, one: Shares, two: Shares) -> u32
-    requires { ⌜ (p ≤ 31) × (one .x < p) × (one .y < p) × (two .x < p) × (two .y < p) ⌝ }
-    ensures { λ r. ⌜ r ≡ comparison p one two ⌝ }
+fn expected(p: u32, box1: Shares, box2: Shares) -> u32
+    requires { ⌜ (p ≤ 31) × (box1 .x < p) × (box1 .y < p) × (box2 .x < p) × (box2 .y < p) ⌝ }
+    ensures { λ r. ⌜ r ≡ comparison p box1 box2 ⌝ }
 {
-    let x = (one.x + two.x) % p;
-    let y = (one.y + two.y) % p;
+    let x = (box1.x + box2.x) % p;
+    let y = (box1.y + box2.y) % p;
     if x < y { 1 } else { 0 }
 }
 
 // Whether the boxes take the job and answer as an ordinary comparison does. Each box has one fresh tape.
-fn agrees(n: u32, one: Shares, two: Shares, t1: &[u32], t2: &[u32]) -> bool
+fn agrees(n: u32, box1: Shares, box2: Shares, t1: &[u32], t2: &[u32]) -> bool
     requires { ⌜ (listed n ≡ true) × (n ≤ 5) ⌝ }
-    requires { ⌜ (one .x < modulus n) × (one .y < modulus n) × (two .x < modulus n) × (two .y < modulus n) ⌝ }
-    ensures { λ r. ⌜ r ≡ agreesAt n one two (now (t1 .entry)) (now (t2 .entry)) ⌝ }
+    requires { ⌜ (box1 .x < modulus n) × (box1 .y < modulus n) × (box2 .x < modulus n) × (box2 .y < modulus n) ⌝ }
+    ensures { λ r. ⌜ r ≡ agreesAt n box1 box2 (now (t1 .entry)) (now (t2 .entry)) ⌝ }
 {
-    let mut w1 = [0u32; 124];
-    let mut w2 = [0u32; 124];
-    let mut k1 = [255u8; 1];
-    let mut k2 = [255u8; 1];
-    let mut o1 = [0u32; 81];
-    let mut o2 = [0u32; 81];
-    let r = exchange::less(
-        n,
-        PAIR,
-        NUMBER,
-        one,
-        two,
-        t1,
-        t2,
-        &mut w1,
-        &mut w2,
-        &mut k1,
-        &mut k2,
-        &mut o1,
-        &mut o2,
-    );
+    let r = exchange::memory::fresh_job(n, PAIR, NUMBER, box1, box2, t1, t2);
     if r.refusal != 0 {
         return false;
     }
-    r.less == expected(field::modulus_of(n), one, two)
+    r.less == expected(field::modulus_of(n), box1, box2)
 }
 
 // All y1 and y2, with one pair of tapes.
@@ -66,9 +46,9 @@ fn right_of(n: u32, x1: u32, x2: u32, t1: &[u32], t2: &[u32]) -> u64
     let mut right: u64 = 0;
     let mut i = 0;
     while i < p * p {
-        let one = Shares { x: x1, y: i / p };
-        let two = Shares { x: x2, y: i % p };
-        if agrees(n, one, two, t1, t2) {
+        let box1 = Shares { x: x1, y: i / p };
+        let box2 = Shares { x: x2, y: i % p };
+        if agrees(n, box1, box2, t1, t2) {
             right += 1;
         }
         i += 1;

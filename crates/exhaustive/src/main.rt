@@ -2,24 +2,16 @@
 ghost use mathlib.Core.Path.{_≡_};
 ghost use mathlib.Core.Bool.{true};
 ghost use Prim.Native.Nat.{_≤_};
-ghost use lib.ListN.{length};
 ghost use Rattle.field.specs.Width.{listed};
 
 mod inputs;
 mod random;
 
-// Zeros for the tape of width 5.
-fn blank() -> [u32; 316]
-    ensures { λ r. ⌜ length r ≡ 316 ⌝ }
-{
-    [0; 316]
-}
-
 fn run(name: &[u8], n: u32, plain: bool, all: u64)
     requires { ⌜ (listed n ≡ true) × (n ≤ 5) ⌝ }
 {
-    let mut t1 = blank();
-    let mut t2 = blank();
+    let mut t1 = exchange::memory::blank_tape();
+    let mut t2 = exchange::memory::blank_tape();
     let len = tape::tape_words(n);
     let right = inputs::right(n, plain, &mut t1[..len], &mut t2[..len]);
     io::write_all(1, name);

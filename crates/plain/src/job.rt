@@ -1,4 +1,4 @@
-// Both boxes of a job in one memory, on the plain tapes. A width is at most 13 here, so the buffers are short.
+// Both boxes of a job in one memory, on the plain tapes.
 use exchange::Shares;
 use exchange::Verdict;
 ghost use mathlib.Core.Path.{_≡_};
@@ -14,64 +14,37 @@ const PAIR: u32 = 1;
 
 const NUMBER: u32 = 0;
 
-// Each box has one fresh tape, and room for any width to 13.
-fn on_tapes(n: u32, one: Shares, two: Shares, t1: &[u32], t2: &[u32]) -> Verdict
+// Each box has one fresh tape.
+fn on_tapes(n: u32, box1: Shares, box2: Shares, t1: &[u32], t2: &[u32]) -> Verdict
     requires { ⌜ (n ≤ 13) × (listed n ≡ true → (now t1 ≡ plainTape n 1 1 0) × (now t2 ≡ plainTape n 1 2 0)) ⌝ }
-    ensures { λ r. ⌜ (r .refusal ≡ plainRefusal n (one .x) (two .x) (one .y) (two .y))
-        × (r .less ≡ plainAnswer n (one .x) (two .x) (one .y) (two .y)) ⌝ }
+    ensures { λ r. ⌜ (r .refusal ≡ plainRefusal n (box1 .x) (box2 .x) (box1 .y) (box2 .y))
+        × (r .less ≡ plainAnswer n (box1 .x) (box2 .x) (box1 .y) (box2 .y)) ⌝ }
 {
-    let mut w1 = [0u32; 220];
-    let mut w2 = [0u32; 220];
-    let mut k1 = [255u8; 1];
-    let mut k2 = [255u8; 1];
-    let mut o1 = [0u32; 513];
-    let mut o2 = [0u32; 513];
-    exchange::less(
-        n,
-        PAIR,
-        NUMBER,
-        one,
-        two,
-        t1,
-        t2,
-        &mut w1,
-        &mut w2,
-        &mut k1,
-        &mut k2,
-        &mut o1,
-        &mut o2,
-    )
-}
-
-// Zeros for the longest tape.
-fn blank() -> [u32; 1708]
-    ensures { λ r. ⌜ length r ≡ 1708 ⌝ }
-{
-    [0; 1708]
+    exchange::memory::fresh_job(n, PAIR, NUMBER, box1, box2, t1, t2)
 }
 
 // On plain tapes of a listed width.
-fn dealt(n: u32, one: Shares, two: Shares, t1: &mut [u32], t2: &mut [u32]) -> Verdict
+fn dealt(n: u32, box1: Shares, box2: Shares, t1: &mut [u32], t2: &mut [u32]) -> Verdict
     requires { ⌜ (n ≤ 13) × (listed n ≡ true) × (length (now t1) ≡ tapeLength n) × (length (now t2) ≡ tapeLength n) ⌝ }
-    ensures { λ r. ⌜ (r .refusal ≡ plainRefusal n (one .x) (two .x) (one .y) (two .y))
-        × (r .less ≡ plainAnswer n (one .x) (two .x) (one .y) (two .y)) ⌝ }
+    ensures { λ r. ⌜ (r .refusal ≡ plainRefusal n (box1 .x) (box2 .x) (box1 .y) (box2 .y))
+        × (r .less ≡ plainAnswer n (box1 .x) (box2 .x) (box1 .y) (box2 .y)) ⌝ }
 {
     dealer::plain(n, PAIR, 1, NUMBER, &mut *t1);
     dealer::plain(n, PAIR, 2, NUMBER, &mut *t2);
-    on_tapes(n, one, two, &*t1, &*t2)
+    on_tapes(n, box1, box2, &*t1, &*t2)
 }
 
 // No tape is dealt for a width that is not listed: the boxes refuse it when they wake.
-pub fn verdict(n: u32, one: Shares, two: Shares) -> Verdict
+pub fn verdict(n: u32, box1: Shares, box2: Shares) -> Verdict
     requires { ⌜ n ≤ 13 ⌝ }
-    ensures { λ r. ⌜ (r .refusal ≡ plainRefusal n (one .x) (two .x) (one .y) (two .y))
-        × (r .less ≡ plainAnswer n (one .x) (two .x) (one .y) (two .y)) ⌝ }
+    ensures { λ r. ⌜ (r .refusal ≡ plainRefusal n (box1 .x) (box2 .x) (box1 .y) (box2 .y))
+        × (r .less ≡ plainAnswer n (box1 .x) (box2 .x) (box1 .y) (box2 .y)) ⌝ }
 {
-    let mut t1 = blank();
-    let mut t2 = blank();
+    let mut t1 = exchange::memory::blank_tape();
+    let mut t2 = exchange::memory::blank_tape();
     if !field::is_listed(n) {
-        return on_tapes(n, one, two, &t1, &t2);
+        return on_tapes(n, box1, box2, &t1, &t2);
     }
     let len = tape::tape_words(n);
-    dealt(n, one, two, &mut t1[..len], &mut t2[..len])
+    dealt(n, box1, box2, &mut t1[..len], &mut t2[..len])
 }

@@ -23,15 +23,15 @@ pub fn answer(text: &[u8], out: &mut [u8]) -> usize
     if 13 < n {
         return text::put_refused(2, out);
     }
-    let one = Shares {
+    let box1 = Shares {
         x: numbers[1],
         y: numbers[3],
     };
-    let two = Shares {
+    let box2 = Shares {
         x: numbers[2],
         y: numbers[4],
     };
-    let verdict = job::verdict(n, one, two);
+    let verdict = job::verdict(n, box1, box2);
     if verdict.refusal != 0 {
         return text::put_refused(verdict.refusal, out);
     }

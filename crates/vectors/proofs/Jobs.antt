@@ -15,9 +15,10 @@ use Rattle.rules.specs.Calls.{Result, outcome}
 use Rattle.rules.specs.declared.state.Outcome.{Outcome}
 use Rattle.exchange.specs.Opening.{refusalOf, begun}
 use Rattle.exchange.specs.Boxes.{works}
+use Rattle.exchange.specs.Memory.{blankWork}
 use Rattle.vectors.specs.declared.numbers.Cursor.{Cursor}
 use Rattle.vectors.specs.Numbers.{numbersFrom, readTo, spelled}
-use Rattle.vectors.specs.Job.{transcript, blankWork, unusedTally, comes, jobTold, tapesTold, agreed}
+use Rattle.vectors.specs.Job.{transcript, unusedTally, comes, jobTold, tapesTold, agreed}
 
 -- a box that came to the job, with the number of its refusal
 pub begun-comes : (n side pair number x y : ℕ) (tape work tally : List ℕ) (a : Outcome) (tally′ : List ℕ) (k : ℕ)
@@ -28,45 +29,45 @@ begun-comes n side pair number x y tape work tally a tally′ k w t e refusal =
     ap (λ (j : ℕ). eqb j 0) (sym (refusal ∙ ap (λ (r : Result). refusalOf (r .reply)) (e ∙ same)))
 
 -- of the same boxes and work
-pub told-same : (text : List ℕ) (from : ℕ) {p q b c : Party} {w1 w2 v1 v2 : List ℕ} → p ≡ b → q ≡ c → w1 ≡ v1 → w2 ≡ v2
-    → spelled text from (transcript p q (works w1 w2)) .ok ≡ spelled text from (transcript b c (works v1 v2)) .ok
-told-same text from one two first second = rw (one, two, first, second)
+pub told-same : (text : List ℕ) (from : ℕ) {p1 p2 q1 q2 : Party} {w1 w2 v1 v2 : List ℕ} → p1 ≡ q1 → p2 ≡ q2 → w1 ≡ v1 → w2 ≡ v2
+    → spelled text from (transcript p1 p2 (works w1 w2)) .ok ≡ spelled text from (transcript q1 q2 (works v1 v2)) .ok
+told-same text from party1 party2 work1 work2 = rw (party1, party2, work1, work2)
 
 module _ (text : List ℕ) (from n pair number x1 y1 x2 y2 : ℕ) where
   module _ (t1 t2 : List ℕ) where
-    pub job-first : comes n 1 pair number x1 y1 t1 ≡ false → false ≡ jobTold text from n pair number x1 y1 x2 y2 t1 t2
+    pub job-box1 : comes n 1 pair number x1 y1 t1 ≡ false → false ≡ jobTold text from n pair number x1 y1 x2 y2 t1 t2
     unfolding jobTold
-    job-first e = rw e
+    job-box1 e = rw e
 
-    pub job-second : comes n 2 pair number x2 y2 t2 ≡ false → false ≡ jobTold text from n pair number x1 y1 x2 y2 t1 t2
+    pub job-box2 : comes n 2 pair number x2 y2 t2 ≡ false → false ≡ jobTold text from n pair number x1 y1 x2 y2 t1 t2
     unfolding jobTold
-    job-second e = rw (and-false (comes n 1 pair number x1 y1 t1) e)
+    job-box2 e = rw (and-false (comes n 1 pair number x1 y1 t1) e)
 
     pub job-told : comes n 1 pair number x1 y1 t1 ≡ true → comes n 2 pair number x2 y2 t2 ≡ true
         → spelled text from (transcript (party n 1 x1 y1 t1) (party n 2 x2 y2 t2) (works blankWork blankWork)) .ok ≡ jobTold text from n pair number x1 y1 x2 y2 t1 t2
     unfolding jobTold
-    job-told one two = rw (one, two)
+    job-told came1 came2 = rw (came1, came2)
 
   pub tapes-unlisted : listed n ≡ false → false ≡ tapesTold text from n pair number x1 y1 x2 y2
   unfolding tapesTold
   tapes-unlisted e = rw e
 
-  -- c and d read the two tapes
-  module _ (c : Cursor) (first : c ≡ readTo (tapeLength n) text from) where
-    pub tapes-first : c .ok ≡ false → false ≡ tapesTold text from n pair number x1 y1 x2 y2
+  -- r1 and r2 read the two tapes
+  module _ (r1 : Cursor) (told1 : r1 ≡ readTo (tapeLength n) text from) where
+    pub tapes-box1 : r1 .ok ≡ false → false ≡ tapesTold text from n pair number x1 y1 x2 y2
     unfolding tapesTold
-    tapes-first e = rw (← first, and-false (listed n) e)
+    tapes-box1 e = rw (← told1, and-false (listed n) e)
 
-    module _ (d : Cursor) (second : d ≡ readTo (tapeLength n) text (c .at)) where
-      pub tapes-second : d .ok ≡ false → false ≡ tapesTold text from n pair number x1 y1 x2 y2
+    module _ (r2 : Cursor) (told2 : r2 ≡ readTo (tapeLength n) text (r1 .at)) where
+      pub tapes-box2 : r2 .ok ≡ false → false ≡ tapesTold text from n pair number x1 y1 x2 y2
       unfolding tapesTold
-      tapes-second e = rw (← first, ← second, and-false (listed n && c .ok) e)
+      tapes-box2 e = rw (← told1, ← told2, and-false (listed n && r1 .ok) e)
 
-      pub tapes-told : listed n ≡ true → c .ok ≡ true → d .ok ≡ true
-          → jobTold text (d .at) n pair number x1 y1 x2 y2 (numbersFrom (tapeLength n) text from) (numbersFrom (tapeLength n) text (c .at))
+      pub tapes-told : listed n ≡ true → r1 .ok ≡ true → r2 .ok ≡ true
+          → jobTold text (r2 .at) n pair number x1 y1 x2 y2 (numbersFrom (tapeLength n) text from) (numbersFrom (tapeLength n) text (r1 .at))
           ≡ tapesTold text from n pair number x1 y1 x2 y2
       unfolding tapesTold
-      tapes-told width one two = rw (← first, ← second, width, one, two)
+      tapes-told width ok1 ok2 = rw (← told1, ← told2, width, ok1, ok2)
 
 -- c read the seven numbers at the front
 module _ (w : ℕ) (text : List ℕ) (c : Cursor) (head : c ≡ readTo 7 text 0) where

@@ -2,5 +2,4 @@ pub mod Examples
 pub mod Runs
 pub mod Readings
 pub mod Told
-pub mod Course
 pub mod Jobs

@@ -20,15 +20,15 @@ use Rattle.vectors.proofs.Readings.{spelled-both, spelled-first}
 abbrev pub upTo : ℕ → Cursor
 upTo at = record { at = at; ok = true }
 
-module _ (text : List ℕ) (from : ℕ) (b c : Party) (w : Both) where
+module _ (text : List ℕ) (from : ℕ) (box1 box2 : Party) (w : Both) where
   abbrev pub read : ℕ → Cursor
-  read k = spelled text from (messagesTo b c w k)
+  read k = spelled text from (messagesTo box1 box2 w k)
 
   -- what fails once fails for good
   fails-more : (k : ℕ) → read k .ok ≡ false → read (suc k) .ok ≡ false
   unfolding messagesTo
   fails-more k none =
-      ap (λ (d : Cursor). d .ok) (spelled-first text from (messagesTo b c w k) (messages b c (exchanged b c w k) (suc k)) (read k) refl none) ∙ none
+      ap (λ (d : Cursor). d .ok) (spelled-first text from (messagesTo box1 box2 w k) (messages box1 box2 (exchanged box1 box2 w k) (suc k)) (read k) refl none) ∙ none
 
   fails-to : (m k : ℕ) → k ≤ m → read k .ok ≡ false → read m .ok ≡ false
   fails-to zero k h e = let none : k ≡ 0 = omega arith in subst (λ (j : ℕ). read j .ok ≡ false) none e
@@ -39,20 +39,20 @@ module _ (text : List ℕ) (from : ℕ) (b c : Party) (w : Both) where
       (cases (leb k m))
 
   abbrev answers : List ℕ
-  answers = answerOwn b c w ∷ answerOthers b c w ∷ []
+  answers = answerOwn box1 box2 w ∷ answerOthers box1 box2 w ∷ []
 
   -- one round more, of which the cursor d tells
-  module _ (k at : ℕ) (so-far : upTo at ≡ read k) (d : Cursor) (is : d ≡ spelled text at (messages b c (exchanged b c w k) (k + 1))) where
+  module _ (k at : ℕ) (so-far : upTo at ≡ read k) (d : Cursor) (is : d ≡ spelled text at (messages box1 box2 (exchanged box1 box2 w k) (k + 1))) where
     pub told-more : d ≡ read (k + 1)
     unfolding messagesTo
     told-more =
-        is ∙ rw (add-one k) (sym (spelled-both text from (messagesTo b c w k) (messages b c (exchanged b c w k) (suc k)) (upTo at) so-far refl))
+        is ∙ rw (add-one k) (sym (spelled-both text from (messagesTo box1 box2 w k) (messages box1 box2 (exchanged box1 box2 w k) (suc k)) (upTo at) so-far refl))
 
-    pub told-fails : k < 6 → d .ok ≡ false → false ≡ spelled text from (transcript b c w) .ok
+    pub told-fails : k < 6 → d .ok ≡ false → false ≡ spelled text from (transcript box1 box2 w) .ok
     told-fails less none =
         let fails = fails-to 6 (k + 1) (omega (arith, less)) (ap (λ (e : Cursor). e .ok) (sym told-more) ∙ none) in
-        sym (ap (λ (e : Cursor). e .ok) (spelled-first text from (messagesTo b c w 6) answers (read 6) refl fails) ∙ fails)
+        sym (ap (λ (e : Cursor). e .ok) (spelled-first text from (messagesTo box1 box2 w 6) answers (read 6) refl fails) ∙ fails)
 
   -- after the last, the answer shares decide
-  pub told-last : (at : ℕ) → upTo at ≡ read 6 → spelled text at answers ≡ spelled text from (transcript b c w)
-  told-last at so-far = sym (spelled-both text from (messagesTo b c w 6) answers (upTo at) so-far refl)
+  pub told-last : (at : ℕ) → upTo at ≡ read 6 → spelled text at answers ≡ spelled text from (transcript box1 box2 w)
+  told-last at so-far = sym (spelled-both text from (messagesTo box1 box2 w 6) answers (upTo at) so-far refl)

@@ -8,6 +8,6 @@ use Rattle.exchange.specs.Boxes.{Ready}
 
 -- both are ready to speak in that round, and have one width
 pub record Due (number round : ℕ) (s1 s2 : State) (t1 t2 w1 w2 : List ℕ) : Type 0 where
-  pub one : Ready s1 number (Speak round) t1 w1
-  pub two : Ready s2 number (Speak round) t2 w2
+  pub box1 : Ready s1 number (Speak round) t1 w1
+  pub box2 : Ready s2 number (Speak round) t2 w2
   pub width : s1 .n ≡ s2 .n

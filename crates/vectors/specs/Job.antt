@@ -12,25 +12,23 @@ use Rattle.protocol.specs.Rounds.{lastRound, message}
 use Rattle.protocol.specs.Exchange.{Both, exchanged, answerOwn, answerOthers}
 use Rattle.exchange.specs.Opening.{refusalOf, begun}
 use Rattle.exchange.specs.Boxes.{works}
+use Rattle.exchange.specs.Memory.{blankWork}
 use Rattle.vectors.specs.Numbers.{numbersFrom, readTo, spelled}
 
 -- both messages of a round, box 1's first
 abbrev pub messages : Party → Party → Both → ℕ → List ℕ
-messages b c w round = message b (w .own) round ++ message c (w .others) round
+messages box1 box2 w round = message box1 (w .own) round ++ message box2 (w .others) round
 
 -- those of the first so many rounds
 unfoldable pub messagesTo : Party → Party → Both → ℕ → List ℕ
-messagesTo b c w zero = []
-messagesTo b c w (suc r) = messagesTo b c w r ++ messages b c (exchanged b c w r) (suc r)
+messagesTo box1 box2 w zero = []
+messagesTo box1 box2 w (suc r) = messagesTo box1 box2 w r ++ messages box1 box2 (exchanged box1 box2 w r) (suc r)
 
 -- all six rounds, then both answer shares
 abbrev pub transcript : Party → Party → Both → List ℕ
-transcript b c w = messagesTo b c w lastRound ++ (answerOwn b c w ∷ answerOthers b c w ∷ [])
+transcript box1 box2 w = messagesTo box1 box2 w lastRound ++ (answerOwn box1 box2 w ∷ answerOthers box1 box2 w ∷ [])
 
--- zeros to work in, and a tally of which no tape is used
-unfoldable pub blankWork : List ℕ
-blankWork = replicate 436 0
-
+-- a tally of which no tape is used
 unfoldable pub unusedTally : List ℕ
 unusedTally = replicate 65536 255
 
@@ -48,11 +46,11 @@ jobTold text from n pair number x1 y1 x2 y2 t1 t2 =
 -- the text goes on with box 1's tape, box 2's tape, and the job on them
 unfoldable pub tapesTold : List ℕ → ℕ → ℕ → ℕ → ℕ → ℕ → ℕ → ℕ → ℕ → Bool
 tapesTold text from n pair number x1 y1 x2 y2 =
-    let first = readTo (tapeLength n) text from in
-    let second = readTo (tapeLength n) text (first .at) in
+    let read1 = readTo (tapeLength n) text from in
+    let read2 = readTo (tapeLength n) text (read1 .at) in
     let t1 = numbersFrom (tapeLength n) text from in
-    let t2 = numbersFrom (tapeLength n) text (first .at) in
-    listed n && first .ok && second .ok && jobTold text (second .at) n pair number x1 y1 x2 y2 t1 t2
+    let t2 = numbersFrom (tapeLength n) text (read1 .at) in
+    listed n && read1 .ok && read2 .ok && jobTold text (read2 .at) n pair number x1 y1 x2 y2 t1 t2
 
 -- a text of width w has n, pair and tape number, the shares x1 y1 x2 y2, both tapes, both messages of each round, both answer shares
 unfoldable pub agreed : ℕ → List ℕ → Bool

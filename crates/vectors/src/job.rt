@@ -15,7 +15,7 @@ ghost use Rattle.exchange.specs.Opening.{shareOf};
 ghost use Rattle.exchange.specs.Boxes.{heardAfter, works};
 ghost use Rattle.vectors.specs.Numbers.{spelled};
 ghost use Rattle.vectors.specs.Due.{Due};
-ghost use Rattle.vectors.specs.Job.{messages, transcript, blankWork, unusedTally, jobTold, tapesTold, agreed, Agreeing, nameOf};
+ghost use Rattle.vectors.specs.Job.{messages, transcript, unusedTally, jobTold, tapesTold, agreed, Agreeing, nameOf};
 
 // The file of a width's job: job-WW-K.txt.
 fn name_of(w: u32, k: u8) -> [u8; 12]
@@ -70,13 +70,6 @@ fn agrees(name: &[u8], w: u32) -> bool
     run(&text[..len], w)
 }
 
-// Zeros for the longest tape.
-fn blank_tape() -> [u32; 9052]
-    ensures { λ r. ⌜ length r ≡ 9052 ⌝ }
-{
-    [0; 9052]
-}
-
 // A text has n, which is the width asked for, pair and tape number, the shares x1 y1 x2 y2, both tapes, both messages of each
 // round, both answer shares.
 fn run(text: &[u8], w: u32) -> bool
@@ -90,15 +83,15 @@ fn run(text: &[u8], w: u32) -> bool
     if head[0] != w {
         return false;
     }
-    let one = Shares {
+    let box1 = Shares {
         x: head[3],
         y: head[4],
     };
-    let two = Shares {
+    let box2 = Shares {
         x: head[5],
         y: head[6],
     };
-    on_tapes(text, c.at, head[0], head[1], head[2], one, two)
+    on_tapes(text, c.at, head[0], head[1], head[2], box1, box2)
 }
 
 fn on_tapes(
@@ -107,43 +100,36 @@ fn on_tapes(
     n: u32,
     pair: u32,
     number: u32,
-    one: Shares,
-    two: Shares,
+    box1: Shares,
+    box2: Shares,
 ) -> bool
-    ensures { λ r. ⌜ r ≡ tapesTold (now (text .entry)) from n pair number (one .x) (one .y) (two .x) (two .y) ⌝ }
+    ensures { λ r. ⌜ r ≡ tapesTold (now (text .entry)) from n pair number (box1 .x) (box1 .y) (box2 .x) (box2 .y) ⌝ }
 {
     if !field::is_listed(n) {
         return false;
     }
     let len = tape::tape_words(n);
-    let mut t1 = blank_tape();
-    let mut t2 = blank_tape();
-    let c = crate::numbers::fill(text, from, &mut t1[..len]);
-    if !c.ok {
+    let mut t1 = exchange::memory::blank_tape();
+    let mut t2 = exchange::memory::blank_tape();
+    let read1 = crate::numbers::fill(text, from, &mut t1[..len]);
+    if !read1.ok {
         return false;
     }
-    let d = crate::numbers::fill(text, c.at, &mut t2[..len]);
-    if !d.ok {
+    let read2 = crate::numbers::fill(text, read1.at, &mut t2[..len]);
+    if !read2.ok {
         return false;
     }
     opened(
         text,
-        d.at,
+        read2.at,
         n,
         pair,
         number,
-        one,
-        two,
+        box1,
+        box2,
         &t1[..len],
         &t2[..len],
     )
-}
-
-// Zeros to work in, enough for any width.
-fn blank_work() -> [u32; 436]
-    ensures { λ r. ⌜ (length r ≡ 436) × (r ≡ blankWork) ⌝ }
-{
-    [0; 436]
 }
 
 // The tally of a pair of which no tape is used.
@@ -160,31 +146,31 @@ fn opened(
     n: u32,
     pair: u32,
     number: u32,
-    one: Shares,
-    two: Shares,
+    box1: Shares,
+    box2: Shares,
     t1: &[u32],
     t2: &[u32],
 ) -> bool
     ensures { λ r. ⌜ r
-        ≡ jobTold (now (text .entry)) from n pair number (one .x) (one .y) (two .x) (two .y) (now (t1 .entry)) (now (t2 .entry)) ⌝ }
+        ≡ jobTold (now (text .entry)) from n pair number (box1 .x) (box1 .y) (box2 .x) (box2 .y) (now (t1 .entry)) (now (t2 .entry)) ⌝ }
 {
-    let mut w1 = blank_work();
-    let mut w2 = blank_work();
+    let mut w1 = exchange::memory::blank_work();
+    let mut w2 = exchange::memory::blank_work();
     let mut k1 = unused_tally();
     let mut k2 = unused_tally();
-    let a = exchange::begin(n, 1, pair, number, one, t1, &w1, &mut k1);
-    let first = a.answer;
-    if exchange::refusal_of(first) != 0 {
+    let begun1 = exchange::begin(n, 1, pair, number, box1, t1, &w1, &mut k1);
+    let answer1 = begun1.answer;
+    if exchange::refusal_of(answer1) != 0 {
         return false;
     }
-    let b = exchange::begin(n, 2, pair, number, two, t2, &w2, &mut k2);
-    let second = b.answer;
-    if exchange::refusal_of(second) != 0 {
+    let begun2 = exchange::begin(n, 2, pair, number, box2, t2, &w2, &mut k2);
+    let answer2 = begun2.answer;
+    if exchange::refusal_of(answer2) != 0 {
         return false;
     }
-    let s1 = a.state;
-    let s2 = b.state;
-    let boxes = Boxes { one: s1, two: s2 };
+    let s1 = begun1.state;
+    let s2 = begun2.state;
+    let boxes = Boxes { box1: s1, box2: s2 };
     exchanged(text, from, number, boxes, t1, t2, &mut w1, &mut w2)
 }
 
@@ -199,10 +185,10 @@ fn exchanged(
     w1: &mut [u32],
     w2: &mut [u32],
 ) -> bool
-    requires { ⌜ Due number 1 (boxes .one) (boxes .two) (now t1) (now t2) (now w1) (now w2) ⌝ }
+    requires { ⌜ Due number 1 (boxes .box1) (boxes .box2) (now t1) (now t2) (now w1) (now w2) ⌝ }
     ensures { λ r. ⌜ r
         ≡ spelled (now (text .entry)) from
-        (transcript (partyOf (boxes .one) (now (t1 .entry))) (partyOf (boxes .two) (now (t2 .entry))) (works (now (w1 .entry)) (now (w2 .entry)))) .ok ⌝ }
+        (transcript (partyOf (boxes .box1) (now (t1 .entry))) (partyOf (boxes .box2) (now (t2 .entry))) (works (now (w1 .entry)) (now (w2 .entry)))) .ok ⌝ }
 {
     let mut due = boxes;
     let mut at = from;
@@ -215,11 +201,11 @@ fn exchanged(
         }
         at = c.at;
         let both = r.heard;
-        let a = both.one;
-        let b = both.two;
-        let one = a.state;
-        let two = b.state;
-        due = Boxes { one, two };
+        let heard1 = both.box1;
+        let heard2 = both.box2;
+        let box1 = heard1.state;
+        let box2 = heard2.state;
+        due = Boxes { box1, box2 };
         heard += 1;
     }
     let last = compared(text, at, number, 6, due, t1, t2, w1, w2);
@@ -236,13 +222,6 @@ struct Round {
     read: Cursor,
 }
 
-// Zeros for the longest message.
-fn blank_words() -> [u32; 2889]
-    ensures { λ r. ⌜ length r ≡ 2889 ⌝ }
-{
-    [0; 2889]
-}
-
 // One round, both messages against the text. After the last no turn is due.
 fn compared(
     text: &[u8],
@@ -255,19 +234,19 @@ fn compared(
     w1: &mut [u32],
     w2: &mut [u32],
 ) -> Round
-    requires { ⌜ Due number round (boxes .one) (boxes .two) (now t1) (now t2) (now w1) (now w2) ⌝ }
+    requires { ⌜ Due number round (boxes .box1) (boxes .box2) (now t1) (now t2) (now w1) (now w2) ⌝ }
     ensures read { λ r. ⌜ r .read
         ≡ spelled (now (text .entry)) from
-        (messages (partyOf (boxes .one) (now (t1 .entry))) (partyOf (boxes .two) (now (t2 .entry))) (works (now (w1 .entry)) (now (w2 .entry))) round) ⌝ }
-    ensures first { λ r. ⌜ outcome (r .heard .one) (now (w1 .exit))
-        ≡ heardAfter (boxes .one) (now (t1 .entry)) (now (w1 .entry)) round (message (partyOf (boxes .two) (now (t2 .entry))) (now (w2 .entry)) round) ⌝ }
-    ensures second { λ r. ⌜ outcome (r .heard .two) (now (w2 .exit))
-        ≡ heardAfter (boxes .two) (now (t2 .entry)) (now (w2 .entry)) round (message (partyOf (boxes .one) (now (t1 .entry))) (now (w1 .entry)) round) ⌝ }
+        (messages (partyOf (boxes .box1) (now (t1 .entry))) (partyOf (boxes .box2) (now (t2 .entry))) (works (now (w1 .entry)) (now (w2 .entry))) round) ⌝ }
+    ensures box1 { λ r. ⌜ outcome (r .heard .box1) (now (w1 .exit))
+        ≡ heardAfter (boxes .box1) (now (t1 .entry)) (now (w1 .entry)) round (message (partyOf (boxes .box2) (now (t2 .entry))) (now (w2 .entry)) round) ⌝ }
+    ensures box2 { λ r. ⌜ outcome (r .heard .box2) (now (w2 .exit))
+        ≡ heardAfter (boxes .box2) (now (t2 .entry)) (now (w2 .entry)) round (message (partyOf (boxes .box1) (now (t1 .entry))) (now (w1 .entry)) round) ⌝ }
 {
-    let mut o1 = blank_words();
-    let mut o2 = blank_words();
-    let s = boxes.one;
-    let words = compare::words::words_of(s.n, round);
+    let mut o1 = exchange::memory::blank_words();
+    let mut o2 = exchange::memory::blank_words();
+    let s1 = boxes.box1;
+    let words = compare::words::words_of(s1.n, round);
     let heard = exchange::round(number, round, boxes, t1, t2, w1, w2, &mut o1, &mut o2);
     let read = both_same(text, from, words, &o1, &o2);
     Round { heard, read }
@@ -288,13 +267,13 @@ fn both_same(text: &[u8], from: usize, words: usize, o1: &[u32], o2: &[u32]) -> 
 // Whether the next numbers are the shares of what both boxes answered.
 fn answers_same(text: &[u8], from: usize, heard: Heard) -> bool
     ensures { λ r. ⌜ r
-        ≡ spelled (now (text .entry)) from (shareOf (replyOf (heard .one .answer)) ∷ shareOf (replyOf (heard .two .answer)) ∷ []) .ok ⌝ }
+        ≡ spelled (now (text .entry)) from (shareOf (replyOf (heard .box1 .answer)) ∷ shareOf (replyOf (heard .box2 .answer)) ∷ []) .ok ⌝ }
 {
-    let a = heard.one;
-    let b = heard.two;
-    let first = a.answer;
-    let second = b.answer;
-    let answers = [exchange::share_of(first), exchange::share_of(second)];
+    let heard1 = heard.box1;
+    let heard2 = heard.box2;
+    let answer1 = heard1.answer;
+    let answer2 = heard2.answer;
+    let answers = [exchange::share_of(answer1), exchange::share_of(answer2)];
     let c = crate::numbers::same(text, from, &answers);
     c.ok
 }

@@ -1,51 +1,43 @@
 -- `bench::often` meets its contract: a tape of any width has room.
-use Prim.Native.Nat.{_≤_}
-use mathlib.Core.Path.{_≡_, sym, _∙_}
-use native.Mathlib.Omega.{arith}
 use borrow.Author.Needs.{needs}
-use lib.ListN.{length, take}
-use lib.Seq.{length-take-le}
-use Rattle.tape.proofs.Sizes.{small}
+use Rattle.exchange.proofs.Cut.{Cut, cut}
 use Rattle.bench.proofs.often.Statement.{statement}
 use Rattle.bench.proofs.often.Tie as tie
 
 abbrev start : tie.After-tape-words → tie.Start
 start c = c .before .before .before
 
-fits : (c : tie.After-tape-words) → c .tape-words .result ≤ 9052
-fits c = omega (arith, c .tape-words .ensures, small (start c .pre))
+cut1 : (c : tie.After-tape-words) → Cut (start c .args .n) (c .tape-words .result) (c .before .before .blank-tape .result)
+cut1 c = cut _ _ _ (start c .pre) (c .tape-words .ensures) (c .before .before .blank-tape .ensures)
 
-first : (c : tie.After-tape-words) → length (take (c .tape-words .result) (c .before .before .blank .result)) ≡ c .tape-words .result
-first c = length-take-le (c .tape-words .result) (c .before .before .blank .result) (omega (arith, fits c, c .before .before .blank .ensures))
+cut2 : (c : tie.After-tape-words) → Cut (start c .args .n) (c .tape-words .result) (c .before .blank-tape2 .result)
+cut2 c = cut _ _ _ (start c .pre) (c .tape-words .ensures) (c .before .blank-tape2 .ensures)
 
-second : (c : tie.After-tape-words) → length (take (c .tape-words .result) (c .before .blank2 .result)) ≡ c .tape-words .result
-second c = length-take-le (c .tape-words .result) (c .before .blank2 .result) (omega (arith, fits c, c .before .blank2 .ensures))
+blank-tape-requires : tie.Need-blank-tape-requires
+blank-tape-requires c κs = search needs
 
-blank-requires : tie.Need-blank-requires
-blank-requires c κs = search needs
-
-blank-requires-2 : tie.Need-blank-requires-2
-blank-requires-2 c κs = search needs
+blank-tape-requires-2 : tie.Need-blank-tape-requires-2
+blank-tape-requires-2 c κs = search needs
 
 tape-words-requires : tie.Need-tape-words-requires
 tape-words-requires c κs = search needs
 
 array-borrow-prefix-t1 : tie.Need-array-borrow-prefix-t1
-array-borrow-prefix-t1 c = omega (arith, fits c, c .before .before .blank .ensures)
+array-borrow-prefix-t1 c = cut1 c .fits
 
 slice-aggregate-run : tie.Need-slice-aggregate-run
-slice-aggregate-run c = sym (first (c .before))
+slice-aggregate-run c = cut1 (c .before) .long
 
 array-borrow-prefix-t2 : tie.Need-array-borrow-prefix-t2
-array-borrow-prefix-t2 c = omega (arith, fits (c .before), c .before .before .blank2 .ensures)
+array-borrow-prefix-t2 c = cut2 (c .before) .fits
 
 slice-aggregate-run-2 : tie.Need-slice-aggregate-run-2
-slice-aggregate-run-2 c = sym (second (c .before .before))
+slice-aggregate-run-2 c = cut2 (c .before .before) .long
 
 run-requires : tie.Need-run-requires
 run-requires c κs =
     let w = c .before .before in
-    (start w .pre, first w ∙ w .tape-words .ensures, second w ∙ w .tape-words .ensures)
+    (start w .pre, cut1 w .whole, cut2 w .whole)
 
 returns : tie.Need-returns
 returns c = search needs
@@ -54,8 +46,8 @@ pub often-spec : {M : Type 1} → statement M
 often-spec =
     tie.close
     (tie.spec
-    blank-requires
-    blank-requires-2
+    blank-tape-requires
+    blank-tape-requires-2
     tape-words-requires
     array-borrow-prefix-t1
     slice-aggregate-run

@@ -18,8 +18,8 @@ use Rattle.exchange.proofs.answers.Tie as tie
 abbrev Inv-loop : tie.InvT-loop
 Inv-loop number t1 t2 w1₀ w2₀ o1₀ o2₀ due₀ heard₀ w1 w2 o1 o2 due heard =
     (heard ≤ 5)
-    × Course (due₀ .one) number t1 heard (after (due₀ .one) (due₀ .two) t1 t2 w1₀ w2₀ heard .own) (due .one) w1
-    × Course (due₀ .two) number t2 heard (after (due₀ .one) (due₀ .two) t1 t2 w1₀ w2₀ heard .others) (due .two) w2
+    × Course (due₀ .box1) number t1 heard (after (due₀ .box1) (due₀ .box2) t1 t2 w1₀ w2₀ heard .own) (due .box1) w1
+    × Course (due₀ .box2) number t2 heard (after (due₀ .box1) (due₀ .box2) t1 t2 w1₀ w2₀ heard .others) (due .box2) w2
     × (length w1 ≡ length w1₀)
     × (length w2 ≡ length w2₀)
     × (length o1 ≡ length o1₀)
@@ -32,20 +32,20 @@ abbrev start : tie.At-loop Inv-loop μ-loop → tie.Start Inv-loop μ-loop
 start l = l .before .before .before .before .before .before .before
 
 -- the two boxes, and what they held first
-abbrev one : tie.Start Inv-loop μ-loop → Party
-one s = partyOf (s .args .boxes .one) (s .args .t1 .now)
+abbrev box1 : tie.Start Inv-loop μ-loop → Party
+box1 s = partyOf (s .args .boxes .box1) (s .args .t1 .now)
 
-abbrev two : tie.Start Inv-loop μ-loop → Party
-two s = partyOf (s .args .boxes .two) (s .args .t2 .now)
+abbrev box2 : tie.Start Inv-loop μ-loop → Party
+box2 s = partyOf (s .args .boxes .box2) (s .args .t2 .now)
 
 abbrev first : tie.Start Inv-loop μ-loop → Both
 first s = works (s .args .w1 .now) (s .args .w2 .now)
 
 -- room for any round, and one width
 record Fits (l : tie.At-loop Inv-loop μ-loop) (round : ℕ) : Type 0 where
-  out1 : roundWords (l .loop .due .one .n) round ≤ length (l .loop .o1)
-  out2 : roundWords (l .loop .due .two .n) round ≤ length (l .loop .o2)
-  width : l .loop .due .one .n ≡ l .loop .due .two .n
+  out1 : roundWords (l .loop .due .box1 .n) round ≤ length (l .loop .o1)
+  out2 : roundWords (l .loop .due .box2 .n) round ≤ length (l .loop .o2)
+  width : l .loop .due .box1 .n ≡ l .loop .due .box2 .n
 
 fits : (l : tie.At-loop Inv-loop μ-loop) (round : ℕ) → Fits l round
 fits l round =
@@ -62,13 +62,13 @@ abbrev Course1 : tie.At-loop Inv-loop μ-loop → ℕ → Type 0
 Course1 l k =
     let s = start l in
     let v = s .args in
-    Course (v .boxes .one) (v .number) (v .t1 .now) k (exchanged (one s) (two s) (first s) k .own) (l .loop .due .one) (l .loop .w1)
+    Course (v .boxes .box1) (v .number) (v .t1 .now) k (exchanged (box1 s) (box2 s) (first s) k .own) (l .loop .due .box1) (l .loop .w1)
 
 abbrev Course2 : tie.At-loop Inv-loop μ-loop → ℕ → Type 0
 Course2 l k =
     let s = start l in
     let v = s .args in
-    Course (v .boxes .two) (v .number) (v .t2 .now) k (exchanged (one s) (two s) (first s) k .others) (l .loop .due .two) (l .loop .w2)
+    Course (v .boxes .box2) (v .number) (v .t2 .now) k (exchanged (box1 s) (box2 s) (first s) k .others) (l .loop .due .box2) (l .loop .w2)
 
 -- where the loop ends, all rounds but the last are heard
 five : (a : tie.After-loop Inv-loop μ-loop) → a .before .loop .heard ≡ 5
@@ -86,8 +86,8 @@ loop-holds c =
     let s = c .before .before .before .before .before .before in
     let v = s .args in (
       omega arith,
-      course-first (v .boxes .one) (v .number) (v .t1 .now) (v .w1 .now) (s .pre .0 .0),
-      course-first (v .boxes .two) (v .number) (v .t2 .now) (v .w2 .now) (s .pre .1 .0 .0),
+      course-first (v .boxes .box1) (v .number) (v .t1 .now) (v .w1 .now) (s .pre .0 .0),
+      course-first (v .boxes .box2) (v .number) (v .t2 .now) (v .w2 .now) (s .pre .1 .0 .0),
       refl,
       refl,
       refl,
@@ -119,8 +119,8 @@ loop-again c =
     let k = l .loop .heard in
     let kept = r .round .kept .1 .1 .1 .1 .1 in (
       omega (arith, less),
-      course-next (inv .1) _ _ (course-sends (inv .2) (k + 1)) (r .round .result .one) _ less (r .round .ensures .0 .1) _ (more-own (one s) (two s) (first s) k),
-      course-next (inv .2) _ _ (course-sends (inv .1) (k + 1)) (r .round .result .two) _ less (r .round .ensures .1 .1) _ (more-others (one s) (two s) (first s) k),
+      course-next (inv .1) _ _ (course-sends (inv .2) (k + 1)) (r .round .result .box1) _ less (r .round .ensures .0 .1) _ (more-own (box1 s) (box2 s) (first s) k),
+      course-next (inv .2) _ _ (course-sends (inv .1) (k + 1)) (r .round .result .box2) _ less (r .round .ensures .1 .1) _ (more-others (box1 s) (box2 s) (first s) k),
       omega (arith, kept .0, inv .3),
       omega (arith, kept .1 .0, inv .4),
       omega (arith, kept .1 .1 .0, inv .5),
@@ -150,8 +150,8 @@ returns c =
     let r = c .before .before .before .before .before .before .before .before in
     let a = r .before .before .before .before .before in
     let s = start (a .before) in (
-      course-last (ended1 a) _ _ (course-sends (ended2 a) 6) (r .round2 .result .one) _ refl (r .round2 .ensures .0 .1) ∙ ap share (sym (last-own (one s) (two s) (first s))),
-      course-last (ended2 a) _ _ (course-sends (ended1 a) 6) (r .round2 .result .two) _ refl (r .round2 .ensures .1 .1) ∙ ap share (sym (last-others (one s) (two s) (first s))),
+      course-last (ended1 a) _ _ (course-sends (ended2 a) 6) (r .round2 .result .box1) _ refl (r .round2 .ensures .0 .1) ∙ ap share (sym (last-own (box1 s) (box2 s) (first s))),
+      course-last (ended2 a) _ _ (course-sends (ended1 a) 6) (r .round2 .result .box2) _ refl (r .round2 .ensures .1 .1) ∙ ap share (sym (last-others (box1 s) (box2 s) (first s))),
     )
 
 pub answers-spec : {M : Type 1} → statement M

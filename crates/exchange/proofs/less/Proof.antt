@@ -7,7 +7,7 @@ use Rattle.exchange.specs.Opening.{refusalOf}
 use Rattle.exchange.specs.Jobs.{Lent, lent}
 use Rattle.exchange.proofs.Begun.{Begun, begin-ready}
 use Rattle.exchange.proofs.Right.{ended-right}
-use Rattle.exchange.proofs.Jobs.{ends-at-one, ends-at-two, ends-opened}
+use Rattle.exchange.proofs.Jobs.{ends-at-box1, ends-at-box2, ends-opened}
 use Rattle.exchange.proofs.less.Statement.{statement}
 use Rattle.exchange.proofs.less.Tie as tie
 
@@ -25,10 +25,10 @@ tested1 t = begun2 t .before .before .before .before
 
 -- what the two boxes come with
 abbrev lent1 : tie.Start → Lent
-lent1 s = let v = s .args in lent (v .one) (v .t1 .now) (v .w1 .now) (v .k1 .now) (v .o1 .now)
+lent1 s = let v = s .args in lent (v .box1) (v .t1 .now) (v .w1 .now) (v .k1 .now) (v .o1 .now)
 
 abbrev lent2 : tie.Start → Lent
-lent2 s = let v = s .args in lent (v .two) (v .t2 .now) (v .w2 .now) (v .k2 .now) (v .o2 .now)
+lent2 s = let v = s .args in lent (v .box2) (v .t2 .now) (v .w2 .now) (v .k2 .now) (v .o2 .now)
 
 -- box 1 was not refused
 zero1 : (t : tie.After-refusal-of2) → refusalOf (replyOf (begun1 (tested1 t) .begin .result .answer)) ≡ 0
@@ -38,21 +38,21 @@ zero1 t = sym (tested1 t .refusal-of .ensures) ∙ begun2 t .before .before .bef
 ready1 : (e : tie.Else2)
     → let t = tested1 (e .before) in
     let v = start t .args in
-    Begun (v .n) 1 (v .pair) (v .number) (v .one .x) (v .one .y) (v .t1 .now) (v .w1 .now) (v .k1 .now) (begun1 t .begin .result .state)
+    Begun (v .n) 1 (v .pair) (v .number) (v .box1 .x) (v .box1 .y) (v .t1 .now) (v .w1 .now) (v .k1 .now) (begun1 t .begin .result .state)
 ready1 e =
     let t = tested1 (e .before) in
     let v = start t .args in
-    begin-ready (v .n) 1 (v .pair) (v .number) (v .one .x) (v .one .y) (v .t1 .now) (v .w1 .now) (v .k1 .now)
+    begin-ready (v .n) 1 (v .pair) (v .number) (v .box1 .x) (v .box1 .y) (v .t1 .now) (v .w1 .now) (v .k1 .now)
     (begun1 t .begin .result) _ (begun1 t .begin .ensures) (zero1 (e .before))
 
 ready2 : (e : tie.Else2)
     → let t = e .before in
     let v = start (tested1 t) .args in
-    Begun (v .n) 2 (v .pair) (v .number) (v .two .x) (v .two .y) (v .t2 .now) (v .w2 .now) (v .k2 .now) (begun2 t .begin2 .result .state)
+    Begun (v .n) 2 (v .pair) (v .number) (v .box2 .x) (v .box2 .y) (v .t2 .now) (v .w2 .now) (v .k2 .now) (begun2 t .begin2 .result .state)
 ready2 e =
     let t = e .before in
     let v = start (tested1 t) .args in
-    begin-ready (v .n) 2 (v .pair) (v .number) (v .two .x) (v .two .y) (v .t2 .now) (v .w2 .now) (v .k2 .now)
+    begin-ready (v .n) 2 (v .pair) (v .number) (v .box2 .x) (v .box2 .y) (v .t2 .now) (v .w2 .now) (v .k2 .now)
     (begun2 t .begin2 .result) _ (begun2 t .begin2 .ensures) (sym (t .refusal-of2 .ensures) ∙ e .if2 .left)
 
 begin-requires : tie.Need-begin-requires
@@ -73,7 +73,7 @@ returns c =
     let s = start t in
     let v = s .args in
     let end =
-    ends-at-one (v .n) (v .pair) (v .number) (lent1 s) (lent2 s) (begun1 t .begin .result) _ (begun1 t .begin .ensures)
+    ends-at-box1 (v .n) (v .pair) (v .number) (lent1 s) (lent2 s) (begun1 t .begin .result) _ (begun1 t .begin .ensures)
     (t .refusal-of .result) (t .refusal-of .ensures) (c .if1 .taken) in
     (end, ended-right (v .n) (v .pair) (v .number) (lent1 s) (lent2 s) _ _ _ end)
 
@@ -102,16 +102,16 @@ returns-2 c =
     let s = start t1 in
     let v = s .args in
     let end =
-    ends-at-two (v .n) (v .pair) (v .number) (lent1 s) (lent2 s) (begun1 t1 .begin .result) _ (begun1 t1 .begin .ensures) (zero1 t)
+    ends-at-box2 (v .n) (v .pair) (v .number) (lent1 s) (lent2 s) (begun1 t1 .begin .result) _ (begun1 t1 .begin .ensures) (zero1 t)
     (begun2 t .begin2 .result) _ (begun2 t .begin2 .ensures) (t .refusal-of2 .result) (t .refusal-of2 .ensures) (c .if2 .taken) in
     (end, ended-right (v .n) (v .pair) (v .number) (lent1 s) (lent2 s) _ _ _ end)
 
 opened-requires : tie.Need-opened-requires
 opened-requires c κs =
     let e = c .before .before .before .before .before .before in
-    let one = ready1 e in
-    let two = ready2 e in
-    ((one .ready, two .ready), (ap (λ (b : State). b .n) (one .state), ap (λ (b : State). b .n) (two .state)))
+    let box1 = ready1 e in
+    let box2 = ready2 e in
+    ((box1 .ready, box2 .ready), (ap (λ (b : State). b .n) (box1 .state), ap (λ (b : State). b .n) (box2 .state)))
 
 same-length-7 : tie.Need-same-length-7
 same-length-7 c = search needs

@@ -33,11 +33,11 @@ abbrev begin : tie.After-share-of → tie.Start
 begin b = start (goes (answered b) .before)
 
 -- the two boxes, and what they held first
-abbrev one : tie.Start → Party
-one s = partyOf (s .args .boxes .one) (s .args .t1 .now)
+abbrev box1 : tie.Start → Party
+box1 s = partyOf (s .args .boxes .box1) (s .args .t1 .now)
 
-abbrev two : tie.Start → Party
-two s = partyOf (s .args .boxes .two) (s .args .t2 .now)
+abbrev box2 : tie.Start → Party
+box2 s = partyOf (s .args .boxes .box2) (s .args .t2 .now)
 
 abbrev first : tie.Start → Both
 first s = works (s .args .w1 .now) (s .args .w2 .now)
@@ -48,13 +48,13 @@ room e = sym (e .before .has-room .ensures) ∙ not-false _ (e .if1 .left)
 
 -- one width, listed
 width : (s : tie.Start) → listed (s .args .n) ≡ true
-width s = subst (λ (n : ℕ). listed n ≡ true) (s .pre .1 .0) (ranged (s .args .boxes .one) (s .pre .0 .0 .ranged) .width)
+width s = subst (λ (n : ℕ). listed n ≡ true) (s .pre .1 .0) (ranged (s .args .boxes .box1) (s .pre .0 .0 .ranged) .width)
 
 -- the two answer shares
-share1 : (b : tie.After-share-of) → let s = begin b in b .share-of .result ≡ answerOwn (one s) (two s) (first s)
+share1 : (b : tie.After-share-of) → let s = begin b in b .share-of .result ≡ answerOwn (box1 s) (box2 s) (first s)
 share1 b = b .share-of .ensures ∙ ap shareOf (answered b .answers .ensures .0)
 
-share2 : (b : tie.After-share-of2) → let s = begin (b .before) in b .share-of2 .result ≡ answerOthers (one s) (two s) (first s)
+share2 : (b : tie.After-share-of2) → let s = begin (b .before) in b .share-of2 .result ≡ answerOthers (box1 s) (box2 s) (first s)
 share2 b = b .share-of2 .ensures ∙ ap shareOf (answered (b .before) .answers .ensures .1)
 
 has-room-requires : tie.Need-has-room-requires
@@ -99,11 +99,11 @@ add-requires c κs =
     let v = s .args in
     let width1 = s .pre .1 .0 in
     let width2 = s .pre .1 .1 in
-    let listed1 = ranged (v .boxes .one) (s .pre .0 .0 .ranged) .width in
-    let listed2 = ranged (v .boxes .two) (s .pre .0 .1 .ranged) .width in (
+    let listed1 = ranged (v .boxes .box1) (s .pre .0 .0 .ranged) .width in
+    let listed2 = ranged (v .boxes .box2) (s .pre .0 .1 .ranged) .width in (
       width s,
-      rw (share1 (c .before)) (subst (λ (n : ℕ). answerOwn (one s) (two s) (first s) < modulus n) width1 (own-below (one s) (two s) (first s) listed1)),
-      rw (share2 c) (subst (λ (n : ℕ). answerOthers (one s) (two s) (first s) < modulus n) width2 (others-below (one s) (two s) (first s) listed2)),
+      rw (share1 (c .before)) (subst (λ (n : ℕ). answerOwn (box1 s) (box2 s) (first s) < modulus n) width1 (own-below (box1 s) (box2 s) (first s) listed1)),
+      rw (share2 c) (subst (λ (n : ℕ). answerOthers (box1 s) (box2 s) (first s) < modulus n) width2 (others-below (box1 s) (box2 s) (first s) listed2)),
     )
 
 same-length-3 : tie.Need-same-length-3

@@ -24,30 +24,30 @@ heard h = h .before .before .before .before .before .before .before
 told1 : (a : tie.After-speak)
     → let w = worded a in
     let v = start w .args in
-    Told (v .boxes .one) (v .round) (v .t1 .now) (v .w1 .now) (v .o1 .now) (a .speak .result .state) (a .speak .last .1 .1 .1 .1 .1 .0) (w .words-of .result)
+    Told (v .boxes .box1) (v .round) (v .t1 .now) (v .w1 .now) (v .o1 .now) (a .speak .result .state) (a .speak .last .1 .1 .1 .1 .1 .0) (w .words-of .result)
 told1 a =
     let w = worded a in
     let s = start w in
     let v = s .args in
-    told (v .boxes .one) (v .number) (v .round) (v .t1 .now) (v .w1 .now) (s .pre .0 .0) (v .o1 .now) (a .speak .last .1 .1 .1 .1 .1 .0)
+    told (v .boxes .box1) (v .number) (v .round) (v .t1 .now) (v .w1 .now) (s .pre .0 .0) (v .o1 .now) (a .speak .last .1 .1 .1 .1 .1 .0)
     (a .speak .result) (w .words-of .result) (w .words-of .ensures) (s .pre .0 .1) (a .speak .ensures)
 
 told2 : (a : tie.After-speak2)
     → let w = worded (spoken a) in
     let v = start w .args in
-    Told (v .boxes .two) (v .round) (v .t2 .now) (v .w2 .now) (v .o2 .now) (a .speak2 .result .state) (a .speak2 .last .1 .1 .1 .1 .1 .0) (w .words-of .result)
+    Told (v .boxes .box2) (v .round) (v .t2 .now) (v .w2 .now) (v .o2 .now) (a .speak2 .result .state) (a .speak2 .last .1 .1 .1 .1 .1 .0) (w .words-of .result)
 told2 a =
     let w = worded (spoken a) in
     let s = start w in
     let v = s .args in
     let count = w .words-of .ensures ∙ ap (λ (n : ℕ). roundWords n (v .round)) (s .pre .1 .1) in
-    told (v .boxes .two) (v .number) (v .round) (v .t2 .now) (v .w2 .now) (s .pre .1 .0 .0) (v .o2 .now) (a .speak2 .last .1 .1 .1 .1 .1 .0)
+    told (v .boxes .box2) (v .number) (v .round) (v .t2 .now) (v .w2 .now) (s .pre .1 .0 .0) (v .o2 .now) (a .speak2 .last .1 .1 .1 .1 .1 .0)
     (a .speak2 .result) (w .words-of .result) count (s .pre .1 .0 .1) (a .speak2 .ensures)
 
 words-of-requires : tie.Need-words-of-requires
 words-of-requires c κs =
     let s = c .before .before .before .before .before .before .before .before in
-    ranged (s .args .boxes .one) (s .pre .0 .0 .ranged) .width
+    ranged (s .args .boxes .box1) (s .pre .0 .0 .ranged) .width
 
 speak-requires : tie.Need-speak-requires
 speak-requires c κs = search needs
@@ -99,17 +99,17 @@ returns c =
     let a1 = spoken a2 in
     let s = start (worded a1) in
     let v = s .args in
-    let one = s .pre .0 .0 in
-    let two = s .pre .1 .0 .0 in
+    let ready1 = s .pre .0 .0 in
+    let ready2 = s .pre .1 .0 .0 in
     let same = s .pre .1 .1 in (
       (
         told1 a1 .written,
-        hears (v .boxes .two) (v .number) (v .round) (v .t2 .now) (v .w2 .now) two (v .boxes .one) (v .t1 .now) (v .w1 .now) one (sym same)
+        hears (v .boxes .box2) (v .number) (v .round) (v .t2 .now) (v .w2 .now) ready2 (v .boxes .box1) (v .t1 .now) (v .w1 .now) ready1 (sym same)
             _ _ (h1 .hear .result) _ (told1 a1 .state) (told2 a2 .front) (h1 .hear .ensures),
       ),
       (
         told2 a2 .written,
-        hears (v .boxes .one) (v .number) (v .round) (v .t1 .now) (v .w1 .now) one (v .boxes .two) (v .t2 .now) (v .w2 .now) two same
+        hears (v .boxes .box1) (v .number) (v .round) (v .t1 .now) (v .w1 .now) ready1 (v .boxes .box2) (v .t2 .now) (v .w2 .now) ready2 same
             _ _ (h2 .hear2 .result) _ (told2 a2 .state) (told1 a1 .front) (h2 .hear2 .ensures),
       ),
     )

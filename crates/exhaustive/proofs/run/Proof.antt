@@ -1,52 +1,44 @@
 -- `exhaustive::run` meets its contract: a tape of width 3 or 5 has room.
-use Prim.Native.Nat.{_≤_}
-use mathlib.Core.Path.{_≡_, refl, sym, _∙_}
-use native.Mathlib.Omega.{arith}
 use borrow.Author.Needs.{needs}
-use lib.ListN.{length, take}
-use lib.Seq.{length-take-le}
-use Rattle.exhaustive.proofs.Small.{small}
+use Rattle.exchange.proofs.Cut.{Cut, cut}
 use Rattle.exhaustive.proofs.run.Statement.{statement}
 use Rattle.exhaustive.proofs.run.Tie as tie
 
 abbrev start : tie.After-tape-words → tie.Start
 start c = c .before .before .before .before
 
-fits : (c : tie.After-tape-words) → c .tape-words .result ≤ 316
-fits c = let p = start c .pre in omega (arith, c .tape-words .ensures, small (p .0) (p .1) refl .tape)
+cut1 : (c : tie.After-tape-words) → Cut (start c .args .n) (c .tape-words .result) (c .before .before .blank-tape .result)
+cut1 c = cut _ _ _ (start c .pre .0) (c .tape-words .ensures) (c .before .before .blank-tape .ensures)
 
-first : (c : tie.After-tape-words) → length (take (c .tape-words .result) (c .before .before .blank .result)) ≡ c .tape-words .result
-first c = length-take-le (c .tape-words .result) (c .before .before .blank .result) (omega (arith, fits c, c .before .before .blank .ensures))
+cut2 : (c : tie.After-tape-words) → Cut (start c .args .n) (c .tape-words .result) (c .before .blank-tape2 .result)
+cut2 c = cut _ _ _ (start c .pre .0) (c .tape-words .ensures) (c .before .blank-tape2 .ensures)
 
-second : (c : tie.After-tape-words) → length (take (c .tape-words .result) (c .before .blank2 .result)) ≡ c .tape-words .result
-second c = length-take-le (c .tape-words .result) (c .before .blank2 .result) (omega (arith, fits c, c .before .blank2 .ensures))
+blank-tape-requires : tie.Need-blank-tape-requires
+blank-tape-requires c κs = search needs
 
-blank-requires : tie.Need-blank-requires
-blank-requires c κs = search needs
-
-blank-requires-2 : tie.Need-blank-requires-2
-blank-requires-2 c κs = search needs
+blank-tape-requires-2 : tie.Need-blank-tape-requires-2
+blank-tape-requires-2 c κs = search needs
 
 tape-words-requires : tie.Need-tape-words-requires
 tape-words-requires c κs = search needs
 
 array-borrow-prefix-t1 : tie.Need-array-borrow-prefix-t1
-array-borrow-prefix-t1 c = omega (arith, fits c, c .before .before .blank .ensures)
+array-borrow-prefix-t1 c = cut1 c .fits
 
 slice-aggregate-right : tie.Need-slice-aggregate-right
-slice-aggregate-right c = sym (first (c .before))
+slice-aggregate-right c = cut1 (c .before) .long
 
 array-borrow-prefix-t2 : tie.Need-array-borrow-prefix-t2
-array-borrow-prefix-t2 c = omega (arith, fits (c .before), c .before .before .blank2 .ensures)
+array-borrow-prefix-t2 c = cut2 (c .before) .fits
 
 slice-aggregate-right-2 : tie.Need-slice-aggregate-right-2
-slice-aggregate-right-2 c = sym (second (c .before .before))
+slice-aggregate-right-2 c = cut2 (c .before .before) .long
 
 right-requires : tie.Need-right-requires
 right-requires c κs =
     let w = c .before .before in
     let p = start w .pre in
-    (p .0, p .1, first w ∙ w .tape-words .ensures, second w ∙ w .tape-words .ensures)
+    (p .0, p .1, cut1 w .whole, cut2 w .whole)
 
 write-all-requires : tie.Need-write-all-requires
 write-all-requires c κs = search needs
@@ -76,8 +68,8 @@ pub run-spec : {M : Type 1} → statement M
 run-spec =
     tie.close
     (tie.spec
-    blank-requires
-    blank-requires-2
+    blank-tape-requires
+    blank-tape-requires-2
     tape-words-requires
     array-borrow-prefix-t1
     slice-aggregate-right

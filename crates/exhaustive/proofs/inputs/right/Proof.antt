@@ -27,7 +27,7 @@ abbrev μ-loop : tie.MeasureT-loop
 μ-loop n plain t1₀ t2₀ p seed₀ right₀ i₀ t1 t2 seed right i = p * p - i
 
 -- what is known of p
-tiny : (m : tie.After-modulus-of Inv-loop μ-loop) → Small (m .before .before .before .args .n) (m .modulus-of .result)
+tiny : (m : tie.After-modulus-of Inv-loop μ-loop) → Small (m .modulus-of .result)
 tiny m =
     let s = m .before .before .before in
     small (s .pre .0) (s .pre .1) (m .modulus-of .ensures)

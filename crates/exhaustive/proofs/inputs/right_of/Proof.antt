@@ -20,7 +20,7 @@ abbrev μ-loop : tie.MeasureT-loop
 μ-loop n x1 x2 t1 t2 p right₀ i₀ right i = p * p - i
 
 -- what is known of p
-tiny : (m : tie.After-modulus-of Inv-loop μ-loop) → Small (m .before .before .before .args .n) (m .modulus-of .result)
+tiny : (m : tie.After-modulus-of Inv-loop μ-loop) → Small (m .modulus-of .result)
 tiny m =
     let s = m .before .before .before in
     small (s .pre .0) (s .pre .1) (m .modulus-of .ensures)

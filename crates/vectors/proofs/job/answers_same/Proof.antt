@@ -22,10 +22,10 @@ same-requires c κs = search needs
 
 returns : tie.Need-returns
 returns c =
-    let two = c .before .before in
-    let one = two .before in
-    let a = one .before .before .before .before .args in
-    let shares = ap₂ (λ (x y : ℕ). spelled (a .text .now) (a .from) (x ∷ y ∷ [])) (one .share-of .ensures) (two .share-of2 .ensures) in
+    let of2 = c .before .before in
+    let of1 = of2 .before in
+    let a = of1 .before .before .before .before .args in
+    let shares = ap₂ (λ (x y : ℕ). spelled (a .text .now) (a .from) (x ∷ y ∷ [])) (of1 .share-of .ensures) (of2 .share-of2 .ensures) in
     ap (λ (d : Cursor). d .ok) (c .same .ensures ∙ shares)
 
 pub answers-same-spec : {M : Type 1} → statement M

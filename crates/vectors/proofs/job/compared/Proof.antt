@@ -15,7 +15,7 @@ use Rattle.vectors.specs.Numbers.{spelled}
 use Rattle.vectors.proofs.job.compared.Statement.{statement}
 use Rattle.vectors.proofs.job.compared.Tie as tie
 
-abbrev start : tie.After-s → tie.Start
+abbrev start : tie.After-s1 → tie.Start
 start c = c .before .before .before .before .before .before .before .before
 
 abbrev worded : tie.After-round → tie.After-words-of
@@ -24,22 +24,22 @@ worded r = r .before .before .before .before .before
 abbrev rounded : tie.After-o23 → tie.After-round
 rounded c = c .before .before .before .before .before .before .before .before
 
-width1 : (c : tie.After-s) → listed (start c .args .boxes .one .n) ≡ true
-width1 c = ranged (start c .args .boxes .one) (start c .pre .one .ranged) .width
+width1 : (c : tie.After-s1) → listed (start c .args .boxes .box1 .n) ≡ true
+width1 c = ranged (start c .args .boxes .box1) (start c .pre .box1 .ranged) .width
 
-width2 : (c : tie.After-s) → listed (start c .args .boxes .two .n) ≡ true
-width2 c = ranged (start c .args .boxes .two) (start c .pre .two .ranged) .width
+width2 : (c : tie.After-s1) → listed (start c .args .boxes .box2 .n) ≡ true
+width2 c = ranged (start c .args .boxes .box2) (start c .pre .box2 .ranged) .width
 
 -- no round has more words than there is room for
-room1 : (w : tie.After-words-of) → let v = start (w .before) .args in roundWords (v .boxes .one .n) (v .round) ≤ length (w .before .before .before .blank-words .result)
+room1 : (w : tie.After-words-of) → let v = start (w .before) .args in roundWords (v .boxes .box1 .n) (v .round) ≤ length (w .before .before .before .blank-words .result)
 room1 w =
     let v = start (w .before) .args in
-    omega (arith, words-most (v .boxes .one .n) (v .round) (width1 (w .before)), w .before .before .before .blank-words .ensures)
+    omega (arith, words-most (v .boxes .box1 .n) (v .round) (width1 (w .before)), w .before .before .before .blank-words .ensures .0)
 
-room2 : (w : tie.After-words-of) → let v = start (w .before) .args in roundWords (v .boxes .two .n) (v .round) ≤ length (w .before .before .blank-words2 .result)
+room2 : (w : tie.After-words-of) → let v = start (w .before) .args in roundWords (v .boxes .box2 .n) (v .round) ≤ length (w .before .before .blank-words2 .result)
 room2 w =
     let v = start (w .before) .args in
-    omega (arith, words-most (v .boxes .two .n) (v .round) (width2 (w .before)), w .before .before .blank-words2 .ensures)
+    omega (arith, words-most (v .boxes .box2 .n) (v .round) (width2 (w .before)), w .before .before .blank-words2 .ensures .0)
 
 blank-words-requires : tie.Need-blank-words-requires
 blank-words-requires c κs = search needs
@@ -60,7 +60,7 @@ round-requires : tie.Need-round-requires
 round-requires c κs =
     let w = c .before .before .before .before in
     let s = start (w .before) in
-    ((s .pre .one, room1 w), ((s .pre .two, room2 w), s .pre .width))
+    ((s .pre .box1, room1 w), ((s .pre .box2, room2 w), s .pre .width))
 
 slice-aggregate-both-same : tie.Need-slice-aggregate-both-same
 slice-aggregate-both-same c = search needs
@@ -73,11 +73,11 @@ both-same-requires c κs =
     let r = rounded c in
     let w = worded r in
     let v = start (w .before) .args in
-    let most = words-most (v .boxes .one .n) (v .round) (width1 (w .before)) in
+    let most = words-most (v .boxes .box1 .n) (v .round) (width1 (w .before)) in
     let count = w .words-of .ensures in
     let kept = r .round .kept .1 .1 .1 .1 .1 .1 .1 in
-    let blank1 = w .before .before .before .blank-words .ensures in
-    let blank2 = w .before .before .blank-words2 .ensures in
+    let blank1 = w .before .before .before .blank-words .ensures .0 in
+    let blank2 = w .before .before .blank-words2 .ensures .0 in
     (omega (arith, most, count, kept .0, blank1), omega (arith, most, count, kept .1 .0, blank2))
 
 same-length : tie.Need-same-length
@@ -91,20 +91,20 @@ front : (k : ℕ) {n : ℕ} (l : List ℕ) {out : List ℕ} (m : List ℕ) → k
 front k l m count written there = ap₂ take count written ∙ there
 
 front1 : (r : tie.After-round) → let w = worded r in let v = start (w .before) .args in
-    take (w .words-of .result) (r .round .last .1 .1 .1 .1 .1 .1 .1 .0) ≡ message (partyOf (v .boxes .one) (v .t1 .now)) (v .w1 .now) (v .round)
+    take (w .words-of .result) (r .round .last .1 .1 .1 .1 .1 .1 .1 .0) ≡ message (partyOf (v .boxes .box1) (v .t1 .now)) (v .w1 .now) (v .round)
 front1 r =
     let w = worded r in
     let v = start (w .before) .args in
-    front (w .words-of .result) _ _ (w .words-of .ensures) (r .round .ensures .0 .0) (message-front (partyOf (v .boxes .one) (v .t1 .now)) (v .w1 .now) _ (v .round) (room1 w))
+    front (w .words-of .result) _ _ (w .words-of .ensures) (r .round .ensures .0 .0) (message-front (partyOf (v .boxes .box1) (v .t1 .now)) (v .w1 .now) _ (v .round) (room1 w))
 
 front2 : (r : tie.After-round) → let w = worded r in let v = start (w .before) .args in
-    take (w .words-of .result) (r .round .last .1 .1 .1 .1 .1 .1 .1 .1 .0) ≡ message (partyOf (v .boxes .two) (v .t2 .now)) (v .w2 .now) (v .round)
+    take (w .words-of .result) (r .round .last .1 .1 .1 .1 .1 .1 .1 .1 .0) ≡ message (partyOf (v .boxes .box2) (v .t2 .now)) (v .w2 .now) (v .round)
 front2 r =
     let w = worded r in
     let s = start (w .before) in
     let v = s .args in
-    let count : w .words-of .result ≡ roundWords (v .boxes .two .n) (v .round) = w .words-of .ensures ∙ ap (λ (n : ℕ). roundWords n (v .round)) (s .pre .width) in
-    front (w .words-of .result) _ _ count (r .round .ensures .1 .0) (message-front (partyOf (v .boxes .two) (v .t2 .now)) (v .w2 .now) _ (v .round) (room2 w))
+    let count : w .words-of .result ≡ roundWords (v .boxes .box2 .n) (v .round) = w .words-of .ensures ∙ ap (λ (n : ℕ). roundWords n (v .round)) (s .pre .width) in
+    front (w .words-of .result) _ _ count (r .round .ensures .1 .0) (message-front (partyOf (v .boxes .box2) (v .t2 .now)) (v .w2 .now) _ (v .round) (room2 w))
 
 returns : tie.Need-returns
 returns c =

@@ -1,6 +1,6 @@
 -- `vectors::job::exchanged` meets its contract. The loop's invariant: both boxes are on their course, and the text told all rounds so far.
 use Prim.Native.Nat.{ℕ, _+_, _-_, _≤_}
-use mathlib.Core.List.{[], _∷_}
+use mathlib.Core.List.{[], _∷_, _++_}
 use mathlib.Core.Bool.{true}
 use mathlib.Core.Path.{_≡_, refl, sym, ap, ap₂, subst, _∙_}
 use native.Mathlib.Omega.{arith}
@@ -9,12 +9,15 @@ use borrow.Author.Tests.{not-true, not-false}
 use lib.ListN.{length}
 use Rattle.protocol.specs.Products.{Party}
 use Rattle.protocol.specs.Exchange.{Both, exchanged}
+use Rattle.rules.specs.Answers.{share}
 use Rattle.rules.specs.Calls.{partyOf}
-use Rattle.exchange.specs.Boxes.{works}
+use Rattle.exchange.specs.Opening.{shareOf}
+use Rattle.exchange.specs.Boxes.{works, after}
+use Rattle.exchange.proofs.Exchanges.{more-own, more-others, last-own, last-others}
+use Rattle.exchange.proofs.Course.{Course, course-first, course-width, course-sends, course-next, course-last}
 use Rattle.vectors.specs.declared.numbers.Cursor.{Cursor}
 use Rattle.vectors.specs.Numbers.{spelled}
 use Rattle.vectors.specs.Job.{messages, messagesTo}
-use Rattle.vectors.proofs.Course.{Course, course-first, course-sends, course-next, course-own, course-others}
 use Rattle.vectors.proofs.Told.{upTo, read, told-more, told-fails, told-last}
 use Rattle.vectors.proofs.job.exchanged.Statement.{statement}
 use Rattle.vectors.proofs.job.exchanged.Tie as tie
@@ -22,10 +25,11 @@ use Rattle.vectors.proofs.job.exchanged.Tie as tie
 abbrev Inv-loop : tie.InvT-loop
 Inv-loop text from number t1 t2 w1₀ w2₀ due₀ at₀ heard₀ w1 w2 due at heard =
     (heard ≤ 5)
-    × Course number (partyOf (due₀ .one) t1) (partyOf (due₀ .two) t2) (works w1₀ w2₀) heard t1 t2 (due .one) (due .two) w1 w2
+    × Course (due₀ .box1) number t1 heard (after (due₀ .box1) (due₀ .box2) t1 t2 w1₀ w2₀ heard .own) (due .box1) w1
+    × Course (due₀ .box2) number t2 heard (after (due₀ .box1) (due₀ .box2) t1 t2 w1₀ w2₀ heard .others) (due .box2) w2
     × (length w1 ≡ length w1₀)
     × (length w2 ≡ length w2₀)
-    × (upTo at ≡ read text from (partyOf (due₀ .one) t1) (partyOf (due₀ .two) t2) (works w1₀ w2₀) heard)
+    × (upTo at ≡ read text from (partyOf (due₀ .box1) t1) (partyOf (due₀ .box2) t2) (works w1₀ w2₀) heard)
 
 abbrev μ-loop : tie.MeasureT-loop
 μ-loop text from number t1 t2 w1₀ w2₀ due₀ at₀ heard₀ w1 w2 due at heard = 5 - heard
@@ -34,36 +38,49 @@ abbrev start : tie.At-loop Inv-loop μ-loop → tie.Start Inv-loop μ-loop
 start l = l .before .before .before .before .before .before
 
 -- the two boxes, and what they held first
-abbrev one : tie.Start Inv-loop μ-loop → Party
-one s = partyOf (s .args .boxes .one) (s .args .t1 .now)
+abbrev box1 : tie.Start Inv-loop μ-loop → Party
+box1 s = partyOf (s .args .boxes .box1) (s .args .t1 .now)
 
-abbrev two : tie.Start Inv-loop μ-loop → Party
-two s = partyOf (s .args .boxes .two) (s .args .t2 .now)
+abbrev box2 : tie.Start Inv-loop μ-loop → Party
+box2 s = partyOf (s .args .boxes .box2) (s .args .t2 .now)
 
 abbrev first : tie.Start Inv-loop μ-loop → Both
 first s = works (s .args .w1 .now) (s .args .w2 .now)
 
--- both boxes on their course, and the text told, after so many rounds
-abbrev CourseAt : tie.At-loop Inv-loop μ-loop → ℕ → Type 0
-CourseAt l k =
+-- each box on its course, and the text told, after so many rounds
+abbrev Course1 : tie.At-loop Inv-loop μ-loop → ℕ → Type 0
+Course1 l k =
     let s = start l in
     let v = s .args in
-    Course (v .number) (one s) (two s) (first s) k (v .t1 .now) (v .t2 .now) (l .loop .due .one) (l .loop .due .two) (l .loop .w1) (l .loop .w2)
+    Course (v .boxes .box1) (v .number) (v .t1 .now) k (exchanged (box1 s) (box2 s) (first s) k .own) (l .loop .due .box1) (l .loop .w1)
+
+abbrev Course2 : tie.At-loop Inv-loop μ-loop → ℕ → Type 0
+Course2 l k =
+    let s = start l in
+    let v = s .args in
+    Course (v .boxes .box2) (v .number) (v .t2 .now) k (exchanged (box1 s) (box2 s) (first s) k .others) (l .loop .due .box2) (l .loop .w2)
 
 abbrev ToldAt : tie.At-loop Inv-loop μ-loop → ℕ → Type 0
 ToldAt l k =
     let s = start l in
-    upTo (l .loop .at) ≡ read (s .args .text .now) (s .args .from) (one s) (two s) (first s) k
+    upTo (l .loop .at) ≡ read (s .args .text .now) (s .args .from) (box1 s) (box2 s) (first s) k
 
 -- where the loop ends, all rounds but the last are heard
 five : (a : tie.After-loop Inv-loop μ-loop) → a .before .loop .heard ≡ 5
 five a = omega (arith, a .loop-test .left, a .before .loop .inv .0)
 
-ended : (a : tie.After-loop Inv-loop μ-loop) → CourseAt (a .before) 5
-ended a = subst (CourseAt (a .before)) (five a) (a .before .loop .inv .1)
+ended1 : (a : tie.After-loop Inv-loop μ-loop) → Course1 (a .before) 5
+ended1 a = subst (Course1 (a .before)) (five a) (a .before .loop .inv .1)
+
+ended2 : (a : tie.After-loop Inv-loop μ-loop) → Course2 (a .before) 5
+ended2 a = subst (Course2 (a .before)) (five a) (a .before .loop .inv .2)
+
+-- the two have one width
+one-width : (l : tie.At-loop Inv-loop μ-loop) → l .loop .due .box1 .n ≡ l .loop .due .box2 .n
+one-width l = let inv = l .loop .inv in course-width (inv .1) ∙ start l .pre .width ∙ sym (course-width (inv .2))
 
 told : (a : tie.After-loop Inv-loop μ-loop) → ToldAt (a .before) 5
-told a = subst (ToldAt (a .before)) (five a) (a .before .loop .inv .4)
+told a = subst (ToldAt (a .before)) (five a) (a .before .loop .inv .5)
 
 -- a cursor that read all it was asked
 reached : (d : Cursor) → d .ok ≡ true → upTo (d .at) ≡ d
@@ -72,30 +89,38 @@ reached d ok = rw (sym ok) refl
 -- a round's cursor reads the messages that the exchange has
 round-read : (r : tie.After-compared Inv-loop μ-loop) → let l = r .before .before .before .before in
     let s = start l in
-    r .compared .result .read ≡ spelled (s .args .text .now) (l .loop .at) (messages (one s) (two s) (exchanged (one s) (two s) (first s) (l .loop .heard)) (l .loop .heard + 1))
+    r .compared .result .read ≡ spelled (s .args .text .now) (l .loop .at) (messages (box1 s) (box2 s) (exchanged (box1 s) (box2 s) (first s) (l .loop .heard)) (l .loop .heard + 1))
 round-read r =
     let l = r .before .before .before .before in
-    r .compared .ensures .0 ∙ ap (spelled (start l .args .text .now) (l .loop .at)) (course-sends (l .loop .inv .1) (l .loop .heard + 1))
+    r .compared .ensures .0 ∙ ap (spelled (start l .args .text .now) (l .loop .at)) (ap₂ _++_ (course-sends (l .loop .inv .1) (l .loop .heard + 1)) (course-sends (l .loop .inv .2) (l .loop .heard + 1)))
 
 last-read : (r : tie.After-compared2 Inv-loop μ-loop) → let l = r .before .before .before .before in
     let s = start l in
-    r .compared2 .result .read ≡ spelled (s .args .text .now) (l .loop .at) (messages (one s) (two s) (exchanged (one s) (two s) (first s) 5) 6)
+    r .compared2 .result .read ≡ spelled (s .args .text .now) (l .loop .at) (messages (box1 s) (box2 s) (exchanged (box1 s) (box2 s) (first s) 5) 6)
 last-read r =
     let a = r .before .before .before in
-    r .compared2 .ensures .0 ∙ ap (spelled (start (a .before) .args .text .now) (a .before .loop .at)) (course-sends (ended a) 6)
+    r .compared2 .ensures .0 ∙ ap (spelled (start (a .before) .args .text .now) (a .before .loop .at)) (ap₂ _++_ (course-sends (ended1 a) 6) (course-sends (ended2 a) 6))
 
 loop-holds : tie.Need-loop-holds Inv-loop μ-loop
-unfolding messagesTo spelled
+unfolding messagesTo spelled exchanged
 loop-holds c =
     let s = c .before .before .before .before .before in
-    let v = s .args in
-    (omega arith, course-first (v .number) (v .t1 .now) (v .t2 .now) (v .boxes .one) (v .boxes .two) (v .w1 .now) (v .w2 .now) (s .pre), refl, refl, refl)
+    let v = s .args in (
+      omega arith,
+      course-first (v .boxes .box1) (v .number) (v .t1 .now) (v .w1 .now) (s .pre .box1),
+      course-first (v .boxes .box2) (v .number) (v .t2 .now) (v .w2 .now) (s .pre .box2),
+      refl,
+      refl,
+      refl,
+    )
 
 add-compared : tie.Need-add-compared Inv-loop μ-loop
 add-compared c = search needs
 
 compared-requires : tie.Need-compared-requires Inv-loop μ-loop
-compared-requires c κs = c .before .before .before .loop .inv .1 .due
+compared-requires c κs =
+    let l = c .before .before .before in
+    record { box1 = l .loop .inv .1 .due; box2 = l .loop .inv .2 .due; width = one-width l }
 
 same-length : tie.Need-same-length Inv-loop μ-loop
 same-length c = search needs
@@ -109,7 +134,7 @@ returns c =
     let l = r .before .before .before .before in
     let s = start l in
     let less = r .before .before .before .loop-test .taken in
-    told-fails (s .args .text .now) (s .args .from) (one s) (two s) (first s) (l .loop .heard) (l .loop .at) (l .loop .inv .4) (r .compared .result .read) (round-read r)
+    told-fails (s .args .text .now) (s .args .from) (box1 s) (box2 s) (first s) (l .loop .heard) (l .loop .at) (l .loop .inv .5) (r .compared .result .read) (round-read r)
     (omega (arith, less)) (not-true _ (c .if1 .taken))
 
 add-heard : tie.Need-add-heard Inv-loop μ-loop
@@ -126,18 +151,22 @@ loop-again c =
     let less = r .before .before .before .loop-test .taken in
     let s = start l in
     let inv = l .loop .inv in
+    let k = l .loop .heard in
     let kept = r .compared .kept .1 .1 .1 .1 .1 .1 .1 in
     let ok = not-false (r .compared .result .read .ok) (e .if1 .left) in
-    let more = told-more (s .args .text .now) (s .args .from) (one s) (two s) (first s) (l .loop .heard) (l .loop .at) (inv .4) (r .compared .result .read) (round-read r) in (
+    let more = told-more (s .args .text .now) (s .args .from) (box1 s) (box2 s) (first s) (l .loop .heard) (l .loop .at) (inv .5) (r .compared .result .read) (round-read r) in (
       omega (arith, less),
-      course-next (inv .1) (r .compared .result .heard .one) (r .compared .result .heard .two) _ _ (r .compared .ensures .1 .0) (r .compared .ensures .1 .1) less,
-      omega (arith, kept .0, inv .2),
-      omega (arith, kept .1 .0, inv .3),
+      course-next (inv .1) _ _ (course-sends (inv .2) (k + 1)) (r .compared .result .heard .box1) _ less (r .compared .ensures .1 .0) _ (more-own (box1 s) (box2 s) (first s) k),
+      course-next (inv .2) _ _ (course-sends (inv .1) (k + 1)) (r .compared .result .heard .box2) _ less (r .compared .ensures .1 .1) _ (more-others (box1 s) (box2 s) (first s) k),
+      omega (arith, kept .0, inv .3),
+      omega (arith, kept .1 .0, inv .4),
       reached (r .compared .result .read) ok ∙ more,
     )
 
 compared-requires-2 : tie.Need-compared-requires-2 Inv-loop μ-loop
-compared-requires-2 c κs = ended (c .before .before) .due
+compared-requires-2 c κs =
+    let a = c .before .before in
+    record { box1 = ended1 a .due; box2 = ended2 a .due; width = one-width (a .before) }
 
 same-length-3 : tie.Need-same-length-3 Inv-loop μ-loop
 same-length-3 c = search needs
@@ -151,7 +180,7 @@ returns-2 c =
     let a = r .before .before .before in
     let l = a .before in
     let s = start l in
-    told-fails (s .args .text .now) (s .args .from) (one s) (two s) (first s) 5 (l .loop .at) (told a) (r .compared2 .result .read) (last-read r)
+    told-fails (s .args .text .now) (s .args .from) (box1 s) (box2 s) (first s) 5 (l .loop .at) (told a) (r .compared2 .result .read) (last-read r)
     (omega arith) (not-true _ (c .if2 .taken))
 
 answers-same-requires : tie.Need-answers-same-requires Inv-loop μ-loop
@@ -172,11 +201,11 @@ returns-3 c =
     let s = start l in
     let v = s .args in
     let ok = not-false (r .compared2 .result .read .ok) (e .if2 .left) in
-    let more = told-more (v .text .now) (v .from) (one s) (two s) (first s) 5 (l .loop .at) (told a) (r .compared2 .result .read) (last-read r) in
-    let own = course-own (ended a) (r .compared2 .result .heard .one) _ (r .compared2 .ensures .1 .0) in
-    let others = course-others (ended a) (r .compared2 .result .heard .two) _ (r .compared2 .ensures .1 .1) in
-    let shares = ap₂ (λ (x y : ℕ). spelled (v .text .now) (r .compared2 .result .read .at) (x ∷ y ∷ []) .ok) own others in
-    let all = told-last (v .text .now) (v .from) (one s) (two s) (first s) (r .compared2 .result .read .at) (reached (r .compared2 .result .read) ok ∙ more) in
+    let more = told-more (v .text .now) (v .from) (box1 s) (box2 s) (first s) 5 (l .loop .at) (told a) (r .compared2 .result .read) (last-read r) in
+    let share1 = course-last (ended1 a) _ _ (course-sends (ended2 a) 6) (r .compared2 .result .heard .box1) _ refl (r .compared2 .ensures .1 .0) ∙ ap share (sym (last-own (box1 s) (box2 s) (first s))) in
+    let share2 = course-last (ended2 a) _ _ (course-sends (ended1 a) 6) (r .compared2 .result .heard .box2) _ refl (r .compared2 .ensures .1 .1) ∙ ap share (sym (last-others (box1 s) (box2 s) (first s))) in
+    let shares = ap₂ (λ (x y : ℕ). spelled (v .text .now) (r .compared2 .result .read .at) (x ∷ y ∷ []) .ok) (ap shareOf share1) (ap shareOf share2) in
+    let all = told-last (v .text .now) (v .from) (box1 s) (box2 s) (first s) (r .compared2 .result .read .at) (reached (r .compared2 .result .read) ok ∙ more) in
     c .answers-same .ensures ∙ shares ∙ ap (λ (d : Cursor). d .ok) all
 
 pub exchanged-spec : {M : Type 1} → statement M

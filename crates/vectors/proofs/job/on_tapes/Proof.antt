@@ -10,11 +10,11 @@ use lib.ListN.{length, take, drop, length-append}
 use lib.Seq.{length-take-le}
 use Rattle.field.specs.Width.{listed}
 use Rattle.tape.specs.Layout.{tapeLength}
-use Rattle.tape.proofs.Sizes.{small}
+use Rattle.exchange.proofs.Cut.{Cut, cut}
 use Rattle.vectors.specs.Numbers.{numbersFrom, readTo}
 use Rattle.vectors.specs.Job.{jobTold}
 use Rattle.vectors.proofs.Readings.{filled-front}
-use Rattle.vectors.proofs.Jobs.{tapes-unlisted, tapes-first, tapes-second, tapes-told}
+use Rattle.vectors.proofs.Jobs.{tapes-unlisted, tapes-box1, tapes-box2, tapes-told}
 use Rattle.vectors.proofs.job.on_tapes.Statement.{statement}
 use Rattle.vectors.proofs.job.on_tapes.Tie as tie
 
@@ -30,37 +30,31 @@ filled1 f = f .before .before .before .before .before
 abbrev filled2 : tie.Else3 → tie.After-fill2
 filled2 e = e .before .before .before
 
--- both tapes fit
-fits1 : (b : tie.After-blank-tape2) → b .before .before .tape-words .result ≤ length (b .before .blank-tape .result)
-fits1 b =
-    let t = b .before .before in
-    omega (arith, t .tape-words .ensures, small (width (t .before)), b .before .blank-tape .ensures)
+-- both tapes are cut to their length
+cut1 : (b : tie.After-blank-tape2)
+    → Cut (b .before .before .before .before .before .before .args .n) (b .before .before .tape-words .result) (b .before .blank-tape .result)
+cut1 b = let t = b .before .before in cut _ _ _ (width (t .before)) (t .tape-words .ensures) (b .before .blank-tape .ensures)
 
-fits2 : (b : tie.After-blank-tape2) → b .before .before .tape-words .result ≤ length (b .blank-tape2 .result)
-fits2 b =
-    let t = b .before .before in
-    omega (arith, t .tape-words .ensures, small (width (t .before)), b .blank-tape2 .ensures)
+cut2 : (b : tie.After-blank-tape2)
+    → Cut (b .before .before .before .before .before .before .args .n) (b .before .before .tape-words .result) (b .blank-tape2 .result)
+cut2 b = let t = b .before .before in cut _ _ _ (width (t .before)) (t .tape-words .ensures) (b .blank-tape2 .ensures)
 
--- and still do when their front is filled
+-- and a tape still fits when its front is filled
 front-fits : (n : ℕ) (l front : List ℕ) → n ≤ length l → length front ≡ length (take n l) → n ≤ length (front ++ drop n l)
 front-fits n l front fits kept = omega (arith, length-append front (drop n l), length-take-le n l fits)
 
 -- what read each tape, and what its front holds then
 read1 : (f : tie.After-fill) → let v = listed1 f .before .before .before .args in f .fill .result ≡ readTo (tapeLength (v .n)) (v .text .now) (v .from)
 read1 f =
-    let b = f .before .before in
     let v = listed1 f .before .before .before .args in
-    let long = length-take-le _ _ (fits1 b) ∙ b .before .before .tape-words .ensures in
-    f .fill .ensures .0 ∙ ap (λ (k : ℕ). readTo k (v .text .now) (v .from)) long
+    f .fill .ensures .0 ∙ ap (λ (k : ℕ). readTo k (v .text .now) (v .from)) (cut1 (f .before .before) .whole)
 
 read2 : (g : tie.After-fill2) → let f = filled1 g in let v = listed1 f .before .before .before .args in
     g .fill2 .result ≡ readTo (tapeLength (v .n)) (v .text .now) (f .fill .result .at)
 read2 g =
     let f = filled1 g in
-    let b = f .before .before in
     let v = listed1 f .before .before .before .args in
-    let long = length-take-le _ _ (fits2 b) ∙ b .before .before .tape-words .ensures in
-    g .fill2 .ensures .0 ∙ ap (λ (k : ℕ). readTo k (v .text .now) (f .fill .result .at)) long
+    g .fill2 .ensures .0 ∙ ap (λ (k : ℕ). readTo k (v .text .now) (f .fill .result .at)) (cut2 (f .before .before) .whole)
 
 is-listed-requires : tie.Need-is-listed-requires
 is-listed-requires c κs = search needs
@@ -68,7 +62,7 @@ is-listed-requires c κs = search needs
 returns : tie.Need-returns
 returns c =
     let v = c .before .before .before .args in
-    tapes-unlisted (v .text .now) (v .from) (v .n) (v .pair) (v .number) (v .one .x) (v .one .y) (v .two .x) (v .two .y)
+    tapes-unlisted (v .text .now) (v .from) (v .n) (v .pair) (v .number) (v .box1 .x) (v .box1 .y) (v .box2 .x) (v .box2 .y)
     (sym (c .before .is-listed .ensures) ∙ not-true _ (c .if1 .taken))
 
 tape-words-requires : tie.Need-tape-words-requires
@@ -81,10 +75,10 @@ blank-tape-requires-2 : tie.Need-blank-tape-requires-2
 blank-tape-requires-2 c κs = search needs
 
 array-borrow-prefix-t1 : tie.Need-array-borrow-prefix-t1
-array-borrow-prefix-t1 c = fits1 c
+array-borrow-prefix-t1 c = cut1 c .fits
 
 slice-aggregate-fill : tie.Need-slice-aggregate-fill
-slice-aggregate-fill c = sym (length-take-le _ _ (fits1 (c .before)))
+slice-aggregate-fill c = cut1 (c .before) .long
 
 fill-requires : tie.Need-fill-requires
 fill-requires c κs = search needs
@@ -93,14 +87,14 @@ returns-2 : tie.Need-returns-2
 returns-2 c =
     let f = c .before .before .before in
     let v = listed1 f .before .before .before .args in
-    tapes-first (v .text .now) (v .from) (v .n) (v .pair) (v .number) (v .one .x) (v .one .y) (v .two .x) (v .two .y)
+    tapes-box1 (v .text .now) (v .from) (v .n) (v .pair) (v .number) (v .box1 .x) (v .box1 .y) (v .box2 .x) (v .box2 .y)
     (f .fill .result) (read1 f) (not-true _ (c .if2 .taken))
 
 array-borrow-prefix-t2 : tie.Need-array-borrow-prefix-t2
-array-borrow-prefix-t2 c = fits2 (c .before .before .before .before .before)
+array-borrow-prefix-t2 c = cut2 (c .before .before .before .before .before) .fits
 
 slice-aggregate-fill-2 : tie.Need-slice-aggregate-fill-2
-slice-aggregate-fill-2 c = sym (length-take-le _ _ (fits2 (c .before .before .before .before .before .before)))
+slice-aggregate-fill-2 c = cut2 (c .before .before .before .before .before .before) .long
 
 fill-requires-2 : tie.Need-fill-requires-2
 fill-requires-2 c κs = search needs
@@ -110,13 +104,13 @@ returns-3 c =
     let g = c .before .before .before in
     let f = filled1 g in
     let v = listed1 f .before .before .before .args in
-    tapes-second (v .text .now) (v .from) (v .n) (v .pair) (v .number) (v .one .x) (v .one .y) (v .two .x) (v .two .y)
+    tapes-box2 (v .text .now) (v .from) (v .n) (v .pair) (v .number) (v .box1 .x) (v .box1 .y) (v .box2 .x) (v .box2 .y)
     (f .fill .result) (read1 f) (g .fill2 .result) (read2 g) (not-true _ (c .if3 .taken))
 
 array-share-prefix-t1 : tie.Need-array-share-prefix-t1
 array-share-prefix-t1 c =
     let f = filled1 (filled2 c) in
-    front-fits _ _ (f .fill .last .1 .1 .0) (fits1 (f .before .before)) (f .fill .kept .1 .1 .0)
+    front-fits _ _ (f .fill .last .1 .1 .0) (cut1 (f .before .before) .fits) (f .fill .kept .1 .1 .0)
 
 slice-aggregate-opened : tie.Need-slice-aggregate-opened
 slice-aggregate-opened c = sym (length-take-le _ _ (array-share-prefix-t1 (c .before)))
@@ -124,7 +118,7 @@ slice-aggregate-opened c = sym (length-take-le _ _ (array-share-prefix-t1 (c .be
 array-share-prefix-t2 : tie.Need-array-share-prefix-t2
 array-share-prefix-t2 c =
     let g = filled2 (c .before) in
-    front-fits _ _ (g .fill2 .last .1 .1 .0) (fits2 (filled1 g .before .before)) (g .fill2 .kept .1 .1 .0)
+    front-fits _ _ (g .fill2 .last .1 .1 .0) (cut2 (filled1 g .before .before) .fits) (g .fill2 .kept .1 .1 .0)
 
 slice-aggregate-opened-2 : tie.Need-slice-aggregate-opened-2
 slice-aggregate-opened-2 c = sym (length-take-le _ _ (array-share-prefix-t2 (c .before)))
@@ -143,13 +137,13 @@ returns-4 c =
     let ok1 = not-false (f .fill .result .ok) (g .before .before .if2 .left) in
     let ok2 = not-false (g .fill2 .result .ok) (e .if3 .left) in
     let count = b .before .before .tape-words .ensures in
-    let t1 = filled-front (v .text .now) (v .from) _ _ (f .fill .last .1 .1 .0) (f .fill .result) (fits1 b) (f .fill .ensures .0) ok1 (f .fill .ensures .1) in
-    let t2 = filled-front (v .text .now) (f .fill .result .at) _ _ (g .fill2 .last .1 .1 .0) (g .fill2 .result) (fits2 b) (g .fill2 .ensures .0) ok2 (g .fill2 .ensures .1) in
-    let one = t1 ∙ ap (λ (k : ℕ). numbersFrom k (v .text .now) (v .from)) count in
-    let two = t2 ∙ ap (λ (k : ℕ). numbersFrom k (v .text .now) (f .fill .result .at)) count in
+    let t1 = filled-front (v .text .now) (v .from) _ _ (f .fill .last .1 .1 .0) (f .fill .result) (cut1 b .fits) (f .fill .ensures .0) ok1 (f .fill .ensures .1) in
+    let t2 = filled-front (v .text .now) (f .fill .result .at) _ _ (g .fill2 .last .1 .1 .0) (g .fill2 .result) (cut2 b .fits) (g .fill2 .ensures .0) ok2 (g .fill2 .ensures .1) in
+    let tape1 = t1 ∙ ap (λ (k : ℕ). numbersFrom k (v .text .now) (v .from)) count in
+    let tape2 = t2 ∙ ap (λ (k : ℕ). numbersFrom k (v .text .now) (f .fill .result .at)) count in
     c .opened .ensures
-    ∙ ap₂ (λ (s t : List ℕ). jobTold (v .text .now) (g .fill2 .result .at) (v .n) (v .pair) (v .number) (v .one .x) (v .one .y) (v .two .x) (v .two .y) s t) one two
-    ∙ tapes-told (v .text .now) (v .from) (v .n) (v .pair) (v .number) (v .one .x) (v .one .y) (v .two .x) (v .two .y)
+    ∙ ap₂ (λ (s t : List ℕ). jobTold (v .text .now) (g .fill2 .result .at) (v .n) (v .pair) (v .number) (v .box1 .x) (v .box1 .y) (v .box2 .x) (v .box2 .y) s t) tape1 tape2
+    ∙ tapes-told (v .text .now) (v .from) (v .n) (v .pair) (v .number) (v .box1 .x) (v .box1 .y) (v .box2 .x) (v .box2 .y)
     (f .fill .result) (read1 f) (g .fill2 .result) (read2 g) (width l) ok1 ok2
 
 pub on-tapes-spec : {M : Type 1} → statement M

@@ -1,0 +1,12 @@
+-- `exchange::memory::blank_words` meets its contract.
+use mathlib.Core.Path.{refl}
+use Rattle.exchange.specs.Memory.{blankWords}
+use Rattle.exchange.proofs.memory.blank_words.Statement.{statement}
+use Rattle.exchange.proofs.memory.blank_words.Tie as tie
+
+returns : tie.Need-returns
+unfolding blankWords
+returns c = (refl, refl)
+
+pub blank-words-spec : {M : Type 1} → statement M
+blank-words-spec = tie.close (tie.spec returns)

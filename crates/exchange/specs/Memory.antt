@@ -1,0 +1,24 @@
+-- Memory for a job of any width, and a job with such memory on one fresh tape of each box.
+use Prim.Native.Nat.{ℕ}
+use mathlib.Core.List.{List}
+use lib.ListN.{replicate}
+use Rattle.exchange.specs.declared.Shares.{Shares}
+use Rattle.exchange.specs.Jobs.{Lent, lent, Ended, jobOf}
+
+-- zeros to work in, and for the longest message
+unfoldable pub blankWork : List ℕ
+blankWork = replicate 436 0
+
+unfoldable pub blankWords : List ℕ
+blankWords = replicate 2889 0
+
+-- the tally of one fresh tape
+abbrev pub oneFresh : List ℕ
+oneFresh = replicate 1 255
+
+-- a box with one fresh tape and such memory
+abbrev pub freshLent : Shares → List ℕ → Lent
+freshLent own tape = lent own tape blankWork oneFresh blankWords
+
+unfoldable pub freshJob : ℕ → ℕ → ℕ → Shares → Shares → List ℕ → List ℕ → Ended
+freshJob n pair number box1 box2 t1 t2 = jobOf n pair number (freshLent box1 t1) (freshLent box2 t2)
