@@ -161,17 +161,10 @@ pub fn word_check(earlier: Check, n: u32, incoming: &[u32]) -> Check
     when(earlier, !words_fit(n, incoming), Refusal::Word)
 }
 
-// Whether every incoming word is below p. Reading ends at the first that is not.
+// Whether every incoming word is below p.
 fn words_fit(n: u32, words: &[u32]) -> bool
     requires { ⌜ listed n ≡ true ⌝ }
     ensures { λ r. ⌜ r ≡ wordsFit n (now (words .entry)) ⌝ }
 {
-    let mut i = 0;
-    while i < words.len() {
-        if !field::in_range(n, words[i]) {
-            return false;
-        }
-        i += 1;
-    }
-    true
+    field::all_in_range(n, words)
 }
