@@ -21,8 +21,8 @@ use Rattle.rules.specs.declared.state.State.{State}
 use Rattle.rules.specs.declared.state.Outcome.{Outcome}
 use Rattle.exchange.specs.Opening.{firstState}
 use Rattle.walk.specs.declared.calls.Tried.{Tried}
-use Rattle.walk.specs.declared.bench.Bench.{Bench}
-use Rattle.walk.specs.Walk.{idleState, jobState, boxTape, freshTally, tallyAfter, Told, After}
+use Rattle.walk.specs.declared.progress.BoxMemory.{BoxMemory}
+use Rattle.walk.specs.Walk.{idleState, jobState, boxTape, freshTally, tallyAfter, Answered, After}
 
 -- ---- box 1 wakes, starts its job on tape 0 and speaks
 
@@ -34,11 +34,11 @@ pub woken-tally : wakeRule firstState 3 1 5 freshTally .buffer ≡ freshTally
 unfolding wakeRule wakeGround modeOf inRange listed isSide tallyFits
 woken-tally = refl
 
-pub opened-four : startRule (idleState 4) 0 5 1 (boxTape 1 0) (tabulate 100 (λ k. 0)) freshTally .state ≡ jobState 4 (Speak 1)
+pub opened-four : startRule (idleState 4) 0 5 1 (boxTape 1 0) (tabulate 100 (λ k. 6)) freshTally .state ≡ jobState 4 (Speak 1)
 unfolding startRule startGround modeOf inRange listed isSide tallyFits tapesOf isFresh modulus inOrder trailerFits bodyInRange plainTape
 opened-four = refl
 
-pub spoken-four : speakRule (jobState 4 (Speak 1)) 0 1 (boxTape 1 0) (tabulate 100 (λ k. 0)) (tabulate 33 (λ k. 0)) .state ≡ jobState 4 (Hear 1)
+pub spoken-four : speakRule (jobState 4 (Speak 1)) 0 1 (boxTape 1 0) (tabulate 100 (λ k. 6)) (tabulate 33 (λ k. 6)) .state ≡ jobState 4 (Hear 1)
 unfolding speakRule speakGround modeOf inRange listed isSide tallyFits tapesOf modulus inOrder trailerFits bodyInRange plainTape roundWords
 spoken-four = refl
 
@@ -51,7 +51,7 @@ marked-four = refl
 -- compared with the state before it
 pub told : {t : Tried} {r : Outcome} {s : State} {kept : Bool} {before buffer : List ℕ} {rule : Result} → outcome r buffer ≡ rule
     → (t .answer ≡ r .answer) × (t .kept ≡ true → (kept ≡ true) × (s ≡ r .state)) × (kept ≡ true → s ≡ r .state → t .kept ≡ true)
-    → (kept ≡ true → before ≡ buffer) → (before ≡ buffer → kept ≡ true) → Told t s before rule
+    → (kept ≡ true → before ≡ buffer) → (before ≡ buffer → kept ≡ true) → Answered t s before rule
 told e h right left =
     let state = ap (λ (x : Result). x .state) e in
     let buffer = ap (λ (x : Result). x .buffer) e in
@@ -62,7 +62,7 @@ told e h right left =
     }
 
 -- the box after it
-pub after : (b : Bench) {buffer : List ℕ} {rule : Result} → outcome (record { answer = b .answer; state = b .state }) buffer ≡ rule → After b buffer rule
+pub after : (b : BoxMemory) {buffer : List ℕ} {rule : Result} → outcome (record { answer = b .answer; state = b .state }) buffer ≡ rule → After b buffer rule
 after b e =
     record {
       reply = ap (λ (x : Result). x .reply) e;
@@ -76,7 +76,7 @@ spent-after : (steps : ℕ) → 0 < steps → tallyAfter steps ≡ 0 ∷ 255 ∷
 spent-after steps some = rw (ne-eqb steps 0 (λ e. omega arith)) refl
 
 -- the start marks tape 0, and no later step changes the tally
-pub next-tally : (step : ℕ) (b a : Bench) → b .tally ≡ tallyAfter step
+pub next-tally : (step : ℕ) (b a : BoxMemory) → b .tally ≡ tallyAfter step
     → (step ≡ 0 → (b .state ≡ idleState 4) × (b .work ≡ tabulate 100 (λ k. 6)))
     → (step + 1 ≡ 1 → After a (a .tally) (startRule (b .state) 0 5 1 (boxTape 1 0) (b .work) (b .tally)))
     → ((step + 1 ≡ 1 → ⊥) → a .tally ≡ b .tally)

@@ -22,7 +22,7 @@ use Rattle.rules.specs.declared.state.State.{State}
 use Rattle.exchange.specs.Opening.{refusalOf}
 use Rattle.walk.specs.declared.calls.Tried.{Tried}
 use Rattle.walk.specs.declared.sweeps.Sweep.{Sweep}
-use Rattle.walk.specs.Walk.{Told}
+use Rattle.walk.specs.Walk.{Answered}
 use Rattle.walk.specs.Sweeps.{refusedAt}
 
 unless-keeps : (s : State) (buffer : List ℕ) (k : ℕ) (r : Result) (ground : ℕ) (ok : Result) → r ≡ unless ground s buffer ok
@@ -57,19 +57,19 @@ both-tests : (t : Bool) (kept : Bool) → (t ≡ true → kept ≡ true) → kep
 both-tests true kept e = rw (e refl) refl
 both-tests false kept e = and-false kept refl
 
-told-refused : {tried : Tried} {s : State} {buffer : List ℕ} {rule : Result} (k : ℕ) → Told tried s buffer rule
+told-refused : {tried : Tried} {s : State} {buffer : List ℕ} {rule : Result} (k : ℕ) → Answered tried s buffer rule
     → (refusalOf (rule .reply) ≡ k → (s ≡ rule .state) × (buffer ≡ rule .buffer))
     → (tried .kept && eqb (refusalOf (replyOf (tried .answer))) k) ≡ eqb (refusalOf (rule .reply)) k
 told-refused {tried} {rule = rule} k t keeps =
     rw (t .reply) (both-tests (eqb (refusalOf (rule .reply)) k) (tried .kept) (λ e. let w = keeps (eqb-true _ _ e) in t .kept (w .0) (w .1)))
 
 pub start-refused : {tried : Tried} (s : State) (number x y : ℕ) (tape work tally : List ℕ) (k : ℕ) → 0 < k
-    → Told tried s tally (startRule s number x y tape work tally)
+    → Answered tried s tally (startRule s number x y tape work tally)
     → (tried .kept && eqb (refusalOf (replyOf (tried .answer))) k) ≡ eqb (refusalOf (startRule s number x y tape work tally .reply)) k
 start-refused s number x y tape work tally k some t = told-refused k t (start-keeps s number x y tape work tally k some)
 
 pub hear-refused : {tried : Tried} (s : State) (number round : ℕ) (tape work incoming : List ℕ) (k : ℕ) → 0 < k
-    → Told tried s work (hearRule s number round tape work incoming)
+    → Answered tried s work (hearRule s number round tape work incoming)
     → (tried .kept && eqb (refusalOf (replyOf (tried .answer))) k) ≡ eqb (refusalOf (hearRule s number round tape work incoming .reply)) k
 hear-refused s number round tape work incoming k some t = told-refused k t (hear-keeps s number round tape work incoming k some)
 

@@ -15,7 +15,7 @@ use Rattle.rules.specs.declared.state.Phase.{Phase}
 use Rattle.rules.specs.declared.state.Phase.the-variants.{Asleep, Idle, Job}
 use Rattle.rules.specs.declared.state.State.{State}
 use Rattle.walk.specs.declared.calls.Tried.{Tried}
-use Rattle.walk.specs.declared.bench.Bench.{Bench}
+use Rattle.walk.specs.declared.progress.BoxMemory.{BoxMemory}
 
 -- box 1 awake, with a tally of that length
 abbrev pub idleState : ℕ → State
@@ -51,7 +51,7 @@ abbrev pub filler : ℕ → List ℕ
 filler count = replicate count 9
 
 -- what is told of a call in a state: the rule's reply, and it's called kept just when the rule leaves the state, and the buffer, as it was
-pub record Told (tried : Tried) (state : State) (buffer : List ℕ) (rule : Result) : Type 0 where
+pub record Answered (tried : Tried) (state : State) (buffer : List ℕ) (rule : Result) : Type 0 where
   pub reply : replyOf (tried .answer) ≡ rule .reply
   pub same : tried .kept ≡ true → (state ≡ rule .state) × (buffer ≡ rule .buffer)
   pub kept : state ≡ rule .state → buffer ≡ rule .buffer → tried .kept ≡ true
@@ -65,7 +65,7 @@ abbrev pub tallyAfter : ℕ → List ℕ
 tallyAfter steps = cond (eqb steps 0) freshTally (0 ∷ 255 ∷ 255 ∷ 255 ∷ [])
 
 -- a box after a call: the rule's reply, state and buffer
-pub record After (b : Bench) (buffer : List ℕ) (rule : Result) : Type 0 where
+pub record After (b : BoxMemory) (buffer : List ℕ) (rule : Result) : Type 0 where
   pub reply : replyOf (b .answer) ≡ rule .reply
   pub state : b .state ≡ rule .state
   pub left : buffer ≡ rule .buffer

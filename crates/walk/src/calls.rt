@@ -10,7 +10,7 @@ ghost use lib.ListN.{length};
 ghost use Rattle.rules.specs.Answers.{replyOf};
 ghost use Rattle.exchange.specs.Opening.{refusalOf};
 ghost use Rattle.rules.specs.Calls.{wakeRule, startRule, speakRule, hearRule, dropRule};
-ghost use Rattle.walk.specs.Walk.{filler, Told};
+ghost use Rattle.walk.specs.Walk.{filler, Answered};
 
 // What stands in the buffers that a call is lent to write.
 pub const FILLER: u32 = 9;
@@ -57,7 +57,7 @@ fn compared(before: State, outcome: Outcome, kept: bool) -> Tried
 }
 
 pub fn wake(state: State, n: u32, side: u32, tally: &[u8]) -> Tried
-    ensures { λ r. ⌜ Told r state (now (tally .entry)) (wakeRule state n side 5 (now (tally .entry))) ⌝ }
+    ensures { λ r. ⌜ Answered r state (now (tally .entry)) (wakeRule state n side 5 (now (tally .entry))) ⌝ }
 {
     let r = limit_box::wake(state, n, side, crate::tapes::PAIR, tally);
     compared(state, r, true)
@@ -72,7 +72,7 @@ pub fn start(
     work: &[u32],
     tally: [u8; 4],
 ) -> Tried
-    ensures { λ r. ⌜ Told r state tally (startRule state number x y (now (tape .entry)) (now (work .entry)) tally) ⌝ }
+    ensures { λ r. ⌜ Answered r state tally (startRule state number x y (now (tape .entry)) (now (work .entry)) tally) ⌝ }
 {
     let mut after = tally;
     let r = limit_box::start(state, number, x, y, tape, work, &mut after);
@@ -88,7 +88,7 @@ pub fn speak(
     work: &[u32],
     out: &mut [u32],
 ) -> Tried
-    ensures { λ r. ⌜ Told r state (filler (length (now (out .entry)))) (speakRule state number round (now (tape .entry)) (now (work .entry)) (now (out .entry))) ⌝ }
+    ensures { λ r. ⌜ Answered r state (filler (length (now (out .entry)))) (speakRule state number round (now (tape .entry)) (now (work .entry)) (now (out .entry))) ⌝ }
     ensures left { λ _. ⌜ now (out .exit) ≡ speakRule state number round (now (tape .entry)) (now (work .entry)) (now (out .entry)) .buffer ⌝ }
 {
     let r = limit_box::speak(state, number, round, tape, work, &mut *out);
@@ -104,7 +104,7 @@ pub fn hear(
     work: &mut [u32],
     incoming: &[u32],
 ) -> Tried
-    ensures { λ r. ⌜ Told r state (filler (length (now (work .entry)))) (hearRule state number round (now (tape .entry)) (now (work .entry)) (now (incoming .entry))) ⌝ }
+    ensures { λ r. ⌜ Answered r state (filler (length (now (work .entry)))) (hearRule state number round (now (tape .entry)) (now (work .entry)) (now (incoming .entry))) ⌝ }
     ensures left { λ _. ⌜ now (work .exit) ≡ hearRule state number round (now (tape .entry)) (now (work .entry)) (now (incoming .entry)) .buffer ⌝ }
 {
     let r = limit_box::hear(state, number, round, tape, &mut *work, incoming);
@@ -112,7 +112,7 @@ pub fn hear(
 }
 
 pub fn drop(state: State) -> Tried
-    ensures { λ r. ⌜ Told r state [] (dropRule state) ⌝ }
+    ensures { λ r. ⌜ Answered r state [] (dropRule state) ⌝ }
 {
     let r = limit_box::drop(state);
     compared(state, r, true)

@@ -1,6 +1,6 @@
 // Cuts and drops of box 1 at every point of a job.
-use crate::bench;
 use crate::five;
+use crate::progress;
 use crate::say::number;
 use crate::say::short;
 use crate::say::text;
@@ -25,17 +25,17 @@ fn asleep(state: State, round: u32, tally: [u8; 4]) {
 }
 
 fn cut(step: u32) {
-    let b = bench::first(step);
+    let b = progress::box1_after(step);
     let before = b.state;
     let tally = b.tally;
     text(b"cut after ");
-    bench::name(step);
-    asleep(states::cut(before), bench::round_of(step), tally);
+    progress::name(step);
+    asleep(states::cut(before), progress::round_of(step), tally);
 }
 
 // The start's write leaves that value in its byte, and the start answers nothing.
 fn cut_in_write(value: u8) {
-    let b = bench::first(0);
+    let b = progress::box1_after(0);
     let before = b.state;
     let mut tally = b.tally;
     tally[0] = value;
@@ -44,24 +44,24 @@ fn cut_in_write(value: u8) {
 }
 
 fn drop(step: u32) {
-    let b = bench::first(step);
+    let b = progress::box1_after(step);
     let before = b.state;
     let tally = b.tally;
     text(b"drop after ");
-    bench::name(step);
+    progress::name(step);
     text(b":");
     short(crate::calls::drop(before));
     text(b";");
     let r = limit_box::drop(before);
     let after = r.state;
-    five::all(after, bench::round_of(step), tally);
+    five::all(after, progress::round_of(step), tally);
     both_tapes(after, tally);
 }
 
 // Both at every point of a job.
 fn points() {
     let mut step = 0;
-    while step <= bench::LAST {
+    while step <= progress::LAST {
         cut(step);
         drop(step);
         step += 1;

@@ -11,7 +11,7 @@ ghost use lib.ListN.{take};
 ghost use Rattle.lists.specs.Tabulate.{tabulate};
 ghost use Rattle.protocol.specs.Rounds.{roundWords};
 ghost use Rattle.rules.specs.Calls.{startRule, speakRule, hearRule};
-ghost use Rattle.walk.specs.Walk.{boxTape, filler, Told};
+ghost use Rattle.walk.specs.Walk.{boxTape, filler, Answered};
 
 // The words of a round at width 3, as the paper's table has them.
 pub fn words(round: u32) -> usize
@@ -30,7 +30,7 @@ pub fn words(round: u32) -> usize
 
 // A start on a tape that is lent with it.
 pub fn start_on(state: State, number: u32, tally: [u8; 4]) -> Tried
-    ensures { λ r. ⌜ Told r state tally (startRule state number 5 1 (boxTape 1 number) (tabulate 100 (λ k. 0)) tally) ⌝ }
+    ensures { λ r. ⌜ Answered r state tally (startRule state number 5 1 (boxTape 1 number) (tabulate 100 (λ k. 0)) tally) ⌝ }
 {
     let tape = tapes::plain(1, number);
     let work = [0u32; 100];
@@ -38,7 +38,7 @@ pub fn start_on(state: State, number: u32, tally: [u8; 4]) -> Tried
 }
 
 pub fn speak_on(state: State, number: u32, round: u32) -> Tried
-    ensures { λ r. ⌜ Told r state (filler 33) (speakRule state number round (boxTape 1 number) (tabulate 100 (λ k. 0)) (filler 33)) ⌝ }
+    ensures { λ r. ⌜ Answered r state (filler 33) (speakRule state number round (boxTape 1 number) (tabulate 100 (λ k. 0)) (filler 33)) ⌝ }
 {
     let tape = tapes::plain(1, number);
     let work = [0u32; 100];
@@ -48,7 +48,7 @@ pub fn speak_on(state: State, number: u32, round: u32) -> Tried
 
 // A hear of as many words as the round has.
 pub fn hear_on(state: State, number: u32, round: u32) -> Tried
-    ensures { λ r. ⌜ Told r state (filler 100) (hearRule state number round (boxTape 1 number) (filler 100) (take (roundWords 3 round) (tabulate 33 (λ k. 0)))) ⌝ }
+    ensures { λ r. ⌜ Answered r state (filler 100) (hearRule state number round (boxTape 1 number) (filler 100) (take (roundWords 3 round) (tabulate 33 (λ k. 0)))) ⌝ }
 {
     let tape = tapes::plain(1, number);
     let mut work = [FILLER; 100];

@@ -11,7 +11,7 @@ ghost use lib.ListN.{set};
 ghost use Rattle.lists.specs.Tabulate.{tabulate};
 ghost use Rattle.rules.specs.Calls.{hearRule};
 ghost use Rattle.rules.specs.declared.state.Turn.the-variants.{Hear};
-ghost use Rattle.walk.specs.Walk.{boxTape, jobState, filler, Told};
+ghost use Rattle.walk.specs.Walk.{boxTape, jobState, filler, Answered};
 
 fn turns() {
     line(b"hear, asleep: ", hear_on(states::asleep(), 0, 1));
@@ -23,7 +23,7 @@ fn turns() {
 
 // The hear that is due, lent this tape.
 fn on_tape(tape: &[u32]) -> Tried
-    ensures { λ r. ⌜ Told r (jobState 4 (Hear 1)) (filler 100) (hearRule (jobState 4 (Hear 1)) 0 1 (now (tape .entry)) (filler 100) (tabulate 33 (λ k. 0))) ⌝ }
+    ensures { λ r. ⌜ Answered r (jobState 4 (Hear 1)) (filler 100) (hearRule (jobState 4 (Hear 1)) 0 1 (now (tape .entry)) (filler 100) (tabulate 33 (λ k. 0))) ⌝ }
 {
     let mut work = [FILLER; 100];
     let incoming = [0u32; 33];
@@ -41,7 +41,7 @@ fn tapes_lent() {
 
 // The hear that is due, of these words.
 pub fn of_words(incoming: &[u32]) -> Tried
-    ensures { λ r. ⌜ Told r (jobState 4 (Hear 1)) (filler 100) (hearRule (jobState 4 (Hear 1)) 0 1 (boxTape 1 0) (filler 100) (now (incoming .entry))) ⌝ }
+    ensures { λ r. ⌜ Answered r (jobState 4 (Hear 1)) (filler 100) (hearRule (jobState 4 (Hear 1)) 0 1 (boxTape 1 0) (filler 100) (now (incoming .entry))) ⌝ }
 {
     let tape = tapes::plain(1, 0);
     let mut work = [FILLER; 100];
@@ -65,7 +65,7 @@ fn rooms() {
 // The hear that is due, of 33 words with a 7 in that place.
 pub fn of_high(place: usize) -> Tried
     requires { ⌜ place < 33 ⌝ }
-    ensures { λ r. ⌜ Told r (jobState 4 (Hear 1)) (filler 100) (hearRule (jobState 4 (Hear 1)) 0 1 (boxTape 1 0) (filler 100) (set (tabulate 33 (λ k. 0)) place 7)) ⌝ }
+    ensures { λ r. ⌜ Answered r (jobState 4 (Hear 1)) (filler 100) (hearRule (jobState 4 (Hear 1)) 0 1 (boxTape 1 0) (filler 100) (set (tabulate 33 (λ k. 0)) place 7)) ⌝ }
 {
     let mut incoming = [0u32; 33];
     incoming[place] = 7;

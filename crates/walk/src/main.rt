@@ -1,6 +1,5 @@
 // Walks one pair of boxes of width 3 through every refusal at each call that can give it, through cuts and drops at every
 // point of a job, and through a whole job, and prints what was answered.
-mod bench;
 mod calls;
 mod cuts;
 mod five;
@@ -8,6 +7,7 @@ mod hears;
 mod job;
 mod order;
 mod outside;
+mod progress;
 mod say;
 mod speaks;
 mod starts;

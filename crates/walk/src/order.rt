@@ -10,7 +10,7 @@ use rules::state::State;
 ghost use mathlib.Core.List.{[], _∷_};
 ghost use Rattle.lists.specs.Tabulate.{tabulate};
 ghost use Rattle.rules.specs.Calls.{startRule, speakRule, hearRule};
-ghost use Rattle.walk.specs.Walk.{boxTape, filler, Told};
+ghost use Rattle.walk.specs.Walk.{boxTape, filler, Answered};
 
 fn wakes() {
     let tally = [255u8; 4];
@@ -25,7 +25,7 @@ fn wakes() {
 
 // A start with shares, tape and work that are refused, where byte 0 is spent.
 fn wrong_start(state: State, number: u32) -> Tried
-    ensures { λ r. ⌜ Told r state (0 ∷ 255 ∷ 255 ∷ 255 ∷ [])
+    ensures { λ r. ⌜ Answered r state (0 ∷ 255 ∷ 255 ∷ 255 ∷ [])
         (startRule state number 7 7 (boxTape 2 0) (tabulate 99 (λ k. 0)) (0 ∷ 255 ∷ 255 ∷ 255 ∷ [])) ⌝ }
 {
     let tape = tapes::plain(2, 0);
@@ -66,7 +66,7 @@ fn starts() {
 
 // A speak with a tape, work and out that are refused.
 fn wrong_speak(state: State, number: u32) -> Tried
-    ensures { λ r. ⌜ Told r state (filler 32) (speakRule state number 1 (boxTape 2 0) (tabulate 99 (λ k. 0)) (filler 32)) ⌝ }
+    ensures { λ r. ⌜ Answered r state (filler 32) (speakRule state number 1 (boxTape 2 0) (tabulate 99 (λ k. 0)) (filler 32)) ⌝ }
 {
     let tape = tapes::plain(2, 0);
     let work = [0u32; 99];
@@ -96,7 +96,7 @@ fn speaks() {
 
 // A hear with a tape, work and words that are refused.
 fn wrong_hear(state: State, number: u32) -> Tried
-    ensures { λ r. ⌜ Told r state (filler 99) (hearRule state number 1 (boxTape 2 0) (filler 99) (tabulate 32 (λ k. 7))) ⌝ }
+    ensures { λ r. ⌜ Answered r state (filler 99) (hearRule state number 1 (boxTape 2 0) (filler 99) (tabulate 32 (λ k. 7))) ⌝ }
 {
     let tape = tapes::plain(2, 0);
     let mut work = [FILLER; 99];

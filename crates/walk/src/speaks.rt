@@ -9,7 +9,7 @@ use crate::tapes;
 ghost use Rattle.lists.specs.Tabulate.{tabulate};
 ghost use Rattle.rules.specs.Calls.{speakRule};
 ghost use Rattle.rules.specs.declared.state.Turn.the-variants.{Speak};
-ghost use Rattle.walk.specs.Walk.{jobState, filler, Told};
+ghost use Rattle.walk.specs.Walk.{jobState, filler, Answered};
 
 fn turns() {
     line(b"speak, asleep: ", speak_on(states::asleep(), 0, 1));
@@ -22,7 +22,7 @@ fn turns() {
 
 // The speak that is due, lent this tape.
 fn on_tape(tape: &[u32]) -> Tried
-    ensures { λ r. ⌜ Told r (jobState 4 (Speak 1)) (filler 33) (speakRule (jobState 4 (Speak 1)) 0 1 (now (tape .entry)) (tabulate 100 (λ k. 0)) (filler 33)) ⌝ }
+    ensures { λ r. ⌜ Answered r (jobState 4 (Speak 1)) (filler 33) (speakRule (jobState 4 (Speak 1)) 0 1 (now (tape .entry)) (tabulate 100 (λ k. 0)) (filler 33)) ⌝ }
 {
     let work = [0u32; 100];
     let mut out = [FILLER; 33];

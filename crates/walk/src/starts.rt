@@ -12,11 +12,11 @@ ghost use Prim.Native.Nat.{_<_};
 ghost use lib.ListN.{set};
 ghost use Rattle.lists.specs.Tabulate.{tabulate};
 ghost use Rattle.rules.specs.Calls.{startRule};
-ghost use Rattle.walk.specs.Walk.{idleState, boxTape, freshTally, Told};
+ghost use Rattle.walk.specs.Walk.{idleState, boxTape, freshTally, Answered};
 
 // With a fresh tally.
 fn on_number(state: State, number: u32) -> Tried
-    ensures { λ r. ⌜ Told r state freshTally (startRule state number 5 1 (boxTape 1 number) (tabulate 100 (λ k. 0)) freshTally) ⌝ }
+    ensures { λ r. ⌜ Answered r state freshTally (startRule state number 5 1 (boxTape 1 number) (tabulate 100 (λ k. 0)) freshTally) ⌝ }
 {
     crate::five::start_on(state, number, [255u8; 4])
 }
@@ -37,7 +37,7 @@ fn states_and_numbers() {
 
 // A start where that byte is tape 0's.
 pub fn on_byte(byte: u8) -> Tried
-    ensures { λ r. ⌜ Told r (idleState 4) (byte ∷ 255 ∷ 255 ∷ 255 ∷ [])
+    ensures { λ r. ⌜ Answered r (idleState 4) (byte ∷ 255 ∷ 255 ∷ 255 ∷ [])
         (startRule (idleState 4) 0 5 1 (boxTape 1 0) (tabulate 100 (λ k. 0)) (byte ∷ 255 ∷ 255 ∷ 255 ∷ [])) ⌝ }
 {
     let tape = tapes::plain(1, 0);
@@ -54,7 +54,7 @@ fn spent_bytes() {
 
 // A start with those shares, and that work.
 fn on_shares(x: u32, y: u32, work: &[u32]) -> Tried
-    ensures { λ r. ⌜ Told r (idleState 4) freshTally (startRule (idleState 4) 0 x y (boxTape 1 0) (now (work .entry)) freshTally) ⌝ }
+    ensures { λ r. ⌜ Answered r (idleState 4) freshTally (startRule (idleState 4) 0 x y (boxTape 1 0) (now (work .entry)) freshTally) ⌝ }
 {
     let tape = tapes::plain(1, 0);
     start(states::idle(), 0, x, y, &tape, work, [255u8; 4])
@@ -70,7 +70,7 @@ fn shares_and_room() {
 
 // A start on number 0 that is lent this tape.
 fn on_tape(tape: &[u32]) -> Tried
-    ensures { λ r. ⌜ Told r (idleState 4) freshTally (startRule (idleState 4) 0 5 1 (now (tape .entry)) (tabulate 100 (λ k. 0)) freshTally) ⌝ }
+    ensures { λ r. ⌜ Answered r (idleState 4) freshTally (startRule (idleState 4) 0 5 1 (now (tape .entry)) (tabulate 100 (λ k. 0)) freshTally) ⌝ }
 {
     let work = [0u32; 100];
     start(states::idle(), 0, 5, 1, tape, &work, [255u8; 4])
@@ -86,7 +86,7 @@ fn tape_lengths() {
 // Another word in one place of the tape.
 pub fn on_changed(place: usize, word: u32) -> Tried
     requires { ⌜ place < 148 ⌝ }
-    ensures { λ r. ⌜ Told r (idleState 4) freshTally (startRule (idleState 4) 0 5 1 (set (boxTape 1 0) place word) (tabulate 100 (λ k. 0)) freshTally) ⌝ }
+    ensures { λ r. ⌜ Answered r (idleState 4) freshTally (startRule (idleState 4) 0 5 1 (set (boxTape 1 0) place word) (tabulate 100 (λ k. 0)) freshTally) ⌝ }
 {
     let tape = tapes::changed(place, word);
     on_tape(&tape)
@@ -111,7 +111,7 @@ fn byte(b: u8) {
 
 // A start that is taken marks its tape's byte, and no other.
 fn mark() {
-    let b = crate::bench::first(1);
+    let b = crate::progress::box1_after(1);
     let tally = b.tally;
     text(b"start, the tally after it:");
     byte(tally[0]);

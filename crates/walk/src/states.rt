@@ -1,9 +1,11 @@
 // Box 1's states on the way to its first hear, and whether two states are the same.
+use crate::progress::BoxMemory;
 use rules::state::Phase;
 use rules::state::State;
 use rules::state::Turn;
 ghost use mathlib.Core.Path.{_≡_};
 ghost use mathlib.Core.Bool.{true};
+ghost use Rattle.lists.specs.Tabulate.{tabulate};
 ghost use Rattle.rules.specs.Modes.{asleepState, roundOf};
 ghost use Rattle.exchange.specs.Opening.{firstState};
 ghost use Rattle.walk.specs.Walk.{idleState, jobState, withTally, wordsOf, callOf};
@@ -39,9 +41,8 @@ pub fn cut(state: State) -> State
 pub fn idle() -> State
     ensures { λ r. ⌜ r ≡ idleState 4 ⌝ }
 {
-    let tally = [255u8; 4];
-    let r = limit_box::wake(asleep(), 3, 1, crate::tapes::PAIR, &tally);
-    r.state
+    let woken = crate::progress::woken(1);
+    woken.state
 }
 
 // The same, but that the tally had five bytes at wake.
@@ -58,26 +59,26 @@ pub fn longer(state: State) -> State
     }
 }
 
-// In a job on tape 0: speak 1 is due.
+// Box 1 in a job on tape 0: speak 1 is due.
+fn started() -> BoxMemory
+    ensures { λ r. ⌜ (r .state ≡ jobState 4 (Speak 1)) × (r .work ≡ tabulate 100 (λ k. 6)) × (r .out ≡ tabulate 33 (λ k. 6)) ⌝ }
+{
+    crate::progress::started(crate::progress::woken(1), 1, 5, 1)
+}
+
 pub fn opened() -> State
     ensures { λ r. ⌜ r ≡ jobState 4 (Speak 1) ⌝ }
 {
-    let tape = crate::tapes::plain(1, 0);
-    let work = [0u32; 100];
-    let mut tally = [255u8; 4];
-    let r = limit_box::start(idle(), 0, 5, 1, &tape, &work, &mut tally);
-    r.state
+    let started = started();
+    started.state
 }
 
 // The same job, where hear 1 is due.
 pub fn spoken() -> State
     ensures { λ r. ⌜ r ≡ jobState 4 (Hear 1) ⌝ }
 {
-    let tape = crate::tapes::plain(1, 0);
-    let work = [0u32; 100];
-    let mut out = [0u32; 33];
-    let r = limit_box::speak(opened(), 0, 1, &tape, &work, &mut out);
-    r.state
+    let spoken = crate::progress::spoken(started(), 1, 1);
+    spoken.state
 }
 
 // All that a state holds, as words.

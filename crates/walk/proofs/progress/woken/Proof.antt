@@ -1,9 +1,9 @@
--- `walk::bench::woken` meets its contract: the call is its rule in the first state.
+-- `walk::progress::woken` meets its contract: the call is its rule in the first state.
 use mathlib.Core.Path.{refl}
 use borrow.Author.Needs.{needs}
 use Rattle.walk.proofs.Reached.{after}
-use Rattle.walk.proofs.bench.woken.Statement.{statement}
-use Rattle.walk.proofs.bench.woken.Tie as tie
+use Rattle.walk.proofs.progress.woken.Statement.{statement}
+use Rattle.walk.proofs.progress.woken.Tie as tie
 
 asleep-requires : tie.Need-asleep-requires
 asleep-requires c κs = search needs
@@ -15,7 +15,7 @@ wake-requires : tie.Need-wake-requires
 wake-requires c κs = search needs
 
 returns : tie.Need-returns
-returns c = (after _ (rw (c .before .before .before .asleep .ensures) at (c .before .wake .ensures)), refl)
+returns c = (after _ (rw (c .before .before .before .asleep .ensures) at (c .before .wake .ensures)), refl, refl)
 
 pub woken-spec : {M : Type 1} → statement M
 woken-spec = tie.close (tie.spec asleep-requires slice-aggregate-wake wake-requires returns)

@@ -1,8 +1,8 @@
--- `walk::bench::stepped` meets its contract: the start is step 1, and a later step leaves the tally.
+-- `walk::progress::stepped` meets its contract: the start is step 1, and a later step leaves the tally.
 use native.Mathlib.Omega.{arith}
 use borrow.Author.Needs.{needs}
-use Rattle.walk.proofs.bench.stepped.Statement.{statement}
-use Rattle.walk.proofs.bench.stepped.Tie as tie
+use Rattle.walk.proofs.progress.stepped.Statement.{statement}
+use Rattle.walk.proofs.progress.stepped.Tie as tie
 
 both-started-requires : tie.Need-both-started-requires
 both-started-requires c κs = search needs

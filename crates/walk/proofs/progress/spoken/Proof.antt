@@ -1,9 +1,9 @@
--- `walk::bench::spoken` meets its contract: the call is its rule on the plain tape.
+-- `walk::progress::spoken` meets its contract: the call is its rule on the plain tape.
 use mathlib.Core.Path.{refl}
 use borrow.Author.Needs.{needs}
 use Rattle.walk.proofs.Reached.{after}
-use Rattle.walk.proofs.bench.spoken.Statement.{statement}
-use Rattle.walk.proofs.bench.spoken.Tie as tie
+use Rattle.walk.proofs.progress.spoken.Statement.{statement}
+use Rattle.walk.proofs.progress.spoken.Tie as tie
 
 plain-requires : tie.Need-plain-requires
 plain-requires c κs = search needs

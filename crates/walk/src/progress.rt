@@ -1,4 +1,4 @@
-// Both boxes with the buffers that they are lent, step by step through a job on tape 0.
+// Both boxes step by step through a job on tape 0.
 use rules::state::Answer;
 use rules::state::State;
 ghost use mathlib.Core.Path.{_≡_};
@@ -10,7 +10,8 @@ ghost use Rattle.rules.specs.Calls.{wakeRule, startRule, speakRule, hearRule};
 ghost use Rattle.exchange.specs.Opening.{firstState};
 ghost use Rattle.walk.specs.Walk.{freshTally, boxTape, tallyAfter, After};
 
-pub struct Bench {
+// What a box answered last, its state, and the buffers that it is lent.
+pub struct BoxMemory {
     pub answer: Answer,
     pub state: State,
     pub work: [u32; 100],
@@ -19,22 +20,22 @@ pub struct Bench {
 }
 
 pub struct Pair {
-    pub one: Bench,
-    pub two: Bench,
+    pub box1: BoxMemory,
+    pub box2: BoxMemory,
 }
 
 // The last step of a job: hear 6.
 pub const LAST: u32 = 13;
 
 // A box that has woken. The words in its buffers are of no account.
-fn woken(side: u32) -> Bench
-    ensures { λ r. ⌜ After r (r .tally) (wakeRule firstState 3 side 5 freshTally) × (r .work ≡ tabulate 100 (λ k. 6)) ⌝ }
+pub fn woken(side: u32) -> BoxMemory
+    ensures { λ r. ⌜ After r (r .tally) (wakeRule firstState 3 side 5 freshTally) × (r .work ≡ tabulate 100 (λ k. 6)) × (r .out ≡ tabulate 33 (λ k. 6)) ⌝ }
 {
     let tally = [255u8; 4];
     let r = limit_box::wake(crate::states::asleep(), 3, side, crate::tapes::PAIR, &tally);
     let answer = r.answer;
     let state = r.state;
-    Bench {
+    BoxMemory {
         answer,
         state,
         work: [6; 100],
@@ -43,8 +44,8 @@ fn woken(side: u32) -> Bench
     }
 }
 
-fn started(b: Bench, side: u32, x: u32, y: u32) -> Bench
-    ensures { λ r. ⌜ After r (r .tally) (startRule (b .state) 0 x y (boxTape side 0) (b .work) (b .tally)) ⌝ }
+pub fn started(b: BoxMemory, side: u32, x: u32, y: u32) -> BoxMemory
+    ensures { λ r. ⌜ After r (r .tally) (startRule (b .state) 0 x y (boxTape side 0) (b .work) (b .tally)) × (r .work ≡ b .work) × (r .out ≡ b .out) ⌝ }
 {
     let tape = crate::tapes::plain(side, 0);
     let before = b.state;
@@ -54,7 +55,7 @@ fn started(b: Bench, side: u32, x: u32, y: u32) -> Bench
     let r = limit_box::start(before, 0, x, y, &tape, &work, &mut tally);
     let answer = r.answer;
     let state = r.state;
-    Bench {
+    BoxMemory {
         answer,
         state,
         work,
@@ -63,7 +64,7 @@ fn started(b: Bench, side: u32, x: u32, y: u32) -> Bench
     }
 }
 
-fn spoken(b: Bench, side: u32, round: u32) -> Bench
+pub fn spoken(b: BoxMemory, side: u32, round: u32) -> BoxMemory
     ensures { λ r. ⌜ After r (r .out) (speakRule (b .state) 0 round (boxTape side 0) (b .work) (b .out)) × (r .tally ≡ b .tally) ⌝ }
 {
     let tape = crate::tapes::plain(side, 0);
@@ -74,7 +75,7 @@ fn spoken(b: Bench, side: u32, round: u32) -> Bench
     let r = limit_box::speak(before, 0, round, &tape, &work, &mut out);
     let answer = r.answer;
     let state = r.state;
-    Bench {
+    BoxMemory {
         answer,
         state,
         work,
@@ -84,8 +85,8 @@ fn spoken(b: Bench, side: u32, round: u32) -> Bench
 }
 
 // The other box's words stand at the front of its out.
-fn heard(b: Bench, side: u32, round: u32, other: [u32; 33]) -> Bench
-    ensures { λ r. ⌜ After r (r .work) (hearRule (b .state) 0 round (boxTape side 0) (b .work) (take (roundWords 3 round) other)) × (r .tally ≡ b .tally) ⌝ }
+fn heard(b: BoxMemory, side: u32, round: u32, incoming: [u32; 33]) -> BoxMemory
+    ensures { λ r. ⌜ After r (r .work) (hearRule (b .state) 0 round (boxTape side 0) (b .work) (take (roundWords 3 round) incoming)) × (r .tally ≡ b .tally) ⌝ }
 {
     let tape = crate::tapes::plain(side, 0);
     let before = b.state;
@@ -93,10 +94,10 @@ fn heard(b: Bench, side: u32, round: u32, other: [u32; 33]) -> Bench
     let out = b.out;
     let tally = b.tally;
     let count = crate::five::words(round);
-    let r = limit_box::hear(before, 0, round, &tape, &mut work, &other[..count]);
+    let r = limit_box::hear(before, 0, round, &tape, &mut work, &incoming[..count]);
     let answer = r.answer;
     let state = r.state;
-    Bench {
+    BoxMemory {
         answer,
         state,
         work,
@@ -105,61 +106,61 @@ fn heard(b: Bench, side: u32, round: u32, other: [u32; 33]) -> Bench
     }
 }
 
-fn both_started(one: Bench, two: Bench) -> Pair
-    ensures { λ r. ⌜ After (r .one) (r .one .tally) (startRule (one .state) 0 5 1 (boxTape 1 0) (one .work) (one .tally))
-        × After (r .two) (r .two .tally) (startRule (two .state) 0 5 3 (boxTape 2 0) (two .work) (two .tally)) ⌝ }
+fn both_started(box1: BoxMemory, box2: BoxMemory) -> Pair
+    ensures { λ r. ⌜ After (r .box1) (r .box1 .tally) (startRule (box1 .state) 0 5 1 (boxTape 1 0) (box1 .work) (box1 .tally))
+        × After (r .box2) (r .box2 .tally) (startRule (box2 .state) 0 5 3 (boxTape 2 0) (box2 .work) (box2 .tally)) ⌝ }
 {
     Pair {
-        one: started(one, 1, 5, 1),
-        two: started(two, 2, 5, 3),
+        box1: started(box1, 1, 5, 1),
+        box2: started(box2, 2, 5, 3),
     }
 }
 
-fn both_spoken(one: Bench, two: Bench, round: u32) -> Pair
-    ensures { λ r. ⌜ After (r .one) (r .one .out) (speakRule (one .state) 0 round (boxTape 1 0) (one .work) (one .out)) × (r .one .tally ≡ one .tally)
-        × After (r .two) (r .two .out) (speakRule (two .state) 0 round (boxTape 2 0) (two .work) (two .out)) × (r .two .tally ≡ two .tally) ⌝ }
+fn both_spoken(box1: BoxMemory, box2: BoxMemory, round: u32) -> Pair
+    ensures { λ r. ⌜ After (r .box1) (r .box1 .out) (speakRule (box1 .state) 0 round (boxTape 1 0) (box1 .work) (box1 .out)) × (r .box1 .tally ≡ box1 .tally)
+        × After (r .box2) (r .box2 .out) (speakRule (box2 .state) 0 round (boxTape 2 0) (box2 .work) (box2 .out)) × (r .box2 .tally ≡ box2 .tally) ⌝ }
 {
     Pair {
-        one: spoken(one, 1, round),
-        two: spoken(two, 2, round),
+        box1: spoken(box1, 1, round),
+        box2: spoken(box2, 2, round),
     }
 }
 
-fn both_heard(one: Bench, two: Bench, round: u32) -> Pair
-    ensures { λ r. ⌜ After (r .one) (r .one .work) (hearRule (one .state) 0 round (boxTape 1 0) (one .work) (take (roundWords 3 round) (two .out))) × (r .one .tally ≡ one .tally)
-        × After (r .two) (r .two .work) (hearRule (two .state) 0 round (boxTape 2 0) (two .work) (take (roundWords 3 round) (one .out))) × (r .two .tally ≡ two .tally) ⌝ }
+fn both_heard(box1: BoxMemory, box2: BoxMemory, round: u32) -> Pair
+    ensures { λ r. ⌜ After (r .box1) (r .box1 .work) (hearRule (box1 .state) 0 round (boxTape 1 0) (box1 .work) (take (roundWords 3 round) (box2 .out))) × (r .box1 .tally ≡ box1 .tally)
+        × After (r .box2) (r .box2 .work) (hearRule (box2 .state) 0 round (boxTape 2 0) (box2 .work) (take (roundWords 3 round) (box1 .out))) × (r .box2 .tally ≡ box2 .tally) ⌝ }
 {
-    let o1 = one.out;
-    let o2 = two.out;
+    let o1 = box1.out;
+    let o2 = box2.out;
     Pair {
-        one: heard(one, 1, round, o2),
-        two: heard(two, 2, round, o1),
+        box1: heard(box1, 1, round, o2),
+        box2: heard(box2, 2, round, o1),
     }
 }
 
 // Step 1 is the start, 2 speak 1, 3 hear 1, and so on.
 fn stepped(pair: Pair, step: u32) -> Pair
-    ensures { λ r. ⌜ (step ≡ 1 → After (r .one) (r .one .tally) (startRule (pair .one .state) 0 5 1 (boxTape 1 0) (pair .one .work) (pair .one .tally)))
-        × ((step ≡ 1 → ⊥) → r .one .tally ≡ pair .one .tally) ⌝ }
+    ensures { λ r. ⌜ (step ≡ 1 → After (r .box1) (r .box1 .tally) (startRule (pair .box1 .state) 0 5 1 (boxTape 1 0) (pair .box1 .work) (pair .box1 .tally)))
+        × ((step ≡ 1 → ⊥) → r .box1 .tally ≡ pair .box1 .tally) ⌝ }
 {
-    let one = pair.one;
-    let two = pair.two;
+    let box1 = pair.box1;
+    let box2 = pair.box2;
     if step == 1 {
-        return both_started(one, two);
+        return both_started(box1, box2);
     }
     if step % 2 == 0 {
-        return both_spoken(one, two, step / 2);
+        return both_spoken(box1, box2, step / 2);
     }
-    both_heard(one, two, step / 2)
+    both_heard(box1, box2, step / 2)
 }
 
 // Both boxes after so many steps; after wake at 0.
 pub fn reached(steps: u32) -> Pair
-    ensures { λ r. ⌜ r .one .tally ≡ tallyAfter steps ⌝ }
+    ensures { λ r. ⌜ r .box1 .tally ≡ tallyAfter steps ⌝ }
 {
     let mut pair = Pair {
-        one: woken(1),
-        two: woken(2),
+        box1: woken(1),
+        box2: woken(2),
     };
     let mut step = 0;
     while step < steps {
@@ -170,11 +171,11 @@ pub fn reached(steps: u32) -> Pair
 }
 
 // Box 1 after so many steps.
-pub fn first(steps: u32) -> Bench
+pub fn box1_after(steps: u32) -> BoxMemory
     ensures { λ r. ⌜ r .tally ≡ tallyAfter steps ⌝ }
 {
     let pair = reached(steps);
-    pair.one
+    pair.box1
 }
 
 // The name of a step.

@@ -1,4 +1,4 @@
--- `walk::bench::reached` meets its contract: the first step marks tape 0, and no later one changes the tally.
+-- `walk::progress::reached` meets its contract: the first step marks tape 0, and no later one changes the tally.
 use Prim.Native.Nat.{_≤_, _-_}
 use mathlib.Core.Path.{_≡_, ap, _∙_}
 use native.Mathlib.Omega.{arith}
@@ -6,11 +6,11 @@ use borrow.Author.Needs.{needs}
 use Rattle.lists.specs.Tabulate.{tabulate}
 use Rattle.walk.specs.Walk.{idleState, tallyAfter}
 use Rattle.walk.proofs.Reached.{woken-four, woken-tally, next-tally}
-use Rattle.walk.proofs.bench.reached.Statement.{statement}
-use Rattle.walk.proofs.bench.reached.Tie as tie
+use Rattle.walk.proofs.progress.reached.Statement.{statement}
+use Rattle.walk.proofs.progress.reached.Tie as tie
 
 abbrev Inv-loop : tie.InvT-loop
-Inv-loop steps pair₀ step₀ pair step = (step ≤ steps) × (pair .one .tally ≡ tallyAfter step) × (step ≡ 0 → (pair .one .state ≡ idleState 4) × (pair .one .work ≡ tabulate 100 (λ k. 6)))
+Inv-loop steps pair₀ step₀ pair step = (step ≤ steps) × (pair .box1 .tally ≡ tallyAfter step) × (step ≡ 0 → (pair .box1 .state ≡ idleState 4) × (pair .box1 .work ≡ tabulate 100 (λ k. 6)))
 
 abbrev μ-loop : tie.MeasureT-loop
 μ-loop steps pair₀ step₀ pair step = steps - step
@@ -40,7 +40,7 @@ loop-again c =
     let l = c .before .before .loop in
     let s = c .stepped in (
       search needs,
-      next-tally (l .step) (l .pair .one) (s .result .one) (l .inv .1) (l .inv .2) (s .ensures .0) (s .ensures .1),
+      next-tally (l .step) (l .pair .box1) (s .result .box1) (l .inv .1) (l .inv .2) (s .ensures .0) (s .ensures .1),
       λ e. absurd (omega arith),
     )
 

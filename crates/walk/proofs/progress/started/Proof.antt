@@ -1,8 +1,9 @@
--- `walk::bench::started` meets its contract: the call is its rule on the plain tape.
+-- `walk::progress::started` meets its contract: the call is its rule on the plain tape.
+use mathlib.Core.Path.{refl}
 use borrow.Author.Needs.{needs}
 use Rattle.walk.proofs.Reached.{after}
-use Rattle.walk.proofs.bench.started.Statement.{statement}
-use Rattle.walk.proofs.bench.started.Tie as tie
+use Rattle.walk.proofs.progress.started.Statement.{statement}
+use Rattle.walk.proofs.progress.started.Tie as tie
 
 plain-requires : tie.Need-plain-requires
 plain-requires c κs = search needs
@@ -23,7 +24,7 @@ returns : tie.Need-returns
 returns c =
     let s = c .before .before in
     let p = s .before .before .before .before .before .before .before .before in
-    after _ (rw (p .plain .ensures .1) at (s .start .ensures))
+    (after _ (rw (p .plain .ensures .1) at (s .start .ensures)), refl, refl)
 
 pub started-spec : {M : Type 1} → statement M
 started-spec =

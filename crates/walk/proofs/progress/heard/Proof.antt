@@ -1,11 +1,11 @@
--- `walk::bench::heard` meets its contract: the words of the round stand at the front of the other box's out.
+-- `walk::progress::heard` meets its contract: the words of the round stand at the front of the other box's out.
 use mathlib.Core.Path.{refl, sym}
 use native.Mathlib.Omega.{arith}
 use lib.Seq.{length-take-le}
 use borrow.Author.Needs.{needs}
 use Rattle.walk.proofs.Reached.{after}
-use Rattle.walk.proofs.bench.heard.Statement.{statement}
-use Rattle.walk.proofs.bench.heard.Tie as tie
+use Rattle.walk.proofs.progress.heard.Statement.{statement}
+use Rattle.walk.proofs.progress.heard.Tie as tie
 
 plain-requires : tie.Need-plain-requires
 plain-requires c κs = search needs
@@ -19,8 +19,8 @@ slice-aggregate-hear c = search needs
 slice-aggregate-hear-2 : tie.Need-slice-aggregate-hear-2
 slice-aggregate-hear-2 c = search needs
 
-array-share-prefix-other : tie.Need-array-share-prefix-other
-array-share-prefix-other c = search needs
+array-share-prefix-incoming : tie.Need-array-share-prefix-incoming
+array-share-prefix-incoming c = search needs
 
 slice-aggregate-hear-3 : tie.Need-slice-aggregate-hear-3
 slice-aggregate-hear-3 c = sym (length-take-le _ _ (omega (arith, c .before .before .before .words .ensures .0)))
@@ -43,7 +43,7 @@ heard-spec =
     words-requires
     slice-aggregate-hear
     slice-aggregate-hear-2
-    array-share-prefix-other
+    array-share-prefix-incoming
     slice-aggregate-hear-3
     hear-requires
     returns)
