@@ -38,8 +38,8 @@ fits {right} {i} {p} {m} {t} e few most le one =
     omega (arith, counted e most le, mul-le-mul all all, one, all)
 
 -- the two shares of input i
-pub first-below : {i p : ℕ} → i < p * p → 0 < p → i / p < p
-first-below less some = div-lt-iff-lt-mul some .1 less
+pub share1-below : {i p : ℕ} → i < p * p → 0 < p → i / p < p
+share1-below less some = div-lt-iff-lt-mul some .1 less
 
-pub second-below : (i : ℕ) {p : ℕ} → 0 < p → i % p < p
-second-below i some = mod-lt i some
+pub share2-below : (i : ℕ) {p : ℕ} → 0 < p → i % p < p
+share2-below i some = mod-lt i some

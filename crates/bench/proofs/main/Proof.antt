@@ -1,7 +1,5 @@
--- `bench::main` meets its contract: width 31 is listed.
-use mathlib.Core.Path.{refl}
+-- `bench::main` meets its contract.
 use borrow.Author.Needs.{needs}
-use Rattle.field.specs.Width.{listed}
 use Rattle.bench.proofs.main.Statement.{statement}
 use Rattle.bench.proofs.main.Tie as tie
 
@@ -15,12 +13,10 @@ array-read-match : tie.Need-array-read-match
 array-read-match c = search needs
 
 often-requires : tie.Need-often-requires
-unfolding listed
-often-requires c κs = refl
+often-requires c κs = search needs
 
 often-requires-2 : tie.Need-often-requires-2
-unfolding listed
-often-requires-2 c κs = refl
+often-requires-2 c κs = search needs
 
 all-sizes-requires : tie.Need-all-sizes-requires
 all-sizes-requires c κs = search needs

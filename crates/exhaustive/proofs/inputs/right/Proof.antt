@@ -10,7 +10,7 @@ use Rattle.lists.specs.Tabulate.{sum}
 use Rattle.lists.proofs.Sums.{sum-more}
 use Rattle.exhaustive.specs.Inputs.{plainAt, plainRight}
 use Rattle.exhaustive.proofs.Agrees.{plain-all}
-use Rattle.exhaustive.proofs.Small.{Small, small, counted, fits, first-below, second-below}
+use Rattle.exhaustive.proofs.Small.{Small, small, counted, fits, share1-below, share2-below}
 use Rattle.field.specs.Width.{modulus}
 use Rattle.exhaustive.proofs.inputs.right.Statement.{statement}
 use Rattle.exhaustive.proofs.inputs.right.Tie as tie
@@ -57,7 +57,7 @@ with-tapes-requires c κs =
     let t = tiny m in
     let e = m .modulus-of .ensures in
     let less = i .loop-test .taken in (
-      (p .0, p .1, omega (arith, e, first-below less (t .some)), omega (arith, e, second-below (l .loop .i) (t .some))),
+      (p .0, p .1, omega (arith, e, share1-below less (t .some)), omega (arith, e, share2-below (l .loop .i) (t .some))),
       (omega (arith, p .2, l .loop .inv .2), omega (arith, p .3, l .loop .inv .3)),
     )
 

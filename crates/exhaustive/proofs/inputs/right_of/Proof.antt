@@ -9,7 +9,7 @@ use Rattle.lists.proofs.Sums.{sum-more}
 use Rattle.encoding.specs.Matching.{indicator}
 use Rattle.exhaustive.specs.Inputs.{rightAt, rightOf}
 use Rattle.exhaustive.proofs.Agrees.{dealt-all}
-use Rattle.exhaustive.proofs.Small.{Small, small, first-below, second-below}
+use Rattle.exhaustive.proofs.Small.{Small, small, share1-below, share2-below}
 use Rattle.exhaustive.proofs.inputs.right_of.Statement.{statement}
 use Rattle.exhaustive.proofs.inputs.right_of.Tie as tie
 
@@ -31,7 +31,7 @@ ys : (i : tie.In-loop Inv-loop μ-loop)
     (i .before .loop .i / p < p) × (i .before .loop .i % p < p)
 ys i =
     let t = tiny (i .before .before) in
-    (first-below (i .loop-test .taken) (t .some), second-below (i .before .loop .i) (t .some))
+    (share1-below (i .loop-test .taken) (t .some), share2-below (i .before .loop .i) (t .some))
 
 modulus-of-requires : tie.Need-modulus-of-requires Inv-loop μ-loop
 modulus-of-requires c κs = search needs
