@@ -8,6 +8,7 @@ ghost use Rattle.lists.specs.Tabulate.{tabulate};
 ghost use Rattle.field.specs.Width.{listed, modulus};
 ghost use Rattle.tape.specs.Layout.{groupCount};
 ghost use Rattle.tape.specs.Letters.{groupInverse};
+ghost use Rattle.encoding.specs.Polynomial.{coefficient};
 ghost use Rattle.protocol.specs.Words.{Below, FromLine};
 ghost use Rattle.protocol.specs.Work.{held};
 ghost use Rattle.protocol.specs.Products.{closed};
@@ -62,29 +63,24 @@ pub fn send_levels(n: u32, work: &[u32], out: &mut [u32])
     }
 }
 
-// The share of P(A) of group g, from the opened d = A * w. Each power of d is one product.
-fn level_match(n: u32, side: u32, d: u32, powers: &[u32], g: usize) -> u32
+// The share of P(A) of group g, from the opened d = A * w, by Horner's rule in d. `row` has the coefficients of the width.
+fn level_match(n: u32, side: u32, d: u32, row: &[u32], powers: &[u32], g: usize) -> u32
     requires { ⌜ (listed n ≡ true) × (d < modulus n) × (g < groupCount n) ⌝ }
+    requires { ⌜ (length (now row) ≡ 32) × ((k : ℕ) → k ≤ n → getD (now row) k 0 ≡ coefficient n k) ⌝ }
     requires { ⌜ Below (modulus n) (now powers) × (groupCount n * (n + 1) ≤ length (now powers)) ⌝ }
     ensures { λ r. ⌜ r ≡ levelMatch n side d (now (powers .entry)) g ⌝ }
     ensures below { λ r. ⌜ r < modulus n ⌝ }
 {
     let m = n as usize;
     let base = g * (m + 1);
-    let mut total = shares::constant(side, encoding::table::coefficient_of(n, 0));
-    let mut power: u32 = 1;
-    let mut k: usize = 0;
-    while k < m {
-        power = field::mul(n, power, d);
-        let term = field::mul(n, power, powers[base + k + 1]);
-        total = field::add(
-            n,
-            total,
-            field::mul(n, encoding::table::coefficient_of(n, k + 1), term),
-        );
-        k += 1;
+    let mut total: u32 = 0;
+    let mut k: usize = m;
+    while 0 < k {
+        let sum = field::wide_mul(row[k], powers[base + k]) + total as u64;
+        total = field::mul(n, field::reduce_wide(n, sum), d);
+        k -= 1;
     }
-    total
+    field::add(n, total, shares::constant(side, row[0]))
 }
 
 // The share of one test's wrap: the sum over its levels.
@@ -103,12 +99,13 @@ pub fn wrap_of(
     ensures below { λ r. ⌜ r < modulus n ⌝ }
 {
     let m = n as usize;
+    let row = encoding::table::coefficients_of(n);
     let mut total: u32 = 0;
     let mut i: usize = 0;
     while i < m {
         let g = test * m + i;
         let d = shares::open(n, field::reduce(n, work[g]), incoming[g]);
-        total = field::add(n, total, level_match(n, side, d, powers, g));
+        total = field::add(n, total, level_match(n, side, d, &row, powers, g));
         i += 1;
     }
     total

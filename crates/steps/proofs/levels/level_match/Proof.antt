@@ -1,9 +1,9 @@
--- `steps::levels::level_match` meets its contract. The loop's invariant: power is d^k and total the sum of the terms passed, modulo p.
+-- `steps::levels::level_match` meets its contract. The loop's invariant: the terms still to come and total · d^k add up to all terms, modulo p.
 use borrow.Author.Needs.{needs}
-use mathlib.Core.Path.{_≡_, sym, ap, _∙_}
+use mathlib.Core.Path.{_≡_, refl, sym, ap, _∙_}
 use mathlib.Core.List.{List}
-use Prim.Native.Nat.{ℕ, _+_, _-_, _*_, _%_, _^_, _<_, _≤_}
-use native.Mathlib.Nat.{add-zero, add-assoc, mod-eq-of-lt, pow-suc, pow-zero}
+use Prim.Native.Nat.{ℕ, zero, suc, _+_, _-_, _*_, _%_, _^_, _<_, _≤_}
+use native.Mathlib.Nat.{le-of-lt, pow-suc, pow-zero, mul-le-mul, mul-le-mul-right}
 use native.Mathlib.Numerals.{add-one}
 use native.Mathlib.Omega.{arith}
 use lib.ListN.{getD}
@@ -26,136 +26,152 @@ use Rattle.steps.proofs.levels.level_match.Tie as tie
 abbrev term : ℕ → ℕ → List ℕ → ℕ → ℕ → ℕ
 term n d powers g k = coefficient n (k + 1) * (d ^ (k + 1) * groupPower n powers g (k + 1))
 
-power-more : {p power : ℕ} (d k : ℕ) → Cong p power (d ^ k) → Cong p (power * d % p) (d ^ (k + 1))
-power-more d k h = cong-mod ⊙ cong-mul h cong-refl ⊙ cong-eq (sym (pow-suc d k) ∙ ap (λ (j : ℕ). d ^ j) (sym (add-one k)))
+-- one step of Horner's rule, from j + 1 to j
+horner : {p : ℕ} (f : ℕ → ℕ) (d c s total next j whole : ℕ) → f j ≡ c * (d ^ (j + 1) * s) → Cong p next ((c * s + total) * d)
+    → Cong p (sum (j + 1) f + total * d ^ (j + 1)) whole → Cong p (sum j f + next * d ^ j) whole
+horner f d c s total next j whole now made before =
+    let more : d ^ (j + 1) ≡ d ^ j * d = ap (λ (i : ℕ). d ^ i) (add-one j) ∙ pow-suc d j in
+    cong-add cong-refl (cong-mul made cong-refl)
+    ⊙ cong-eq {b = sum (j + 1) f + total * d ^ (j + 1)} (rw (sum-more j f, now, more) (omega arith))
+    ⊙ before
 
-sum-after : (first k : ℕ) (f : ℕ → ℕ) → first + sum k f + f k ≡ first + sum (k + 1) f
-sum-after first k f = omega (arith, sum-more k f)
+-- a product of words below p and a word below p fit the wide reduction
+fits : (a b t p : ℕ) → a < p → b < p → t < p → a * b + t < 4 * (p * p)
+fits a b t p la lb lt =
+    let one : 1 ≤ p = omega arith in
+    omega (arith, mul-le-mul (le-of-lt la) (le-of-lt lb), mul-le-mul-right p one)
 
 abbrev Inv-loop : tie.InvT-loop
-Inv-loop n side d powers g m base total₀ power₀ k₀ total power k =
+Inv-loop n side d row powers g m base total₀ k₀ total k =
     (k ≤ n)
-    × (power < modulus n)
     × (total < modulus n)
-    × Cong (modulus n) power (d ^ k)
-    × Cong (modulus n) total (constantShare side (coefficient n 0) + sum k (term n d powers g))
+    × Cong (modulus n) (sum k (term n d powers g) + total * d ^ k) (sum n (term n d powers g))
 
 abbrev μ-loop : tie.MeasureT-loop
-μ-loop n side d powers g m base total₀ power₀ k₀ total power k = n - k
+μ-loop n side d row powers g m base total₀ k₀ total k = k
 
 add-base : tie.Need-add-base Inv-loop μ-loop
 add-base c = search needs
 
 mul-base : tie.Need-mul-base Inv-loop μ-loop
 mul-base c =
-    let s = c .before in
+    let s = c .before .before in
     omega (arith, group-place (s .args .n) (s .args .g) 0 (s .pre .0 .2) (omega arith))
 
-coefficient-of-requires : tie.Need-coefficient-of-requires Inv-loop μ-loop
-coefficient-of-requires c κs = search needs
-
-constant-requires : tie.Need-constant-requires Inv-loop μ-loop
-constant-requires c κs = search needs
-
 loop-holds : tie.Need-loop-holds Inv-loop μ-loop
-loop-holds c =
-    let s = c .before .before .before in
-    let listed = s .pre .0 .0 in
-    let first = c .before .coefficient-of .ensures in (
-      omega arith,
-      omega (arith, bounds listed),
-      omega (arith, first, c .constant .ensures .1, coefficient-below (s .args .n) 0 listed (omega arith)),
-      cong-eq (sym (pow-zero (s .args .d))),
-      cong-eq (c .constant .ensures .0 ∙ ap (constantShare (s .args .side)) first ∙ sym (add-zero _)),
-    )
+loop-holds c = (omega arith, omega (arith, bounds (c .before .before .pre .0 .0)), cong-eq (omega arith))
+
+mul-wide-mul : tie.Need-mul-wide-mul Inv-loop μ-loop
+mul-wide-mul c = search needs
+
+shared-slice-read-wide-mul : tie.Need-shared-slice-read-wide-mul Inv-loop μ-loop
+shared-slice-read-wide-mul c =
+    let l = c .before .before in
+    let s = l .before .before .before in
+    omega (arith, s .pre .1 .0 .0, l .loop .inv .0, bounds (s .pre .0 .0))
+
+add-wide-mul : tie.Need-add-wide-mul Inv-loop μ-loop
+add-wide-mul c =
+    let l = c .before .before in
+    let s = l .before .before .before in
+    omega (arith, group-place (s .args .n) (s .args .g) (l .loop .k) (s .pre .0 .2) (l .loop .inv .0), s .pre .1 .1 .1, s .good)
+
+mul-wide-mul-2 : tie.Need-mul-wide-mul-2 Inv-loop μ-loop
+mul-wide-mul-2 c =
+    let l = c .before .before in
+    let s = l .before .before .before in
+    omega (arith, group-place (s .args .n) (s .args .g) (l .loop .k) (s .pre .0 .2) (l .loop .inv .0), s .pre .1 .1 .1, s .good)
+
+shared-slice-read-wide-mul-2 : tie.Need-shared-slice-read-wide-mul-2 Inv-loop μ-loop
+shared-slice-read-wide-mul-2 c =
+    let l = c .before .before .before in
+    let s = l .before .before .before in
+    omega (arith, group-place (s .args .n) (s .args .g) (l .loop .k) (s .pre .0 .2) (l .loop .inv .0), s .pre .1 .1 .1)
+
+wide-mul-requires : tie.Need-wide-mul-requires Inv-loop μ-loop
+wide-mul-requires c κs = search needs
+
+cast-sum : tie.Need-cast-sum Inv-loop μ-loop
+cast-sum c =
+    let l = c .before .before .before .before in
+    omega (arith, l .loop .inv .1, bounds (l .before .before .before .pre .0 .0))
+
+-- the wide sum of a turn
+small : (c : tie.After-wide-mul Inv-loop μ-loop)
+    → let l = c .before .before .before .before in
+    c .wide-mul .result + l .loop .total < 4 * (modulus (l .before .before .before .args .n) * modulus (l .before .before .before .args .n))
+small c =
+    let l = c .before .before .before .before in
+    let s = l .before .before .before in
+    let k = l .loop .k in
+    let n = s .args .n in
+    let coefficient-fits : getD (s .args .row .now) k 0 < modulus n =
+    omega (arith, s .pre .1 .0 .1 k (l .loop .inv .0), coefficient-below n k (s .pre .0 .0) (l .loop .inv .0)) in
+    rw (c .wide-mul .ensures) (fits _ _ (l .loop .total) (modulus n) coefficient-fits (s .pre .1 .1 .0 .at (s .args .g * (n + 1) + k)) (l .loop .inv .1))
+
+add-sum : tie.Need-add-sum Inv-loop μ-loop
+add-sum c = omega (arith, small c, bounds (c .before .before .before .before .before .before .before .pre .0 .0))
+
+reduce-wide-requires : tie.Need-reduce-wide-requires Inv-loop μ-loop
+reduce-wide-requires c κs = (c .before .before .before .before .before .before .before .pre .0 .0, small c)
 
 mul-requires : tie.Need-mul-requires Inv-loop μ-loop
 mul-requires c κs = search needs
 
-add-mul : tie.Need-add-mul Inv-loop μ-loop
-add-mul c =
-    let l = c .before .before in
-    let s = l .before .before .before .before in
-    omega (arith, group-place (s .args .n) (s .args .g) (l .loop .k) (s .pre .0 .2) (omega arith), s .pre, s .good)
-
-add-mul-2 : tie.Need-add-mul-2 Inv-loop μ-loop
-add-mul-2 c =
-    let l = c .before .before in
-    let s = l .before .before .before .before in
-    omega (arith, group-place (s .args .n) (s .args .g) (l .loop .k) (s .pre .0 .2) (omega arith), s .pre, s .good)
-
-mul-mul : tie.Need-mul-mul Inv-loop μ-loop
-mul-mul c =
-    let l = c .before .before in
-    let s = l .before .before .before .before in
-    omega (arith, group-place (s .args .n) (s .args .g) (l .loop .k + 1) (s .pre .0 .2) (omega arith), s .pre, s .good)
-
-shared-slice-read-mul : tie.Need-shared-slice-read-mul Inv-loop μ-loop
-shared-slice-read-mul c =
-    let l = c .before .before .before in
-    let s = l .before .before .before .before in
-    omega (arith, group-place (s .args .n) (s .args .g) (l .loop .k + 1) (s .pre .0 .2) (omega arith), s .pre)
-
-mul-requires-2 : tie.Need-mul-requires-2 Inv-loop μ-loop
-mul-requires-2 c κs =
-    let l = c .before .before .before in
-    let s = l .before .before .before .before in
-    (s .pre .0 .0, c .before .mul .ensures .1, s .pre .1 .0 .at (s .args .g * (s .args .n + 1) + l .loop .k + 1))
-
-add-coefficient-of : tie.Need-add-coefficient-of Inv-loop μ-loop
-add-coefficient-of c = search needs
-
-coefficient-of-requires-2 : tie.Need-coefficient-of-requires-2 Inv-loop μ-loop
-coefficient-of-requires-2 c κs = search needs
-
-mul-requires-3 : tie.Need-mul-requires-3 Inv-loop μ-loop
-mul-requires-3 c κs =
-    let l = c .before .before .before .before .before in
-    let s = l .before .before .before .before in
-    let listed = s .pre .0 .0 in (
-      listed,
-      omega (arith, c .coefficient-of2 .ensures, coefficient-below (s .args .n) (l .loop .k + 1) listed (omega arith)),
-      c .before .mul2 .ensures .1,
-    )
-
-add-requires : tie.Need-add-requires Inv-loop μ-loop
-add-requires c κs = search needs
-
-add-k : tie.Need-add-k Inv-loop μ-loop
-add-k c = search needs
+sub-k : tie.Need-sub-k Inv-loop μ-loop
+sub-k c = search needs
 
 loop-less : tie.Need-loop-less Inv-loop μ-loop
 loop-less c = search needs
 
 loop-again : tie.Need-loop-again Inv-loop μ-loop
 loop-again c =
-    let third = c .before in
-    let factor = third .before in
-    let second = factor .before in
-    let first = second .before .before in
-    let l = first .before .before in
-    let a = l .before .before .before .before .args in
+    let reduced = c .before in
+    let wide = reduced .before in
+    let l = wide .before .before .before .before in
+    let s = l .before .before .before in
+    let a = s .args in
     let k = l .loop .k in
-    let power = cong-eq (first .mul .ensures .0) ⊙ power-more (a .d) k (l .loop .inv .3) in
-    let place = ap (λ (i : ℕ). getD (a .powers .now) i 0) (add-assoc (a .g * (a .n + 1)) k 1) in
-    let product = cong-eq (second .mul2 .ensures .0) ⊙ cong-mod ⊙ cong-mul power (cong-eq place) in
-    let next = cong-eq (third .mul3 .ensures .0) ⊙ cong-mod ⊙ cong-mul (cong-eq (factor .coefficient-of2 .ensures)) product in (
+    let f = term (a .n) (a .d) (a .powers .now) (a .g) in
+    let e : k ≡ k - 1 + 1 = omega arith in
+    let now : wide .wide-mul .result ≡ coefficient (a .n) (k - 1 + 1) * groupPower (a .n) (a .powers .now) (a .g) (k - 1 + 1) =
+    rw (← e) (wide .wide-mul .ensures ∙ rw (s .pre .1 .0 .1 k (l .loop .inv .0)) refl) in
+    let made = cong-eq (c .mul .ensures .0) ⊙ cong-mod
+    ⊙ cong-mul (cong-eq (reduced .reduce-wide .ensures .0) ⊙ cong-mod ⊙ cong-eq (ap (λ (v : ℕ). v + l .loop .total) now)) cong-refl in (
       omega arith,
-      first .mul .ensures .1,
-      c .add .ensures .1,
-      power,
-      cong-eq (c .add .ensures .0) ⊙ cong-mod ⊙ cong-add (l .loop .inv .4) next
-          ⊙ cong-eq (sum-after (constantShare (a .side) (coefficient (a .n) 0)) k (term (a .n) (a .d) (a .powers .now) (a .g))),
+      c .mul .ensures .1,
+      horner f (a .d) (coefficient (a .n) (k - 1 + 1)) (groupPower (a .n) (a .powers .now) (a .g) (k - 1 + 1)) (l .loop .total) (c .mul .result) (k - 1) (sum (a .n) f)
+          refl made (rw (← e) (l .loop .inv .2)),
     )
+
+shared-slice-read-constant : tie.Need-shared-slice-read-constant Inv-loop μ-loop
+shared-slice-read-constant c = omega (arith, c .before .before .before .before .before .pre .1 .0 .0)
+
+constant-requires : tie.Need-constant-requires Inv-loop μ-loop
+constant-requires c κs = search needs
+
+add-requires : tie.Need-add-requires Inv-loop μ-loop
+add-requires c κs =
+    let l = c .before .before .before in
+    let s = l .before .before .before in
+    let n = s .args .n in
+    (s .pre .0 .0, l .loop .inv .1, omega (arith, c .constant .ensures .1, s .pre .1 .0 .1 0 (omega arith), coefficient-below n 0 (s .pre .0 .0) (omega arith)))
 
 returns : tie.Need-returns Inv-loop μ-loop
 unfolding levelMatch
 returns c =
-    let l = c .before in
-    let a = l .before .before .before .before .args in
-    let done : l .loop .k ≡ a .n = omega arith in
-    let total = rw done at (l .loop .inv .4) in
-    (sym (mod-eq-of-lt (l .loop .inv .2)) ∙ total .same, l .loop .inv .2)
+    let l = c .before .before .before .before in
+    let s = l .before .before .before in
+    let a = s .args in
+    let done : l .loop .k ≡ 0 = omega arith in
+    let whole = rw done at (l .loop .inv .2) in
+    let last : Cong (modulus (a .n)) (l .loop .total) (sum (a .n) (term (a .n) (a .d) (a .powers .now) (a .g))) =
+    cong-eq {b = sum 0 (term (a .n) (a .d) (a .powers .now) (a .g)) + l .loop .total * a .d ^ 0} (rw (pow-zero (a .d)) (omega arith)) ⊙ whole in
+    let first = c .before .constant .ensures .0 ∙ ap (constantShare (a .side)) (s .pre .1 .0 .1 0 (omega arith)) in
+    let all = constantShare (a .side) (coefficient (a .n) 0) + sum (a .n) (term (a .n) (a .d) (a .powers .now) (a .g)) in
+    let total : Cong (modulus (a .n)) (l .loop .total + c .before .constant .result) all =
+    cong-eq {b = constantShare (a .side) (coefficient (a .n) 0) + l .loop .total} (omega (arith, first)) ⊙ cong-add cong-refl last in
+    (c .add .ensures .0 ∙ total .same, c .add .ensures .1)
 
 pub level-match-spec : {M : Type 1} → statement M
 level-match-spec =
@@ -165,20 +181,21 @@ level-match-spec =
     μ-loop
     add-base
     mul-base
-    coefficient-of-requires
-    constant-requires
     loop-holds
+    mul-wide-mul
+    shared-slice-read-wide-mul
+    add-wide-mul
+    mul-wide-mul-2
+    shared-slice-read-wide-mul-2
+    wide-mul-requires
+    cast-sum
+    add-sum
+    reduce-wide-requires
     mul-requires
-    add-mul
-    add-mul-2
-    mul-mul
-    shared-slice-read-mul
-    mul-requires-2
-    add-coefficient-of
-    coefficient-of-requires-2
-    mul-requires-3
-    add-requires
-    add-k
+    sub-k
     loop-less
     loop-again
+    shared-slice-read-constant
+    constant-requires
+    add-requires
     returns)

@@ -25,21 +25,24 @@ abbrev level : ℕ → ℕ → List ℕ → List ℕ → List ℕ → ℕ → �
 level n side powers work incoming test i = levelMatch n side (levelOpened n work incoming (test * n + i)) powers (test * n + i)
 
 abbrev Inv-loop : tie.InvT-loop
-Inv-loop n side powers work incoming test m total₀ i₀ total i =
+Inv-loop n side powers work incoming test m row total₀ i₀ total i =
     (i ≤ n) × (total < modulus n) × Cong (modulus n) total (sum i (level n side powers work incoming test))
 
 abbrev μ-loop : tie.MeasureT-loop
-μ-loop n side powers work incoming test m total₀ i₀ total i = n - i
+μ-loop n side powers work incoming test m row total₀ i₀ total i = n - i
 
 abbrev start : tie.In-loop Inv-loop μ-loop → tie.Start Inv-loop μ-loop
-start t = t .before .before .before .before .before
+start t = t .before .before .before .before .before .before
 
 -- the group of a turn
 inside : (t : tie.In-loop Inv-loop μ-loop) → start t .args .test * start t .args .n + t .before .loop .i < groupCount (start t .args .n)
 inside t = group-index (start t .args .n) (start t .args .test) (t .before .loop .i) (start t .pre .0 .1) (t .loop-test .taken)
 
+coefficients-of-requires : tie.Need-coefficients-of-requires Inv-loop μ-loop
+coefficients-of-requires c κs = search needs
+
 loop-holds : tie.Need-loop-holds Inv-loop μ-loop
-loop-holds c = (omega arith, omega (arith, bounds (c .before .before .before .pre .0 .0)), cong-refl)
+loop-holds c = (omega arith, omega (arith, bounds (c .before .before .before .before .pre .0 .0)), cong-refl)
 
 mul-g : tie.Need-mul-g Inv-loop μ-loop
 mul-g c = omega (arith, inside c, start c .pre, start c .good)
@@ -73,11 +76,16 @@ open-requires c κs =
     let s = start t in
     (s .pre .0 .0, r .reduce .ensures .1, s .pre .1 .1 .below .at (s .args .test * s .args .n + t .before .loop .i))
 
+slice-aggregate-level-match : tie.Need-slice-aggregate-level-match Inv-loop μ-loop
+slice-aggregate-level-match c =
+    let l = c .before .before .before .before .before in
+    sym (l .before .before .coefficients-of .ensures .0)
+
 level-match-requires : tie.Need-level-match-requires Inv-loop μ-loop
 level-match-requires c κs =
-    let t = c .before .before .before .before in
+    let t = c .before .before .before .before .before in
     let s = start t in
-    ((s .pre .0 .0, c .«open» .ensures .1, inside t), s .pre .1 .0)
+    ((s .pre .0 .0, c .before .«open» .ensures .1, inside t), (t .before .before .coefficients-of .ensures, s .pre .1 .0))
 
 add-requires : tie.Need-add-requires Inv-loop μ-loop
 add-requires c κs = search needs
@@ -92,7 +100,7 @@ loop-again : tie.Need-loop-again Inv-loop μ-loop
 unfolding held
 loop-again c =
     let match = c .before in
-    let opening = match .before in
+    let opening = match .before .before in
     let reduced = opening .before .before in
     let t = reduced .before .before in
     let l = t .before in
@@ -111,7 +119,7 @@ returns : tie.Need-returns Inv-loop μ-loop
 unfolding wrapShare
 returns c =
     let l = c .before in
-    let a = l .before .before .before .before .args in
+    let a = l .before .before .before .before .before .args in
     let done : l .loop .i ≡ a .n = omega arith in
     let total = rw done at (l .loop .inv .2) in
     (sym (mod-eq-of-lt (l .loop .inv .1)) ∙ total .same, l .loop .inv .1)
@@ -122,6 +130,7 @@ wrap-of-spec =
     (tie.spec
     Inv-loop
     μ-loop
+    coefficients-of-requires
     loop-holds
     mul-g
     add-g
@@ -131,6 +140,7 @@ wrap-of-spec =
     mul-open
     shared-slice-read-open
     open-requires
+    slice-aggregate-level-match
     level-match-requires
     add-requires
     add-i
