@@ -271,12 +271,3 @@ pub fn coefficients_of(n: u32) -> [u32; 32]
     let row = row_of(n);
     COEFFICIENTS[row]
 }
-
-// g_k at width n.
-pub fn coefficient_of(n: u32, k: usize) -> u32
-    requires { ⌜ (listed n ≡ true) × (k ≤ n) ⌝ }
-    ensures { λ r. ⌜ r ≡ coefficient n k ⌝ }
-{
-    let row = row_of(n);
-    COEFFICIENTS[row][k]
-}
