@@ -1,19 +1,59 @@
--- The share of a product whose words stand from the front of incoming.
-use Prim.Native.Nat.{ℕ, _+_, _*_}
-use mathlib.Core.Path.{_≡_, ap, _∙_}
-use mathlib.Core.List.{List}
-use native.Mathlib.Nat.{add-zero, zero-add}
+-- The shares of products, as the code closes them.
+use Prim.Native.Nat.{ℕ, suc, _+_, _*_, _%_, _<_}
+use mathlib.Core.Path.{_≡_, sym, ap, _∙_}
+use mathlib.Core.List.{List, [], _∷_}
+use native.Mathlib.Nat.{add-zero, mul-one, mod-eq-of-lt}
+use native.Mathlib.Numerals.{add-one}
+use native.Mathlib.Omega.{arith}
+use lib.ListN.{length, getD, set}
+use lib.Seq.{sets}
+use Rattle.lists.specs.Tabulate.{tabulate}
+use Rattle.lists.proofs.Tabulate.{length-tabulate, tabulate-same}
+use Rattle.lists.proofs.Sets.{sets-whole}
+use Rattle.field.specs.Width.{modulus}
+use Rattle.protocol.specs.Words.{Below}
+use Rattle.protocol.specs.Tests.{exclusive}
 use Rattle.protocol.specs.Products.{Party, Products, triplesOf, closed, closing}
+use Rattle.protocol.proofs.Ranges.{tabulated-below}
+use Rattle.compare.proofs.Products.{closesWith}
 
-pub closing-front : (b : Party) (ps : Products) (incoming : List ℕ) (i : ℕ)
-    → closing b ps incoming 0 i ≡ closed (b .n) (b .side) (ps .left i) (ps .right i) (triplesOf b) (ps .first + i) incoming (i * 2)
-unfolding closing
-closing-front b ps incoming i =
-    ap (λ (at : ℕ). closed (b .n) (b .side) (ps .left i) (ps .right i) (triplesOf b) (ps .first + i) incoming at) (zero-add (i * 2))
+-- a word for each test, below p
+pub three-below : {p : ℕ} (words : List ℕ) (f : ℕ → ℕ) → words ≡ tabulate 3 f → ((t : ℕ) → f t < p) → Below p words
+three-below words f e below = rw e (tabulated-below 3 f below)
 
--- the only one
+-- a product for each test, in the place of its left factor
+pub closed-three : (n side : ℕ) (u v triples same : List ℕ) (first : ℕ) (incoming : List ℕ) (from : ℕ) (words : List ℕ)
+    → length u ≡ 3 → Below (modulus n) u → Below (modulus n) v
+    → triples ≡ same
+    → words ≡ sets u 0 (closesWith n side u v 1 triples first 3 incoming from)
+    → words ≡ tabulate 3 (λ t. closed n side (getD u t 0) (getD v t 0) same (first + t) incoming (from + t * 2))
+closed-three n side u v triples same first incoming from words three left right et e =
+    let stored : ℕ → ℕ = λ i. closed n side (getD u i 0 % modulus n) (getD v (i * 1) 0 % modulus n) same (first + i) incoming (from + i * 2) in
+    rw et at e
+    ∙ sets-whole u (tabulate 3 stored) (length-tabulate 3 stored ∙ sym three)
+    ∙ tabulate-same 3 stored (λ t. closed n side (getD u t 0) (getD v t 0) same (first + t) incoming (from + t * 2))
+    (λ i less. rw (mul-one i, mod-eq-of-lt (left .at i), mod-eq-of-lt (right .at i)))
+
+-- and what is made of it
+pub exclusive-of-three : (n : ℕ) (u v products words : List ℕ) (product : ℕ → ℕ) → products ≡ tabulate 3 product
+    → words ≡ tabulate 3 (λ t. exclusive n ((getD u t 0 + getD v t 0) % modulus n) (getD products t 0))
+    → words ≡ tabulate 3 (λ t. exclusive n ((getD u t 0 + getD v t 0) % modulus n) (product t))
+exclusive-of-three n u v products words product e es = rw e at es
+
+-- a word for each test, stored one after another
+pub kept-three : (l words : List ℕ) (at : ℕ) → length words ≡ 3
+    → set (set (set l at (getD words 0 0)) (at + 1) (getD words 1 0)) (at + 2) (getD words 2 0) ≡ sets l at words
+kept-three l [] at h = absurd (omega arith)
+kept-three l (a ∷ []) at h = absurd (omega arith)
+kept-three l (a ∷ b ∷ []) at h = absurd (omega arith)
+kept-three l (a ∷ b ∷ c ∷ []) at h =
+    let two : at + 2 ≡ suc (suc at) = omega arith in
+    rw (add-one at, two)
+kept-three l (a ∷ b ∷ c ∷ d ∷ ws) at h = absurd (omega arith)
+
+-- the only product, its words at the front
 pub closing-one : (b : Party) (ps : Products) (incoming : List ℕ)
     → closing b ps incoming 0 0 ≡ closed (b .n) (b .side) (ps .left 0) (ps .right 0) (triplesOf b) (ps .first) incoming 0
+unfolding closing
 closing-one b ps incoming =
-    closing-front b ps incoming 0
-    ∙ ap (λ (i : ℕ). closed (b .n) (b .side) (ps .left 0) (ps .right 0) (triplesOf b) i incoming 0) (add-zero (ps .first))
+    ap (λ (i : ℕ). closed (b .n) (b .side) (ps .left 0) (ps .right 0) (triplesOf b) i incoming 0) (add-zero (ps .first))

@@ -1,4 +1,5 @@
 pub mod Parts
+pub mod Products
 pub mod Messages
 pub mod Sound
 pub mod Closings

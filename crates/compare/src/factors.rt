@@ -1,11 +1,60 @@
-// The factors of the last two rounds' products, from the shares that work holds.
+// The factors of the products that rounds 1, 4, 5 and 6 open, from the tests' low bits and from the shares that work holds.
+use steps::tests::Tests;
 ghost use mathlib.Core.Path.{_≡_};
 ghost use mathlib.Core.Bool.{true};
-ghost use Prim.Native.Nat.{_+_, _*_, _<_, _≤_};
-ghost use lib.ListN.{length};
+ghost use Prim.Native.Nat.{_<_, _≤_};
+ghost use lib.ListN.{length, getD};
+ghost use Rattle.lists.specs.Tabulate.{tabulate};
 ghost use Rattle.field.specs.Width.{listed, modulus};
-ghost use Rattle.protocol.specs.Work.{halfSlot, workLength, held};
+ghost use Rattle.shares.specs.Share.{constantShare};
+ghost use Rattle.protocol.specs.Tests.{doubled, lowBit};
+ghost use Rattle.protocol.specs.Work.{sumSlot, wrapSlot, halfSlot, workLength, held};
 ghost use Rattle.protocol.specs.Rounds.{lastLeft, lastRight};
+
+// A side's factors of alpha * beta: the low bits at box 1 and 0 at box 2. For the right factors the side is the other one.
+pub fn lows(side: u32, low: [u32; 3]) -> [u32; 3]
+    ensures { λ r. ⌜ r ≡ tabulate 3 (λ t. constantShare side (getD low t 0)) ⌝ }
+{
+    let a = shares::constant(side, low[0]);
+    let b = shares::constant(side, low[1]);
+    let c = shares::constant(side, low[2]);
+    [a, b, c]
+}
+
+// A share that work holds.
+pub fn held(n: u32, work: &[u32], slot: usize) -> u32
+    requires { ⌜ (listed n ≡ true) × (slot < length (now work)) ⌝ }
+    ensures { λ r. ⌜ r ≡ held n (now (work .entry)) slot ⌝ }
+    ensures below { λ r. ⌜ r < modulus n ⌝ }
+{
+    field::reduce(n, work[slot])
+}
+
+// The shares of S.
+pub fn sums(n: u32, work: &[u32]) -> [u32; 3]
+    requires { ⌜ (listed n ≡ true) × (workLength n ≤ length (now work)) ⌝ }
+    ensures { λ r. ⌜ r ≡ tabulate 3 (λ t. held n (now (work .entry)) (sumSlot n t)) ⌝ }
+{
+    let a = held(n, work, steps::places::sum_slot(n, 0));
+    let b = held(n, work, steps::places::sum_slot(n, 1));
+    let c = held(n, work, steps::places::sum_slot(n, 2));
+    [a, b, c]
+}
+
+// The tests once their wraps are known: the shares that work holds of them.
+pub fn known_tests(n: u32, x: u32, y: u32, work: &[u32]) -> Tests
+    requires { ⌜ (listed n ≡ true) × (x < modulus n) × (y < modulus n) × (workLength n ≤ length (now work)) ⌝ }
+    ensures { λ r. ⌜ (r .doubled ≡ tabulate 3 (doubled n x y))
+        × (r .low ≡ tabulate 3 (lowBit n x y))
+        × (r .wraps ≡ tabulate 3 (λ t. held n (now (work .entry)) (wrapSlot n t))) ⌝ }
+{
+    let mut tests = steps::tests::tests_of(n, x, y);
+    let a = held(n, work, steps::places::wrap_slot(n, 0));
+    let b = held(n, work, steps::places::wrap_slot(n, 1));
+    let c = held(n, work, steps::places::wrap_slot(n, 2));
+    tests.wraps = [a, b, c];
+    tests
+}
 
 // A half test's share (document 01's H, U, Z).
 pub fn half(n: u32, work: &[u32], test: usize) -> u32
@@ -13,8 +62,7 @@ pub fn half(n: u32, work: &[u32], test: usize) -> u32
     ensures { λ r. ⌜ r ≡ held n (now (work .entry)) (halfSlot n test) ⌝ }
     ensures below { λ r. ⌜ r < modulus n ⌝ }
 {
-    let at = 3 * (n as usize) + 6 + test;
-    field::reduce(n, work[at])
+    held(n, work, steps::places::half_slot(n, test))
 }
 
 // The factors of the last product.
@@ -23,8 +71,7 @@ pub fn last_left(n: u32, side: u32, work: &[u32]) -> u32
     ensures { λ r. ⌜ r ≡ lastLeft n side (now (work .entry)) ⌝ }
     ensures below { λ r. ⌜ r < modulus n ⌝ }
 {
-    let at = 3 * (n as usize) + 9;
-    let both = field::reduce(n, work[at]);
+    let both = held(n, work, steps::places::both_slot(n));
     let total = field::add(n, half(n, work, 0), half(n, work, 1));
     steps::tests::complement_of(n, side, steps::tests::exclusive_of(n, total, both))
 }

@@ -7,83 +7,52 @@ ghost use lib.ListN.{length, getD};
 ghost use lib.Seq.{sets};
 ghost use Rattle.lists.specs.Tabulate.{tabulate};
 ghost use Rattle.field.specs.Width.{listed, modulus};
-ghost use Rattle.shares.specs.Side.{isSide, other};
-ghost use Rattle.shares.specs.Share.{constantShare};
-ghost use Rattle.tape.specs.Layout.{squareCount, tripleCount};
+ghost use Rattle.shares.specs.Side.{isSide};
+ghost use Rattle.tape.specs.Layout.{tripleCount, section};
 ghost use Rattle.tape.specs.Order.{Readable};
 ghost use Rattle.protocol.specs.Words.{Below, FromLine};
-ghost use Rattle.protocol.specs.Tests.{complement, exclusive};
-ghost use Rattle.protocol.specs.Work.{sumSlot, wrapSlot, halfSlot, workLength, held};
+ghost use Rattle.protocol.specs.Tests.{lowBit, complement, exclusive};
+ghost use Rattle.protocol.specs.Work.{wrapSlot, workLength, held};
 ghost use Rattle.protocol.specs.Products.{party, closed};
-ghost use Rattle.protocol.specs.Rounds.{roundWords, afterHearing, replyTo};
+ghost use Rattle.protocol.specs.Rounds.{lowSum, roundWords, afterHearing, replyTo};
 
-// Round 1: the shares of S.
-fn close_low(n: u32, side: u32, tests: Tests, triples: &[u32], incoming: &[u32], work: &mut [u32])
-    requires { ⌜ (listed n ≡ true) × (isSide side ≡ true) × Below 2 (tests .low) × (workLength n ≤ length (now work)) ⌝ }
-    requires { ⌜ Below (modulus n) (now triples) × (tripleCount n * 3 ≤ length (now triples)) ⌝ }
-    requires { ⌜ FromLine n (roundWords n 1) (now incoming) ⌝ }
-    ensures { λ _. ⌜ now (work .exit)
-        ≡ sets (now (work .entry)) (sumSlot n 0)
-        (tabulate 3
+// u + v - 2uv for each test, the products being closed by the triples from first on.
+fn exclusive_three(
+    n: u32,
+    side: u32,
+    u: [u32; 3],
+    v: [u32; 3],
+    tape: &[u32],
+    first: usize,
+    incoming: &[u32],
+    from: usize,
+) -> [u32; 3]
+    requires { ⌜ Below (modulus n) u × Below (modulus n) v × Readable n (now tape) × (first + 3 ≤ tripleCount n) ⌝ }
+    requires { ⌜ FromLine n (from + 6) (now incoming) ⌝ }
+    ensures { λ r. ⌜ r
+        ≡ tabulate 3
         (λ t.
-        exclusive n (getD (tests .low) t 0)
-        (closed n side (constantShare side (getD (tests .low) t 0)) (constantShare (other side) (getD (tests .low) t 0))
-        (now (triples .entry)) (3 * n + t) (now (incoming .entry)) (squareCount n + t * 2)))) ⌝ }
+        exclusive n ((getD u t 0 + getD v t 0) % modulus n)
+        (closed n side (getD u t 0) (getD v t 0) (section n 2 (now (tape .entry))) (first + t) (now (incoming .entry)) (from + t * 2))) ⌝ }
+    ensures below { λ r. ⌜ Below (modulus n) r ⌝ }
 {
-    let m = n as usize;
-    let mut t: usize = 0;
-    while t < 3 {
-        let low = tests.low[t];
-        let left = shares::constant(side, low);
-        let p = steps::products::close_product(
-            n,
-            side,
-            left,
-            low - left,
-            triples,
-            3 * m + t,
-            incoming,
-            3 * (m * m) + t * 2,
-        );
-        work[3 * m + t] = steps::tests::exclusive_of(n, low, p);
-        t += 1;
-    }
+    let triples = tape::section_of(tape, n, tape::TRIPLES);
+    let mut p = u;
+    steps::products::close_products(n, side, &mut p, &v, 1, triples, first, 3, incoming, from);
+    let a = steps::tests::exclusive_of(n, field::add(n, u[0], v[0]), p[0]);
+    let b = steps::tests::exclusive_of(n, field::add(n, u[1], v[1]), p[1]);
+    let c = steps::tests::exclusive_of(n, field::add(n, u[2], v[2]), p[2]);
+    [a, b, c]
 }
 
-// Round 4: the shares of the half tests.
-fn close_wraps(n: u32, side: u32, triples: &[u32], incoming: &[u32], work: &mut [u32])
-    requires { ⌜ (listed n ≡ true) × (workLength n ≤ length (now work)) ⌝ }
-    requires { ⌜ Below (modulus n) (now triples) × (tripleCount n * 3 ≤ length (now triples)) ⌝ }
-    requires { ⌜ FromLine n (roundWords n 4) (now incoming) ⌝ }
-    ensures { λ _. ⌜ now (work .exit)
-        ≡ sets (now (work .entry)) (halfSlot n 0)
-        (tabulate 3
-        (λ t.
-        complement n side
-        (exclusive n
-        ((held n (now (work .entry)) (sumSlot n t) + held n (now (work .entry)) (wrapSlot n t)) % modulus n)
-        (closed n side (held n (now (work .entry)) (sumSlot n t)) (held n (now (work .entry)) (wrapSlot n t))
-        (now (triples .entry)) (3 * n + 3 + t) (now (incoming .entry)) (t * 2))))) ⌝ }
+// One word for each test, from a place of work on.
+fn keep(work: &mut [u32], at: usize, words: [u32; 3])
+    requires { ⌜ at + 3 ≤ length (now work) ⌝ }
+    ensures { λ _. ⌜ now (work .exit) ≡ sets (now (work .entry)) at words ⌝ }
 {
-    let m = n as usize;
-    let mut t: usize = 0;
-    while t < 3 {
-        let s = field::reduce(n, work[3 * m + t]);
-        let w = field::reduce(n, work[3 * m + 3 + t]);
-        let p = steps::products::close_product(
-            n,
-            side,
-            s,
-            w,
-            triples,
-            3 * m + 3 + t,
-            incoming,
-            t * 2,
-        );
-        let low = steps::tests::exclusive_of(n, field::add(n, s, w), p);
-        work[3 * m + 6 + t] = steps::tests::complement_of(n, side, low);
-        t += 1;
-    }
+    work[at] = words[0];
+    work[at + 1] = words[1];
+    work[at + 2] = words[2];
 }
 
 // Round 1 is heard: the counts of all levels and the shares of S.
@@ -95,58 +64,74 @@ fn hear_first(n: u32, side: u32, x: u32, y: u32, tape: &[u32], work: &mut [u32],
     let tests = steps::tests::tests_of(n, x, y);
     let squares = tape::section_of(tape, n, tape::SQUARES);
     steps::squares::close_squares(n, side, tests, squares, incoming, &mut *work);
-    let triples = tape::section_of(tape, n, tape::TRIPLES);
-    close_low(n, side, tests, triples, incoming, work);
+    let low = tests.low;
+    let own = crate::factors::lows(side, low);
+    let others = crate::factors::lows(3 - side, low);
+    let first = steps::places::low_triple(n);
+    let from = steps::places::square_count(n);
+    let sums = exclusive_three(n, side, own, others, tape, first, incoming, from);
+    keep(work, steps::places::sum_slot(n, 0), sums);
 }
 
-// Round 3 is heard: the shares of the three wraps.
-fn hear_levels(n: u32, side: u32, x: u32, y: u32, tape: &[u32], work: &mut [u32], incoming: &[u32])
-    requires { ⌜ (x < modulus n) × (y < modulus n) × Readable n (now tape) × (workLength n ≤ length (now work)) ⌝ }
-    requires { ⌜ FromLine n (roundWords n 3) (now incoming) ⌝ }
-    ensures { λ _. ⌜ now (work .exit) ≡ afterHearing (party n side x y (now (tape .entry))) (now (work .entry)) 3 (now (incoming .entry)) ⌝ }
+// Round 2 is heard: the shares of A * w, in the place of those of A.
+fn hear_masked(n: u32, side: u32, tape: &[u32], work: &mut [u32], incoming: &[u32])
+    requires { ⌜ Readable n (now tape) × (workLength n ≤ length (now work)) × FromLine n (roundWords n 2) (now incoming) ⌝ }
+    ensures { λ _. ⌜ ((x y : ℕ) → now (work .exit) ≡ afterHearing (party n side x y (now (tape .entry))) (now (work .entry)) 2 (now (incoming .entry))) ⌝ }
 {
     let m = n as usize;
     let powers = tape::section_of(tape, n, tape::POWERS);
-    let mut tests = steps::tests::tests_of(n, x, y);
-    tests.wraps[0] = steps::levels::wrap_of(n, side, powers, &*work, incoming, 0);
-    tests.wraps[1] = steps::levels::wrap_of(n, side, powers, &*work, incoming, 1);
-    tests.wraps[2] = steps::levels::wrap_of(n, side, powers, &*work, incoming, 2);
-    let wraps = tests.wraps;
-    work[3 * m + 3] = wraps[0];
-    work[3 * m + 4] = wraps[1];
-    work[3 * m + 5] = wraps[2];
+    let triples = tape::section_of(tape, n, tape::TRIPLES);
+    let count = steps::places::group_count(n);
+    steps::products::close_products(n, side, work, powers, m + 1, triples, 0, count, incoming, 0);
+}
+
+// Round 3 is heard: the shares of the three wraps.
+fn hear_levels(n: u32, side: u32, tape: &[u32], work: &mut [u32], incoming: &[u32])
+    requires { ⌜ Readable n (now tape) × (workLength n ≤ length (now work)) × FromLine n (roundWords n 3) (now incoming) ⌝ }
+    ensures { λ _. ⌜ ((x y : ℕ) → now (work .exit) ≡ afterHearing (party n side x y (now (tape .entry))) (now (work .entry)) 3 (now (incoming .entry))) ⌝ }
+{
+    let powers = tape::section_of(tape, n, tape::POWERS);
+    let a = steps::levels::wrap_of(n, side, powers, &*work, incoming, 0);
+    let b = steps::levels::wrap_of(n, side, powers, &*work, incoming, 1);
+    let c = steps::levels::wrap_of(n, side, powers, &*work, incoming, 2);
+    keep(work, steps::places::wrap_slot(n, 0), [a, b, c]);
+}
+
+// Round 4 is heard, with the wraps known: the shares of the half tests.
+fn hear_wraps(n: u32, side: u32, tests: Tests, tape: &[u32], work: &mut [u32], incoming: &[u32])
+    requires { ⌜ Readable n (now tape) × (workLength n ≤ length (now work)) × FromLine n (roundWords n 4) (now incoming) ⌝ }
+    requires { ⌜ tests .wraps ≡ tabulate 3 (λ t. held n (now work) (wrapSlot n t)) ⌝ }
+    ensures { λ _. ⌜ ((x y : ℕ) → now (work .exit) ≡ afterHearing (party n side x y (now (tape .entry))) (now (work .entry)) 4 (now (incoming .entry))) ⌝ }
+{
+    let s = crate::factors::sums(n, &*work);
+    let t = tests.wraps;
+    let first = steps::places::wrap_triple(n);
+    let low = exclusive_three(n, side, s, t, tape, first, incoming, 0);
+    let a = steps::tests::complement_of(n, side, low[0]);
+    let b = steps::tests::complement_of(n, side, low[1]);
+    let c = steps::tests::complement_of(n, side, low[2]);
+    keep(work, steps::places::half_slot(n, 0), [a, b, c]);
 }
 
 // Round 5 is heard: the share of M.
 fn hear_halves(n: u32, side: u32, tape: &[u32], work: &mut [u32], incoming: &[u32])
-    requires { ⌜ Readable n (now tape) × (workLength n ≤ length (now work)) ⌝ }
-    requires { ⌜ FromLine n (roundWords n 5) (now incoming) ⌝ }
+    requires { ⌜ Readable n (now tape) × (workLength n ≤ length (now work)) × FromLine n (roundWords n 5) (now incoming) ⌝ }
     ensures { λ _. ⌜ ((x y : ℕ) → now (work .exit) ≡ afterHearing (party n side x y (now (tape .entry))) (now (work .entry)) 5 (now (incoming .entry))) ⌝ }
 {
-    let m = n as usize;
     let triples = tape::section_of(tape, n, tape::TRIPLES);
     let v = crate::factors::half(n, &*work, 0);
     let u = crate::factors::half(n, &*work, 1);
-    work[3 * m + 9] = steps::products::close_product(
-        n,
-        side,
-        v,
-        u,
-        triples,
-        3 * m + 6,
-        incoming,
-        0,
-    );
+    let i = steps::places::half_triple(n);
+    let slot = steps::places::both_slot(n);
+    work[slot] = steps::products::close_product(n, side, v, u, triples, i, incoming, 0);
 }
 
 // The answer share, from round 6.
 fn answer(n: u32, side: u32, tape: &[u32], work: &[u32], incoming: &[u32]) -> u32
-    requires { ⌜ Readable n (now tape) × (workLength n ≤ length (now work)) ⌝ }
-    requires { ⌜ FromLine n (roundWords n 6) (now incoming) ⌝ }
+    requires { ⌜ Readable n (now tape) × (workLength n ≤ length (now work)) × FromLine n (roundWords n 6) (now incoming) ⌝ }
     ensures { λ r. ⌜ ((x y : ℕ) → r ≡ replyTo (party n side x y (now (tape .entry))) (now (work .entry)) 6 (now (incoming .entry))) ⌝ }
     ensures below { λ r. ⌜ r < modulus n ⌝ }
 {
-    let m = n as usize;
     let triples = tape::section_of(tape, n, tape::TRIPLES);
     let k = steps::products::close_product(
         n,
@@ -154,11 +139,11 @@ fn answer(n: u32, side: u32, tape: &[u32], work: &[u32], incoming: &[u32]) -> u3
         crate::factors::last_left(n, side, work),
         crate::factors::last_right(n, side, work),
         triples,
-        3 * m + 7,
+        steps::places::last_triple(n),
         incoming,
         0,
     );
-    let both = field::reduce(n, work[3 * m + 9]);
+    let both = crate::factors::held(n, work, steps::places::both_slot(n));
     field::add(n, field::sub(n, crate::factors::half(n, work, 0), both), k)
 }
 
@@ -185,23 +170,16 @@ pub fn hear(
             0
         }
         2 => {
-            let powers = tape::section_of(tape, n, tape::POWERS);
-            let triples = tape::section_of(tape, n, tape::TRIPLES);
-            steps::levels::close_levels(n, side, powers, triples, incoming, work);
+            hear_masked(n, side, tape, work, incoming);
             0
         }
         3 => {
-            hear_levels(n, side, x, y, tape, work, incoming);
+            hear_levels(n, side, tape, work, incoming);
             0
         }
         4 => {
-            close_wraps(
-                n,
-                side,
-                tape::section_of(tape, n, tape::TRIPLES),
-                incoming,
-                work,
-            );
+            let tests = crate::factors::known_tests(n, x, y, &*work);
+            hear_wraps(n, side, tests, tape, work, incoming);
             0
         }
         5 => {

@@ -2,6 +2,7 @@
 ghost use mathlib.Core.Path.{_≡_};
 ghost use mathlib.Core.Bool.{true};
 ghost use Prim.Native.Nat.{ℕ, _+_, _*_, _<_, _≤_};
+ghost use mathlib.Core.List.{List};
 ghost use lib.ListN.{length};
 ghost use lib.Seq.{sets};
 ghost use Rattle.field.specs.Width.{modulus};
@@ -14,20 +15,18 @@ ghost use Rattle.protocol.specs.Rounds.{roundWords, message};
 // Round 1's words: all squares, then alpha * beta of each test. Box 1 alone has alpha, box 2 alone beta.
 fn speak_first(n: u32, side: u32, x: u32, y: u32, tape: &[u32], out: &mut [u32])
     requires { ⌜ (isSide side ≡ true) × (x < modulus n) × (y < modulus n) × Readable n (now tape) × (roundWords n 1 ≤ length (now out)) ⌝ }
-    ensures { λ _. ⌜ now (out .exit) ≡ sets (now (out .entry)) 0 (message (party n side x y (now (tape .entry))) (now (out .entry)) 1) ⌝ }
+    ensures { λ _. ⌜ ((work : List ℕ) → now (out .exit) ≡ sets (now (out .entry)) 0 (message (party n side x y (now (tape .entry))) work 1)) ⌝ }
 {
-    let m = n as usize;
     let tests = steps::tests::tests_of(n, x, y);
-    let low = tests.low;
-    let a = shares::constant(side, low[0]);
-    let b = shares::constant(side, low[1]);
-    let c = shares::constant(side, low[2]);
-    let lefts = [a, b, c];
-    let rights = [low[0] - a, low[1] - b, low[2] - c];
     let squares = tape::section_of(tape, n, tape::SQUARES);
     steps::squares::open_squares(n, side, tests, squares, &mut *out);
     let triples = tape::section_of(tape, n, tape::TRIPLES);
-    steps::products::open_products(n, &lefts, &rights, 1, triples, 3 * m, 3, out, 3 * (m * m));
+    let low = tests.low;
+    let own = crate::factors::lows(side, low);
+    let others = crate::factors::lows(3 - side, low);
+    let first = steps::places::low_triple(n);
+    let at = steps::places::square_count(n);
+    steps::products::open_products(n, &own, &others, 1, triples, first, 3, out, at);
 }
 
 // Round 6's words: the last product.
@@ -36,14 +35,13 @@ fn speak_last(n: u32, side: u32, tape: &[u32], work: &[u32], out: &mut [u32])
     ensures { λ _. ⌜ ((x y : ℕ) → now (out .exit)
         ≡ sets (now (out .entry)) 0 (message (party n side x y (now (tape .entry))) (now (work .entry)) 6)) ⌝ }
 {
-    let m = n as usize;
     let triples = tape::section_of(tape, n, tape::TRIPLES);
     steps::products::open_product(
         n,
         crate::factors::last_left(n, side, work),
         crate::factors::last_right(n, side, work),
         triples,
-        3 * m + 7,
+        steps::places::last_triple(n),
         out,
         0,
     );
@@ -71,14 +69,17 @@ pub fn speak(
         2 => {
             let powers = tape::section_of(tape, n, tape::POWERS);
             let triples = tape::section_of(tape, n, tape::TRIPLES);
-            steps::products::open_products(n, work, powers, m + 1, triples, 0, 3 * m, out, 0);
+            let count = steps::places::group_count(n);
+            steps::products::open_products(n, work, powers, m + 1, triples, 0, count, out, 0);
         }
         3 => steps::levels::send_levels(n, work, out),
         4 => {
-            let sums = &work[3 * m..];
-            let wraps = &work[3 * m + 3..];
+            let sums = crate::factors::sums(n, work);
+            let tests = crate::factors::known_tests(n, x, y, work);
+            let wraps = tests.wraps;
             let triples = tape::section_of(tape, n, tape::TRIPLES);
-            steps::products::open_products(n, sums, wraps, 1, triples, 3 * m + 3, 3, out, 0);
+            let first = steps::places::wrap_triple(n);
+            steps::products::open_products(n, &sums, &wraps, 1, triples, first, 3, out, 0);
         }
         5 => {
             let triples = tape::section_of(tape, n, tape::TRIPLES);
@@ -87,7 +88,7 @@ pub fn speak(
                 crate::factors::half(n, work, 0),
                 crate::factors::half(n, work, 1),
                 triples,
-                3 * m + 6,
+                steps::places::half_triple(n),
                 out,
                 0,
             );

@@ -1,13 +1,13 @@
 -- Runs of stores: `sets l at vs` is l with the words vs from place `at` on.
 use Prim.Native.Nat.{ℕ, zero, suc, _+_, _<_, _≤_}
 use mathlib.Core.Path.{_≡_, refl, sym, ap, _∙_}
-use mathlib.Core.List.{List, [], _∷_, _++_}
+use mathlib.Core.List.{List, [], _∷_, _++_, append-nil}
 use mathlib.Core.Logic.{_⊎_, inl, inr, ⊎-elim}
 use native.Mathlib.Nat.{add-zero, zero-add, add-suc, suc-add, not-suc-le-zero, le-of-suc-le-suc}
 use native.Mathlib.Numerals.{add-one}
 use native.Mathlib.Omega.{arith}
-use lib.ListN.{length, getD, set, drop, length-set}
-use lib.Seq.{sets, length-sets, sets-eq, getD-set-same, getD-set-other}
+use lib.ListN.{length, getD, set, drop, length-set, drop-of-length-le}
+use lib.Seq.{sets, sets-eq, getD-set-same, getD-set-other}
 use Rattle.lists.specs.Tabulate.{tabulate}
 use Rattle.lists.proofs.Tabulate.{length-tabulate, getD-tabulate}
 
@@ -57,3 +57,10 @@ getD-sets-beside l at n f j h = getD-sets-out l at (tabulate n f) j (rw (length-
 -- at the front: the words, then the rest of the list as it was
 pub sets-front : (l vs : List ℕ) → length vs ≤ length l → sets l 0 vs ≡ vs ++ drop (length vs) l
 sets-front l vs room = sets-eq vs l 0 (omega arith) ∙ ap (λ (k : ℕ). vs ++ drop k l) (zero-add (length vs))
+
+-- all of the list
+pub sets-whole : (l vs : List ℕ) → length vs ≡ length l → sets l 0 vs ≡ vs
+sets-whole l vs full =
+    sets-front l vs (omega arith)
+    ∙ ap (λ (rest : List ℕ). vs ++ rest) (drop-of-length-le l {i = length vs} (omega arith))
+    ∙ append-nil vs

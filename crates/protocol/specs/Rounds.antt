@@ -14,7 +14,7 @@ use Rattle.tape.specs.Layout.{section, squareCount, groupCount}
 use Rattle.tape.specs.Letters.{groupInverse}
 use Rattle.protocol.specs.Tests.{doubled, lowBit, complement, exclusive}
 use Rattle.protocol.specs.Work.{sumSlot, wrapSlot, halfSlot, bothSlot, held}
-use Rattle.protocol.specs.Products.{Party, Products, openings, closing}
+use Rattle.protocol.specs.Products.{Party, Products, lowTriple, wrapTriple, halfTriple, lastTriple, openings, closing}
 use Rattle.protocol.specs.Squares.{bitDifference, squareOpening, matchCount}
 use Rattle.protocol.specs.Levels.{wrapShare}
 
@@ -37,7 +37,7 @@ squareWord b j = squareOpening (b .n) (bitDifference (b .n) (b .side) (doubledOf
 unfoldable pub lowProducts : Party → Products
 lowProducts b =
     record {
-      first = 3 * b .n;
+      first = lowTriple (b .n);
       count = 3;
       left = λ t. constantShare (b .side) (lowBit (b .n) (b .x) (b .y) t);
       right = λ t. constantShare (other (b .side)) (lowBit (b .n) (b .x) (b .y) t);
@@ -66,7 +66,7 @@ levelProducts b work =
 unfoldable pub wrapProducts : Party → List ℕ → Products
 wrapProducts b work =
     record {
-      first = 3 * b .n + 3;
+      first = wrapTriple (b .n);
       count = 3;
       left = λ t. held (b .n) work (sumSlot (b .n) t);
       right = λ t. held (b .n) work (wrapSlot (b .n) t);
@@ -85,7 +85,7 @@ halfShare b work incoming test =
 unfoldable pub halfProduct : Party → List ℕ → Products
 halfProduct b work =
     record {
-      first = 3 * b .n + 6;
+      first = halfTriple (b .n);
       count = 1;
       left = λ i. held (b .n) work (halfSlot (b .n) 0);
       right = λ i. held (b .n) work (halfSlot (b .n) 1);
@@ -103,7 +103,7 @@ lastRight n side work = complement n side (held n work (halfSlot n 2))
 unfoldable pub lastProduct : Party → List ℕ → Products
 lastProduct b work =
     record {
-      first = 3 * b .n + 7;
+      first = lastTriple (b .n);
       count = 1;
       left = λ i. lastLeft (b .n) (b .side) work;
       right = λ i. lastRight (b .n) (b .side) work;

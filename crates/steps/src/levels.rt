@@ -1,4 +1,4 @@
-// Rounds 2 and 3: the masked counts of every level, and from them the share of each test's wrap.
+// Round 3: the masked count of every level, and from it the share of each test's wrap.
 ghost use mathlib.Core.Path.{_≡_};
 ghost use mathlib.Core.Bool.{true};
 ghost use Prim.Native.Nat.{ℕ, _+_, _*_, _%_, _<_, _≤_};
@@ -7,48 +7,10 @@ ghost use lib.Seq.{sets};
 ghost use Rattle.lists.specs.Tabulate.{tabulate};
 ghost use Rattle.field.specs.Width.{listed, modulus};
 ghost use Rattle.tape.specs.Layout.{groupCount};
-ghost use Rattle.tape.specs.Letters.{groupInverse};
 ghost use Rattle.encoding.specs.Polynomial.{coefficient};
 ghost use Rattle.protocol.specs.Words.{Below, FromLine};
 ghost use Rattle.protocol.specs.Work.{held};
-ghost use Rattle.protocol.specs.Products.{closed};
 ghost use Rattle.protocol.specs.Levels.{levelMatch, wrapShare};
-
-// The shares of A * w, in the place of those of A.
-pub fn close_levels(
-    n: u32,
-    side: u32,
-    powers: &[u32],
-    triples: &[u32],
-    incoming: &[u32],
-    work: &mut [u32],
-)
-    requires { ⌜ (listed n ≡ true) × (groupCount n ≤ length (now work)) ⌝ }
-    requires { ⌜ Below (modulus n) (now powers) × (groupCount n * (n + 1) ≤ length (now powers)) ⌝ }
-    requires { ⌜ Below (modulus n) (now triples) × (groupCount n * 3 ≤ length (now triples)) ⌝ }
-    requires { ⌜ FromLine n (groupCount n * 2) (now incoming) ⌝ }
-    ensures { λ _. ⌜ now (work .exit)
-        ≡ sets (now (work .entry)) 0
-        (tabulate (groupCount n)
-        (λ g. closed n side (held n (now (work .entry)) g) (groupInverse n (now (powers .entry)) g) (now (triples .entry)) g (now (incoming .entry)) (g * 2))) ⌝ }
-{
-    let m = n as usize;
-    let mut g: usize = 0;
-    while g < 3 * m {
-        let v = field::reduce(n, work[g]);
-        work[g] = crate::products::close_product(
-            n,
-            side,
-            v,
-            powers[g * (m + 1)],
-            triples,
-            g,
-            incoming,
-            g * 2,
-        );
-        g += 1;
-    }
-}
 
 // The shares of d, as they are sent.
 pub fn send_levels(n: u32, work: &[u32], out: &mut [u32])

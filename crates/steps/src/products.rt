@@ -75,3 +75,34 @@ pub fn open_products(
         i += 1;
     }
 }
+
+// The same products closed: each one's share takes the place of its left factor. The other box's words stand from a place of incoming on.
+pub fn close_products(
+    n: u32,
+    side: u32,
+    lefts: &mut [u32],
+    rights: &[u32],
+    stride: usize,
+    triples: &[u32],
+    first: usize,
+    count: usize,
+    incoming: &[u32],
+    from: usize,
+)
+    requires { ⌜ (listed n ≡ true) × (count ≤ length (now lefts)) × (0 < stride) × (count * stride ≤ length (now rights)) ⌝ }
+    requires { ⌜ Below (modulus n) (now triples) × ((first + count) * 3 ≤ length (now triples)) × FromLine n (from + count * 2) (now incoming) ⌝ }
+    ensures { λ _. ⌜ now (lefts .exit)
+        ≡ sets (now (lefts .entry)) 0
+        (tabulate count
+        (λ i.
+        closed n side (getD (now (lefts .entry)) i 0 % modulus n) (getD (now (rights .entry)) (i * stride) 0 % modulus n)
+        (now (triples .entry)) (first + i) (now (incoming .entry)) (from + i * 2))) ⌝ }
+{
+    let mut i = 0;
+    while i < count {
+        let v = field::reduce(n, lefts[i]);
+        let u = field::reduce(n, rights[i * stride]);
+        lefts[i] = close_product(n, side, v, u, triples, first + i, incoming, from + i * 2);
+        i += 1;
+    }
+}

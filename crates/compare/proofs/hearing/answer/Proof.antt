@@ -1,13 +1,12 @@
 -- `compare::hearing::answer` meets its contract: the answer share is H − M + K.
 use mathlib.Core.Path.{_∙_}
 use native.Mathlib.Omega.{arith}
-use borrow.Author.Needs.{needs}
 use Rattle.field.specs.Subtraction.{minus}
-use Rattle.protocol.specs.Work.{held}
 use Rattle.protocol.specs.Products.{party}
 use Rattle.protocol.specs.Rounds.{lastProduct, roundWords, answerShare, replyTo}
 use Rattle.compare.proofs.Sound.{sound}
 use Rattle.compare.proofs.Closings.{closing-one}
+use borrow.Author.Needs.{needs}
 use Rattle.compare.proofs.hearing.answer.Statement.{statement}
 use Rattle.compare.proofs.hearing.answer.Tie as tie
 
@@ -20,34 +19,26 @@ last-left-requires c κs = search needs
 last-right-requires : tie.Need-last-right-requires
 last-right-requires c κs = search needs
 
-mul-close-product : tie.Need-mul-close-product
-mul-close-product c = search needs
-
-add-close-product : tie.Need-add-close-product
-add-close-product c = search needs
+last-triple-requires : tie.Need-last-triple-requires
+last-triple-requires c κs = search needs
 
 close-product-requires : tie.Need-close-product-requires
 unfolding roundWords
 close-product-requires c κs =
-    let t = c .before .before in
+    let right = c .before in
+    let left = right .before in
+    let t = left .before in
     let s = t .before .before .before .before in
-    let triples = sound (s .pre .0 .0) 2 (omega arith) (t .section-of .result .now) (t .section-of .ensures) in
-    ((s .pre .0 .0 .width, c .before .last-left .ensures .1, c .last-right .ensures .1), ((triples .below, omega (arith, triples .long)), s .pre .1))
+    let triples = sound (s .pre .0) 2 (omega arith) (t .section-of .result .now) (t .section-of .ensures) in (
+      (s .pre .0 .width, left .last-left .ensures .1, right .last-right .ensures .1),
+      ((triples .below, omega (arith, triples .long, c .last-triple .ensures)), s .pre .2),
+    )
 
-mul-reduce : tie.Need-mul-reduce
-mul-reduce c = search needs
+both-slot-requires : tie.Need-both-slot-requires
+both-slot-requires c κs = search needs
 
-add-reduce : tie.Need-add-reduce
-add-reduce c = search needs
-
-mul-reduce-2 : tie.Need-mul-reduce-2
-mul-reduce-2 c = search needs
-
-shared-slice-read-reduce : tie.Need-shared-slice-read-reduce
-shared-slice-read-reduce c = search needs
-
-reduce-requires : tie.Need-reduce-requires
-reduce-requires c κs = search needs
+held-requires : tie.Need-held-requires
+held-requires c κs = search needs
 
 half-requires : tie.Need-half-requires
 half-requires c κs = search needs
@@ -59,13 +50,14 @@ add-requires : tie.Need-add-requires
 add-requires c κs = search needs
 
 returns : tie.Need-returns
-unfolding replyTo answerShare lastProduct held minus
+unfolding replyTo answerShare lastProduct minus
 returns c =
     let difference = c .before in
     let h = difference .before in
     let both = h .before in
     let k = both .before .before in
-    let right = k .before in
+    let i = k .before in
+    let right = i .before in
     let left = right .before in
     let t = left .before in
     let a = t .before .before .before .before .args in (
@@ -76,8 +68,10 @@ returns c =
             closing-one b (lastProduct b (a .work .now)) (a .incoming .now),
             difference .sub .ensures .0,
             h .half .ensures .0,
-            both .reduce .ensures .0,
+            both .held .ensures .0,
+            both .before .both-slot .ensures,
             k .close-product .ensures .0,
+            i .last-triple .ensures,
             right .last-right .ensures .0,
             left .last-left .ensures .0,
             t .section-of .ensures,
@@ -92,14 +86,10 @@ answer-spec =
     section-of-requires
     last-left-requires
     last-right-requires
-    mul-close-product
-    add-close-product
+    last-triple-requires
     close-product-requires
-    mul-reduce
-    add-reduce
-    mul-reduce-2
-    shared-slice-read-reduce
-    reduce-requires
+    both-slot-requires
+    held-requires
     half-requires
     sub-requires
     add-requires

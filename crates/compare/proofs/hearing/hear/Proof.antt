@@ -1,18 +1,14 @@
 -- `compare::hearing::hear` meets its contract, round by round.
-use Prim.Native.Nat.{ℕ, _*_, _<_}
+use Prim.Native.Nat.{ℕ, _<_}
 use mathlib.Core.Path.{_≡_, sym}
 use native.Mathlib.Omega.{arith}
-use borrow.Author.Needs.{needs}
 use Rattle.field.specs.Width.{modulus}
 use Rattle.field.proofs.Widths.{bounds}
-use Rattle.tape.specs.Layout.{groupCount}
 use Rattle.protocol.specs.Words.{FromLine}
-use Rattle.protocol.specs.Rounds.{roundWords, afterHearing, replyTo}
 use Rattle.protocol.specs.Products.{party}
-use Rattle.protocol.proofs.Line.{fewer}
+use Rattle.protocol.specs.Rounds.{roundWords, afterHearing, replyTo}
 use Rattle.protocol.proofs.ByRound.{no-reply, no-hearing}
-use Rattle.compare.proofs.Sound.{sound}
-use Rattle.compare.proofs.Heard.{levels-closed, wraps-closed}
+use borrow.Author.Needs.{needs}
 use Rattle.compare.proofs.hearing.hear.Statement.{statement}
 use Rattle.compare.proofs.hearing.hear.Tie as tie
 
@@ -30,56 +26,39 @@ hear-first-requires c κs =
     let s = m .before .before .before .before in
     (s .pre .0, words s 1 (m .match .keys1))
 
-section-of-requires : tie.Need-section-of-requires
-section-of-requires c κs = search needs
-
-section-of-requires-2 : tie.Need-section-of-requires-2
-section-of-requires-2 c κs = search needs
-
-close-levels-requires : tie.Need-close-levels-requires
-unfolding roundWords
-close-levels-requires c κs =
-    let t = c .before in
-    let p = t .before in
-    let m = p .before in
+hear-masked-requires : tie.Need-hear-masked-requires
+hear-masked-requires c κs =
+    let m = c .before in
     let s = m .before .before .before .before in
-    let powers = sound (s .pre .0 .3) 1 (omega arith) (p .section-of .result .now) (p .section-of .ensures) in
-    let triples = sound (s .pre .0 .3) 2 (omega arith) (t .section-of2 .result .now) (t .section-of2 .ensures) in (
-      (s .pre .0 .3 .width, omega (arith, s .pre .0 .4)),
-      ((powers .below, omega (arith, powers .long)), ((triples .below, omega (arith, triples .long)), fewer (words s 2 (m .match .keys2)) (groupCount (s .args .n) * 2) (omega arith))),
-    )
+    (s .pre .0 .3, s .pre .0 .4, words s 2 (m .match .keys2))
 
 hear-levels-requires : tie.Need-hear-levels-requires
 hear-levels-requires c κs =
     let m = c .before in
     let s = m .before .before .before .before in
-    ((s .pre .0 .1, s .pre .0 .2, s .pre .0 .3, s .pre .0 .4), words s 3 (m .match .keys3))
+    (s .pre .0 .3, s .pre .0 .4, words s 3 (m .match .keys3))
 
-section-of-requires-3 : tie.Need-section-of-requires-3
-section-of-requires-3 c κs = search needs
+known-tests-requires : tie.Need-known-tests-requires
+known-tests-requires c κs = search needs
 
-close-wraps-requires : tie.Need-close-wraps-requires
-unfolding roundWords
-close-wraps-requires c κs =
+hear-wraps-requires : tie.Need-hear-wraps-requires
+hear-wraps-requires c κs =
     let t = c .before in
-    let m = t .before in
+    let m = t .before .before in
     let s = m .before .before .before .before in
-    let triples = sound (s .pre .0 .3) 2 (omega arith) (t .section-of3 .result .now) (t .section-of3 .ensures) in
-    ((s .pre .0 .3 .width, s .pre .0 .4), ((triples .below, omega (arith, triples .long)), words s 4 (m .match .keys4)))
+    ((s .pre .0 .3, s .pre .0 .4, words s 4 (m .match .keys4)), t .known-tests .ensures .2)
 
 hear-halves-requires : tie.Need-hear-halves-requires
-unfolding roundWords
 hear-halves-requires c κs =
     let m = c .before in
     let s = m .before .before .before .before in
-    ((s .pre .0 .3, s .pre .0 .4), words s 5 (m .match .keys5))
+    (s .pre .0 .3, s .pre .0 .4, words s 5 (m .match .keys5))
 
 answer-requires : tie.Need-answer-requires
-unfolding roundWords
 answer-requires c κs =
     let m = c .before in
     let s = m .before .before .before .before in
-    ((s .pre .0 .3, s .pre .0 .4), words s 6 (m .match .keys6))
+    (s .pre .0 .3, s .pre .0 .4, words s 6 (m .match .keys6))
 
 same-length : tie.Need-same-length
 same-length c = search needs
@@ -99,20 +78,9 @@ returns-2 : tie.Need-returns-2
 unfolding replyTo
 returns-2 c =
     let done = c .before .before in
-    let t = done .before .before in
-    let p = t .before in
-    let m = p .before in
+    let m = done .before .before in
     let s = m .before .before .before .before in
-    let a = s .args in (
-      (
-        rw (m .match .keys2),
-        rw (m .match .keys2)
-            (levels-closed (a .n) (a .side) (a .x) (a .y) (a .tape .now) (a .work .now) (a .incoming .now)
-            (p .section-of .result .now) (t .section-of2 .result .now) (done .close-levels .last .1 .1 .1 .1 .1 .0)
-            (p .section-of .ensures) (t .section-of2 .ensures) (done .close-levels .ensures)),
-      ),
-      none s,
-    )
+    ((rw (m .match .keys2), rw (m .match .keys2) (done .hear-masked .ensures (s .args .x) (s .args .y))), none s)
 
 same-length-3 : tie.Need-same-length-3
 same-length-3 c = search needs
@@ -123,7 +91,7 @@ returns-3 c =
     let done = c .before .before in
     let m = done .before .before in
     let s = m .before .before .before .before in
-    ((rw (m .match .keys3), rw (m .match .keys3) (done .hear-levels .ensures)), none s)
+    ((rw (m .match .keys3), rw (m .match .keys3) (done .hear-levels .ensures (s .args .x) (s .args .y))), none s)
 
 same-length-4 : tie.Need-same-length-4
 same-length-4 c = search needs
@@ -132,19 +100,9 @@ returns-4 : tie.Need-returns-4
 unfolding replyTo
 returns-4 c =
     let done = c .before .before in
-    let t = done .before .before in
-    let m = t .before in
+    let m = done .before .before .before .before in
     let s = m .before .before .before .before in
-    let a = s .args in (
-      (
-        rw (m .match .keys4),
-        rw (m .match .keys4)
-            (wraps-closed (a .n) (a .side) (a .x) (a .y) (a .tape .now) (a .work .now) (a .incoming .now)
-            (t .section-of3 .result .now) (done .close-wraps .last .1 .1 .1 .1 .0)
-            (t .section-of3 .ensures) (done .close-wraps .ensures)),
-      ),
-      none s,
-    )
+    ((rw (m .match .keys4), rw (m .match .keys4) (done .hear-wraps .ensures (s .args .x) (s .args .y))), none s)
 
 same-length-5 : tie.Need-same-length-5
 same-length-5 c = search needs
@@ -184,12 +142,10 @@ hear-spec =
     tie.close
     (tie.spec
     hear-first-requires
-    section-of-requires
-    section-of-requires-2
-    close-levels-requires
+    hear-masked-requires
     hear-levels-requires
-    section-of-requires-3
-    close-wraps-requires
+    known-tests-requires
+    hear-wraps-requires
     hear-halves-requires
     answer-requires
     same-length

@@ -1,8 +1,9 @@
 -- `compare::hearing::hear_halves` meets its contract: the share of M is closed by its triple.
 use native.Mathlib.Omega.{arith}
-use Rattle.protocol.specs.Rounds.{roundWords}
+use Rattle.protocol.specs.Products.{party}
+use Rattle.protocol.specs.Rounds.{halfProduct, roundWords, afterHearing}
 use Rattle.compare.proofs.Sound.{sound}
-use Rattle.compare.proofs.Heard.{both-closed}
+use Rattle.compare.proofs.Closings.{closing-one}
 use borrow.Author.Needs.{needs}
 use Rattle.compare.proofs.hearing.hear_halves.Statement.{statement}
 use Rattle.compare.proofs.hearing.hear_halves.Tie as tie
@@ -16,31 +17,26 @@ half-requires c κs = search needs
 half-requires-2 : tie.Need-half-requires-2
 half-requires-2 c κs = search needs
 
-mul-close-product : tie.Need-mul-close-product
-mul-close-product c = search needs
+half-triple-requires : tie.Need-half-triple-requires
+half-triple-requires c κs = search needs
 
-add-close-product : tie.Need-add-close-product
-add-close-product c = search needs
+both-slot-requires : tie.Need-both-slot-requires
+both-slot-requires c κs = search needs
 
 close-product-requires : tie.Need-close-product-requires
 unfolding roundWords
 close-product-requires c κs =
-    let h = c .before .before in
-    let t = h .before .before in
+    let u = c .before .before in
+    let v = u .before .before in
+    let t = v .before .before in
     let s = t .before .before .before .before in
-    let triples = sound (s .pre .0 .0) 2 (omega arith) (t .section-of .result .now) (t .section-of .ensures) in (
-      (s .pre .0 .0 .width, h .half .ensures .1, c .half2 .ensures .1),
-      ((triples .below, omega (arith, triples .long)), s .pre .1),
+    let triples = sound (s .pre .0) 2 (omega arith) (t .section-of .result .now) (t .section-of .ensures) in (
+      (s .pre .0 .width, v .half .ensures .1, u .half2 .ensures .1),
+      ((triples .below, omega (arith, triples .long, c .before .half-triple .ensures)), s .pre .2),
     )
 
 mul-work : tie.Need-mul-work
 mul-work c = search needs
-
-add-work : tie.Need-add-work
-add-work c = search needs
-
-mul-work-2 : tie.Need-mul-work-2
-mul-work-2 c = search needs
 
 slice-write-work : tie.Need-slice-write-work
 slice-write-work c = search needs
@@ -49,15 +45,25 @@ same-length : tie.Need-same-length
 same-length c = search needs
 
 returns : tie.Need-returns
+unfolding afterHearing halfProduct
 returns c =
-    let u = c .before in
+    let slot = c .before in
+    let i = slot .before in
+    let u = i .before in
     let v = u .before .before in
     let t = v .before .before in
     let a = t .before .before .before .before .args in
     λ x y.
-    both-closed (a .n) (a .side) x y (a .tape .now) (a .work .now) (a .incoming .now)
-    (t .section-of .result .now) (v .half .result) (u .half2 .result) (c .close-product .result)
-    (t .section-of .ensures) (v .half .ensures .0) (u .half2 .ensures .0) (c .close-product .ensures .0)
+    let b = party (a .n) (a .side) x y (a .tape .now) in
+    rw (
+      closing-one b (halfProduct b (a .work .now)) (a .incoming .now),
+      c .close-product .ensures .0,
+      slot .both-slot .ensures,
+      i .half-triple .ensures,
+      u .half2 .ensures .0,
+      v .half .ensures .0,
+      t .section-of .ensures,
+    )
 
 pub hear-halves-spec : {M : Type 1} → statement M
 hear-halves-spec =
@@ -66,12 +72,10 @@ hear-halves-spec =
     section-of-requires
     half-requires
     half-requires-2
-    mul-close-product
-    add-close-product
+    half-triple-requires
+    both-slot-requires
     close-product-requires
     mul-work
-    add-work
-    mul-work-2
     slice-write-work
     same-length
     returns)

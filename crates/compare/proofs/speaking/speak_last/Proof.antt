@@ -1,9 +1,8 @@
 -- `compare::speaking::speak_last` meets its contract: both factors are opened by the last triple.
-use native.Mathlib.Omega.{arith}
 use mathlib.Core.Path.{_∙_}
-use Rattle.tape.proofs.Sections.{section-length}
+use native.Mathlib.Omega.{arith}
 use Rattle.protocol.specs.Products.{party}
-use Rattle.compare.proofs.Parts.{section-words}
+use Rattle.compare.proofs.Sound.{sound}
 use Rattle.compare.proofs.Messages.{last-message}
 use borrow.Author.Needs.{needs}
 use Rattle.compare.proofs.speaking.speak_last.Statement.{statement}
@@ -18,20 +17,19 @@ last-left-requires c κs = search needs
 last-right-requires : tie.Need-last-right-requires
 last-right-requires c κs = search needs
 
-mul-open-product : tie.Need-mul-open-product
-mul-open-product c = search needs
-
-add-open-product : tie.Need-add-open-product
-add-open-product c = search needs
+last-triple-requires : tie.Need-last-triple-requires
+last-triple-requires c κs = search needs
 
 open-product-requires : tie.Need-open-product-requires
 open-product-requires c κs =
-    let t = c .before .before .before in
+    let i = c .before in
+    let u = i .before in
+    let v = u .before in
+    let t = v .before in
     let s = t .before .before .before .before in
-    let r = s .pre .0 in
-    let e = t .section-of .ensures in (
-      (r .width, c .before .before .last-left .ensures .1, c .before .last-right .ensures .1),
-      (rw e (section-words r 2 (omega arith)), rw e (omega (arith, section-length r 2 (omega arith))), s .pre .2),
+    let triples = sound (s .pre .0) 2 (omega arith) (t .section-of .result .now) (t .section-of .ensures) in (
+      (s .pre .0 .width, v .last-left .ensures .1, u .last-right .ensures .1),
+      (triples .below, omega (arith, triples .long, i .last-triple .ensures), s .pre .2),
     )
 
 same-length : tie.Need-same-length
@@ -40,13 +38,14 @@ same-length c = search needs
 returns : tie.Need-returns
 returns c =
     let p = c .before .before in
-    let u = p .before .before in
+    let i = p .before .before in
+    let u = i .before in
     let v = u .before in
     let t = v .before in
     let a = t .before .before .before .before .args in
     λ x y.
     p .open-product .ensures
-    ∙ rw (u .last-right .ensures .0, v .last-left .ensures .0, t .section-of .ensures)
+    ∙ rw (i .last-triple .ensures, u .last-right .ensures .0, v .last-left .ensures .0, t .section-of .ensures)
     (last-message (party (a .n) (a .side) x y (a .tape .now)) (a .work .now) (a .out .now))
 
 pub speak-last-spec : {M : Type 1} → statement M
@@ -56,8 +55,7 @@ speak-last-spec =
     section-of-requires
     last-left-requires
     last-right-requires
-    mul-open-product
-    add-open-product
+    last-triple-requires
     open-product-requires
     same-length
     returns)
