@@ -1,55 +1,23 @@
--- What a check's answer says of the grounds, and a call's outcome where it is refused and where it goes on.
+-- A call's outcome where its check refuses it and where it goes on.
 use Prim.Native.Nat.{ℕ, _+_}
 use mathlib.Core.Path.{_≡_, refl, sym, ap, _∙_}
-use mathlib.Core.List.{List, [], _∷_, _++_}
+use mathlib.Core.List.{List}
 use native.Mathlib.Omega.{arith}
 use borrow.Author.Tests.{eq-eqb, ne-eqb}
 use Rattle.protocol.specs.Rounds.{lastRound, afterHearing, answerShare, replyTo}
 use Rattle.refusals.specs.Numbers.{numberOf}
 use Rattle.refusals.proofs.Numbers.{numbered}
 use Rattle.refusals.specs.declared.Refusal.{Refusal}
-use Rattle.rules.specs.Grounds.{Ground, firstOf, joined, hearGround}
+use Rattle.rules.specs.Grounds.{hearGround}
 use Rattle.rules.specs.Calls.{Result, outcome, unless, inPhase, partyOf, turned, hearRule}
-use Rattle.rules.proofs.Chains.{first-some, first-none}
 use Rattle.rules.specs.declared.state.Turn.the-variants.{Speak}
 use Rattle.rules.specs.declared.state.Phase.the-variants.{Idle}
 use Rattle.rules.specs.declared.state.State.{State}
 use Rattle.rules.specs.declared.state.Outcome.{Outcome}
 use Rattle.rules.specs.declared.state.Answer.the-variants.{Heard, Share as ShareOf, Refused as RefusedWith}
-use Rattle.limit_box.specs.Checks.{groundOf, thenGround}
+use Rattle.limit_box.specs.Checks.{groundOf}
 use Rattle.limit_box.specs.declared.checks.Check.{Check}
 use Rattle.limit_box.specs.declared.checks.Check.the-variants.{Passed, Refused}
-
--- ---- checks one after another
-
--- where the check of some grounds has come to, all from there on come to k
-pub data Decides : Check → List (List Ground) → ℕ → Type 0 where
-  decides : {check : Check} {parts : List (List Ground)} {k : ℕ} → k ≡ thenGround check (firstOf (joined parts)) → Decides check parts k
-
-pub decided : {parts : List (List Ground)} {k : ℕ} → Decides Passed parts k → k ≡ firstOf (joined parts)
-decided (decides e) = e
-
--- grounds that are checked each by itself
-abbrev pub each : List Ground → List (List Ground)
-each [] = []
-each (g ∷ gs) = (g ∷ []) ∷ each gs
-
--- one list more, before those
-pub then : {check : Check} {gs : List Ground} {parts : List (List Ground)} {k : ℕ} (next : Check) → groundOf next ≡ thenGround check (firstOf gs)
-    → Decides next parts k → Decides check (gs ∷ parts) k
-then {check} {gs} {parts} {k} next told (decides e) = decides (go check next told e)
-  where
-    go : (check next : Check) → groundOf next ≡ thenGround check (firstOf gs) → k ≡ thenGround next (firstOf (joined parts))
-        → k ≡ thenGround check (firstOf (gs ++ joined parts))
-    go Passed Passed t d = d ∙ sym (first-none gs (joined parts) (sym t))
-    go Passed (Refused refusal) t d = d ∙ sym (first-some gs (joined parts) (numberOf refusal) (sym t) (numbered refusal .0))
-    go (Refused earlier) Passed t d = absurd (omega (arith, t, numbered earlier .0))
-    go (Refused earlier) (Refused refusal) t d = d ∙ t
-
--- a check that passed comes after one that passed
-pub then-passed : (check : Check) (ground k : ℕ) → ground ≡ thenGround check k → ground ≡ 0 → groundOf check ≡ 0
-then-passed Passed ground k told zero = refl
-then-passed (Refused refusal) ground k told zero = sym told ∙ zero
 
 pub passed-ground : (check : Check) (ground : ℕ) → check ≡ Passed → groundOf check ≡ ground → ground ≡ 0
 passed-ground check ground e told = sym told ∙ ap groundOf e

@@ -99,7 +99,7 @@ wakeGrounds s n side tally =
     ∷ (Tally when not (tallyFits (length tally)))
     ∷ []
 
--- start has no other buffer
+-- start has no other buffer that has to fit
 abbrev pub startParts : State → ℕ → ℕ → ℕ → List ℕ → List ℕ → List ℕ → List (List Ground)
 startParts s number x y tape work tally =
     idleGrounds (modeOf s)

@@ -4,7 +4,7 @@ use mathlib.Core.List.{[], _∷_}
 use Rattle.rules.specs.Grounds.{turnGrounds, wordGrounds, hearGround}
 use Rattle.rules.proofs.Passed.{turn-passed}
 use Rattle.rules.specs.declared.state.Turn.the-variants.{Hear}
-use Rattle.limit_box.proofs.Outcomes.{decides, decided, then}
+use Rattle.limit_box.proofs.Chains.{decides, decided, then}
 use borrow.Author.Needs.{needs}
 use Rattle.limit_box.proofs.checks.hear_check.Statement.{statement}
 use Rattle.limit_box.proofs.checks.hear_check.Tie as tie

@@ -4,7 +4,7 @@ use Rattle.rules.specs.Modes.{modeOf}
 use Rattle.rules.specs.Grounds.{firstOf, idleGrounds, startParts, startGround}
 use Rattle.rules.proofs.Passed.{idle-listed}
 use Rattle.limit_box.specs.Checks.{groundOf}
-use Rattle.limit_box.proofs.Outcomes.{decides, decided, then, then-passed}
+use Rattle.limit_box.proofs.Chains.{decides, decided, then, then-passed}
 use borrow.Author.Needs.{needs}
 use Rattle.limit_box.proofs.checks.start_check.Statement.{statement}
 use Rattle.limit_box.proofs.checks.start_check.Tie as tie

@@ -4,7 +4,7 @@ use Rattle.rules.specs.Modes.{modeOf}
 use Rattle.rules.specs.Grounds.{firstOf, jobGrounds, turnParts}
 use Rattle.rules.proofs.Passed.{job-listed}
 use Rattle.limit_box.specs.Checks.{groundOf}
-use Rattle.limit_box.proofs.Outcomes.{decides, decided, then, then-passed}
+use Rattle.limit_box.proofs.Chains.{decides, decided, then, then-passed}
 use borrow.Author.Needs.{needs}
 use Rattle.limit_box.proofs.checks.turn_check.Statement.{statement}
 use Rattle.limit_box.proofs.checks.turn_check.Tie as tie

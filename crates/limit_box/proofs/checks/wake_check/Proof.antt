@@ -1,6 +1,6 @@
 -- `limit_box::checks::wake_check` meets its contract: the grounds, one after another.
 use Rattle.rules.specs.Grounds.{wakeGrounds, wakeGround}
-use Rattle.limit_box.proofs.Outcomes.{each, decides, decided, then}
+use Rattle.limit_box.proofs.Chains.{each, decides, decided, then}
 use borrow.Author.Needs.{needs}
 use Rattle.limit_box.proofs.checks.wake_check.Statement.{statement}
 use Rattle.limit_box.proofs.checks.wake_check.Tie as tie

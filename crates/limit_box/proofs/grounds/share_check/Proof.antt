@@ -29,7 +29,7 @@ when-requires c κs = search needs
 returns-3 : tie.Need-returns-3
 returns-3 c =
     let first = c .before .before in
-    rw (← first .before .in-range .ensures, first .if1 .left, ← c .before .in-range2 .ensures) (c .when .ensures)
+    rw (← first .before .in-range .ensures, first .if1 .left) (rw (c .before .in-range2 .ensures) at (c .when .ensures))
 
 pub share-check-spec : {M : Type 1} → statement M
 share-check-spec =
