@@ -6,15 +6,15 @@ ghost use Prim.Native.Nat.{ℕ, _+_, _*_, _%_, _<_, _≤_};
 ghost use lib.ListN.{length, getD};
 ghost use lib.Seq.{sets};
 ghost use Rattle.lists.specs.Tabulate.{tabulate};
-ghost use Rattle.field.specs.Width.{listed, modulus};
+ghost use Rattle.field.specs.Width.{modulus};
 ghost use Rattle.shares.specs.Side.{isSide};
 ghost use Rattle.tape.specs.Layout.{tripleCount, section};
 ghost use Rattle.tape.specs.Order.{Readable};
 ghost use Rattle.protocol.specs.Words.{Below, FromLine};
-ghost use Rattle.protocol.specs.Tests.{lowBit, complement, exclusive};
+ghost use Rattle.protocol.specs.Tests.{exclusive};
 ghost use Rattle.protocol.specs.Work.{wrapSlot, workLength, held};
 ghost use Rattle.protocol.specs.Products.{party, closed};
-ghost use Rattle.protocol.specs.Rounds.{lowSum, roundWords, afterHearing, replyTo};
+ghost use Rattle.protocol.specs.Rounds.{roundWords, afterHearing, replyTo};
 
 // u + v - 2uv for each test, the products being closed by the triples from first on.
 fn exclusive_three(

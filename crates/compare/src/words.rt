@@ -1,7 +1,6 @@
 // How many words each round opens, and how many a job works in.
 ghost use mathlib.Core.Path.{_≡_};
 ghost use mathlib.Core.Bool.{true};
-ghost use Prim.Native.Nat.{_+_, _*_};
 ghost use Rattle.field.specs.Width.{listed};
 ghost use Rattle.protocol.specs.Rounds.{roundWords};
 ghost use Rattle.protocol.specs.Work.{workLength};

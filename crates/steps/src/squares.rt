@@ -2,15 +2,35 @@
 use crate::tests::Tests;
 ghost use mathlib.Core.Path.{_≡_};
 ghost use mathlib.Core.Bool.{true};
-ghost use Prim.Native.Nat.{ℕ, _+_, _*_, _%_, _<_, _≤_, _^_};
+ghost use Prim.Native.Nat.{_+_, _*_, _/_, _%_, _<_, _≤_};
 ghost use lib.ListN.{length, getD};
 ghost use lib.Seq.{sets};
 ghost use Rattle.lists.specs.Tabulate.{tabulate, sum};
 ghost use Rattle.field.specs.Width.{listed, modulus};
 ghost use Rattle.shares.specs.Share.{constantShare};
 ghost use Rattle.tape.specs.Layout.{squareCount, groupCount};
+ghost use Rattle.encoding.specs.Codes.{levelCode};
 ghost use Rattle.protocol.specs.Words.{Below, FromLine};
 ghost use Rattle.protocol.specs.Squares.{codeDifference, bitDifference, squareOpening, squareClosing, matchCount};
+
+// The code of group g: level g % n of test g / n.
+fn code_of(n: u32, side: u32, tests: Tests, g: usize) -> u32
+    requires { ⌜ (listed n ≡ true) × Below (modulus n) (tests .doubled) × (g < groupCount n) ⌝ }
+    ensures { λ r. ⌜ r ≡ levelCode n side (getD (tests .doubled) (g / n) 0) (g % n) ⌝ }
+{
+    let m = n as usize;
+    let t = g / m;
+    encoding::codes::level_code(n, side, tests.doubled[t], (g % m) as u32)
+}
+
+// This box's share of the difference of its code's bit k from the other box's.
+fn difference(n: u32, side: u32, code: u32, k: u32) -> u32
+    requires { ⌜ (listed n ≡ true) × (k < n) ⌝ }
+    ensures { λ r. ⌜ r ≡ codeDifference n side code k ⌝ }
+    ensures below { λ r. ⌜ r < modulus n ⌝ }
+{
+    crate::tests::complement_of(n, side, encoding::codes::bit(code, k))
+}
 
 // The n words that open the bit differences of group g, whose code is given.
 fn open_group(n: u32, side: u32, code: u32, squares: &[u32], g: usize, out: &mut [u32])
@@ -24,8 +44,7 @@ fn open_group(n: u32, side: u32, code: u32, squares: &[u32], g: usize, out: &mut
     let mut k: u32 = 0;
     while k < n {
         let j = base + k as usize;
-        let share = crate::tests::complement_of(n, side, encoding::codes::bit(code, k));
-        out[j] = shares::mask(n, share, squares[j * 2]);
+        out[j] = shares::mask(n, difference(n, side, code, k), squares[j * 2]);
         k += 1;
     }
 }
@@ -39,21 +58,30 @@ pub fn open_squares(n: u32, side: u32, tests: Tests, squares: &[u32], out: &mut 
         (tabulate (squareCount n)
         (λ j. squareOpening n (bitDifference n side (λ t. getD (tests .doubled) t 0) j) (now (squares .entry)) j)) ⌝ }
 {
-    let m = n as usize;
+    let groups = crate::places::group_count(n);
     let mut g: usize = 0;
-    while g < 3 * m {
-        let t = g / m;
-        let code = encoding::codes::level_code(n, side, tests.doubled[t], (g % m) as u32);
-        open_group(n, side, code, squares, g, &mut *out);
+    while g < groups {
+        open_group(n, side, code_of(n, side, tests, g), squares, g, &mut *out);
         g += 1;
     }
+}
+
+// The share of the square of v by square j, the other box's word standing at j of incoming.
+fn close_square(n: u32, side: u32, v: u32, squares: &[u32], incoming: &[u32], j: usize) -> u32
+    requires { ⌜ (listed n ≡ true) × (v < modulus n) × Below (modulus n) (now squares) × (j * 2 + 1 < length (now squares)) ⌝ }
+    requires { ⌜ FromLine n (j + 1) (now incoming) ⌝ }
+    ensures { λ r. ⌜ r ≡ squareClosing n side v (now (squares .entry)) (now (incoming .entry)) j ⌝ }
+    ensures below { λ r. ⌜ r < modulus n ⌝ }
+{
+    let a = squares[j * 2];
+    let e = shares::open(n, shares::mask(n, v, a), incoming[j]);
+    shares::square(n, side, e, a, squares[j * 2 + 1])
 }
 
 // The share of 1 + the n squares of group g, whose code is given.
 fn close_group(n: u32, side: u32, code: u32, squares: &[u32], g: usize, incoming: &[u32]) -> u32
     requires { ⌜ (listed n ≡ true) × (g < groupCount n) ⌝ }
-    requires { ⌜ Below (modulus n) (now squares) × (squareCount n * 2 ≤ length (now squares)) ⌝ }
-    requires { ⌜ FromLine n (squareCount n) (now incoming) ⌝ }
+    requires { ⌜ Below (modulus n) (now squares) × (squareCount n * 2 ≤ length (now squares)) × FromLine n (squareCount n) (now incoming) ⌝ }
     ensures { λ r. ⌜ r
         ≡ (constantShare side 1
         + sum n (λ k. squareClosing n side (codeDifference n side code k) (now (squares .entry)) (now (incoming .entry)) (g * n + k)))
@@ -64,11 +92,9 @@ fn close_group(n: u32, side: u32, code: u32, squares: &[u32], g: usize, incoming
     let mut total = shares::constant(side, 1);
     let mut k: u32 = 0;
     while k < n {
-        let j = base + k as usize;
-        let a = squares[j * 2];
-        let share = crate::tests::complement_of(n, side, encoding::codes::bit(code, k));
-        let e = shares::open(n, shares::mask(n, share, a), incoming[j]);
-        total = field::add(n, total, shares::square(n, side, e, a, squares[j * 2 + 1]));
+        let v = difference(n, side, code, k);
+        let square = close_square(n, side, v, squares, incoming, base + k as usize);
+        total = field::add(n, total, square);
         k += 1;
     }
     total
@@ -91,12 +117,10 @@ pub fn close_squares(
         (tabulate (groupCount n)
         (matchCount n side (λ t. getD (tests .doubled) t 0) (now (squares .entry)) (now (incoming .entry)))) ⌝ }
 {
-    let m = n as usize;
+    let groups = crate::places::group_count(n);
     let mut g: usize = 0;
-    while g < 3 * m {
-        let t = g / m;
-        let code = encoding::codes::level_code(n, side, tests.doubled[t], (g % m) as u32);
-        work[g] = close_group(n, side, code, squares, g, incoming);
+    while g < groups {
+        work[g] = close_group(n, side, code_of(n, side, tests, g), squares, g, incoming);
         g += 1;
     }
 }

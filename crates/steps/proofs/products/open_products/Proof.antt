@@ -2,7 +2,7 @@
 use mathlib.Core.List.{List}
 use native.Mathlib.Nat.{mul-le-mul-right}
 use borrow.Author.Needs.{needs}
-use mathlib.Core.Path.{_≡_, refl, sym, ap, _∙_}
+use mathlib.Core.Path.{_≡_, ap, _∙_}
 use Prim.Native.Nat.{ℕ, _+_, _-_, _*_, _%_, _≤_}
 use lib.ListN.{length, getD}
 use lib.Seq.{sets}

@@ -14,6 +14,7 @@ use Rattle.tape.specs.Layout.{squareCount}
 use Rattle.tape.proofs.Letters.{square-index}
 use Rattle.tape.proofs.Sizes.{small}
 use Rattle.protocol.specs.Squares.{codeDifference, squareClosing}
+use Rattle.protocol.proofs.Line.{fewer}
 use Rattle.steps.proofs.squares.close_group.Statement.{statement}
 use Rattle.steps.proofs.squares.close_group.Tie as tie
 
@@ -33,13 +34,14 @@ Inv-loop n side code squares g incoming base total₀ k₀ total k = (k ≤ n) �
 abbrev μ-loop : tie.MeasureT-loop
 μ-loop n side code squares g incoming base total₀ k₀ total k = n - k
 
+abbrev start : tie.In-loop Inv-loop μ-loop → tie.Start Inv-loop μ-loop
+start t = t .before .before .before .before .before
+
 -- the square of bit k is dealt
-placed : (c : tie.In-loop Inv-loop μ-loop)
-    → c .before .before .before .before .before .args .g * c .before .before .before .before .before .args .n + c .before .loop .k
-    < squareCount (c .before .before .before .before .before .args .n)
-placed c =
-    let s = c .before .before .before .before .before in
-    square-index (s .args .n) (s .args .g) (c .before .loop .k) (s .pre .0 .1) (c .loop-test .taken)
+placed : (t : tie.In-loop Inv-loop μ-loop) → start t .args .g * start t .args .n + t .before .loop .k < squareCount (start t .args .n)
+placed t =
+    let s = start t in
+    square-index (s .args .n) (s .args .g) (t .before .loop .k) (s .pre .0 .1) (t .loop-test .taken)
 
 mul-base : tie.Need-mul-base Inv-loop μ-loop
 mul-base c =
@@ -56,109 +58,42 @@ loop-holds c =
     let all : c .constant .result ≡ constantShare (s .args .side) 1 + 0 = omega arith in
     (omega arith, less, sym (mod-eq-of-lt less) ∙ ap (λ (x : ℕ). x % modulus (s .args .n)) all)
 
-cast-j : tie.Need-cast-j Inv-loop μ-loop
-cast-j c = omega arith
+difference-requires : tie.Need-difference-requires Inv-loop μ-loop
+difference-requires c κs = (start c .pre .0 .0, c .loop-test .taken)
 
-add-j : tie.Need-add-j Inv-loop μ-loop
-add-j c =
-    let s = c .before .before .before .before .before in
-    omega (arith, placed c, small (s .pre .0 .0))
+cast-close-square : tie.Need-cast-close-square Inv-loop μ-loop
+cast-close-square c = omega arith
 
-mul-a : tie.Need-mul-a Inv-loop μ-loop
-mul-a c =
-    let s = c .before .before .before .before .before in
-    omega (arith, placed c, small (s .pre .0 .0))
+add-close-square : tie.Need-add-close-square Inv-loop μ-loop
+add-close-square c = omega (arith, placed (c .before), small (start (c .before) .pre .0 .0))
 
-mul-a-2 : tie.Need-mul-a-2 Inv-loop μ-loop
-mul-a-2 c =
-    let s = c .before .before .before .before .before in
-    omega (arith, placed c, small (s .pre .0 .0))
-
-shared-slice-read-a : tie.Need-shared-slice-read-a Inv-loop μ-loop
-shared-slice-read-a c =
-    let s = c .before .before .before .before .before .before in
-    omega (arith, placed (c .before), s .pre .1)
-
-bit-requires : tie.Need-bit-requires Inv-loop μ-loop
-bit-requires c κs =
-    let s = c .before .before .before .before .before .before in
-    omega (arith, small (s .pre .0 .0))
-
-complement-of-requires : tie.Need-complement-of-requires Inv-loop μ-loop
-complement-of-requires c κs =
-    let s = c .before .before .before .before .before .before .before in
-    (s .pre .0 .0, omega (arith, c .bit .ensures, bounds (s .pre .0 .0)))
-
-mask-requires : tie.Need-mask-requires Inv-loop μ-loop
-mask-requires c κs =
-    let s = c .before .before .before .before .before .before .before .before in
-    (s .pre .0 .0, c .complement-of .ensures .1, s .pre .1 .0 .0 .at _)
-
-mul-open : tie.Need-mul-open Inv-loop μ-loop
-mul-open c =
-    let s = c .before .before .before .before .before .before .before .before .before in
-    omega (arith, placed (c .before .before .before .before), small (s .pre .0 .0))
-
-shared-slice-read-open : tie.Need-shared-slice-read-open Inv-loop μ-loop
-shared-slice-read-open c =
-    let s = c .before .before .before .before .before .before .before .before .before .before in
-    omega (arith, placed (c .before .before .before .before .before), s .pre .1)
-
-open-requires : tie.Need-open-requires Inv-loop μ-loop
-open-requires c κs =
-    let s = c .before .before .before .before .before .before .before .before .before .before in
-    (s .pre .0 .0, c .before .mask .ensures .1, s .pre .1 .1 .below .at _)
-
-mul-square : tie.Need-mul-square Inv-loop μ-loop
-mul-square c =
-    let s = c .before .before .before .before .before .before .before .before .before .before .before in
-    omega (arith, placed (c .before .before .before .before .before .before), small (s .pre .0 .0))
-
-add-square : tie.Need-add-square Inv-loop μ-loop
-add-square c =
-    let s = c .before .before .before .before .before .before .before .before .before .before .before in
-    omega (arith, placed (c .before .before .before .before .before .before), small (s .pre .0 .0))
-
-mul-square-2 : tie.Need-mul-square-2 Inv-loop μ-loop
-mul-square-2 c =
-    let s = c .before .before .before .before .before .before .before .before .before .before .before in
-    omega (arith, placed (c .before .before .before .before .before .before), small (s .pre .0 .0))
-
-shared-slice-read-square : tie.Need-shared-slice-read-square Inv-loop μ-loop
-shared-slice-read-square c =
-    let s = c .before .before .before .before .before .before .before .before .before .before .before .before in
-    omega (arith, placed (c .before .before .before .before .before .before .before), s .pre .1)
-
-square-requires : tie.Need-square-requires Inv-loop μ-loop
-square-requires c κs =
-    let s = c .before .before .before .before .before .before .before .before .before .before .before .before in
-    (s .pre .0 .0, c .before .«open» .ensures .1, s .pre .1 .0 .0 .at _, s .pre .1 .0 .0 .at _)
+close-square-requires : tie.Need-close-square-requires Inv-loop μ-loop
+close-square-requires c κs =
+    let t = c .before in
+    let s = start t in
+    ((s .pre .0 .0, c .difference .ensures .1, s .pre .1 .0, omega (arith, placed t, s .pre .1)), fewer (s .pre .1 .2) _ (omega (arith, placed t)))
 
 add-requires : tie.Need-add-requires Inv-loop μ-loop
 add-requires c κs =
-    let s = c .before .before .before .before .before .before .before .before .before .before .before .before .before in
-    (s .pre .0 .0, c .before .before .before .before .before .before .before .before .before .loop .inv .1, c .square .ensures .1)
+    let t = c .before .before in
+    (start t .pre .0 .0, t .before .loop .inv .1, c .close-square .ensures .1)
 
 add-k : tie.Need-add-k Inv-loop μ-loop
-add-k c =
-    let s = c .before .before .before .before .before .before .before .before .before .before .before .before .before .before in
-    omega (arith, small (s .pre .0 .0))
+add-k c = omega (arith, small (start (c .before .before .before) .pre .0 .0))
 
 loop-less : tie.Need-loop-less Inv-loop μ-loop
 loop-less c = search needs
 
 loop-again : tie.Need-loop-again Inv-loop μ-loop
-unfolding squareClosing
 loop-again c =
     let q = c .before in
-    let o = q .before .before in
-    let m = o .before .before in
-    let l = m .before .before .before .before .before in
-    let a = l .before .before .before .before .args in (
+    let d = q .before in
+    let l = d .before .before in
+    let a = start (d .before) .args in (
       omega arith,
       c .add .ensures .1,
       c .add .ensures .0
-          ∙ rw (q .square .ensures .0, o .«open» .ensures .0, m .mask .ensures .0, m .before .complement-of .ensures .0, m .before .before .bit .ensures, l .loop .inv .2)
+          ∙ rw (q .close-square .ensures .0, d .difference .ensures .0, l .loop .inv .2)
           (total-more (modulus (a .n)) (constantShare (a .side) 1) (l .loop .k) (term (a .n) (a .side) (a .code) (a .squares .now) (a .g) (a .incoming .now))),
     )
 
@@ -181,22 +116,10 @@ close-group-spec =
     mul-base
     constant-requires
     loop-holds
-    cast-j
-    add-j
-    mul-a
-    mul-a-2
-    shared-slice-read-a
-    bit-requires
-    complement-of-requires
-    mask-requires
-    mul-open
-    shared-slice-read-open
-    open-requires
-    mul-square
-    add-square
-    mul-square-2
-    shared-slice-read-square
-    square-requires
+    difference-requires
+    cast-close-square
+    add-close-square
+    close-square-requires
     add-requires
     add-k
     loop-less

@@ -1,15 +1,11 @@
 -- `steps::squares::open_group` meets its contract. The loop's invariant: the words of the bits passed stand in their places.
-use Prim.Native.Nat.{ℕ, _+_, _-_, _*_, _≤_, _<_}
+use Prim.Native.Nat.{ℕ, _+_, _-_, _*_, _<_}
 use mathlib.Core.List.{List}
-use mathlib.Core.Path.{_≡_, ap, _∙_}
+use mathlib.Core.Path.{refl, _∙_}
 use native.Mathlib.Nat.{mul-le-mul, le-of-lt, le-refl}
 use native.Mathlib.Omega.{arith}
 use borrow.Author.Needs.{needs}
-use lib.ListN.{length, length-set}
-use lib.Seq.{sets}
-use Rattle.lists.specs.Tabulate.{tabulate}
-use Rattle.lists.proofs.Sets.{sets-more}
-use Rattle.field.proofs.Widths.{bounds}
+use Rattle.lists.proofs.Stores.{Stored, stored-none, stored-more, stored-all}
 use Rattle.tape.specs.Layout.{squareCount}
 use Rattle.tape.proofs.Letters.{square-index}
 use Rattle.tape.proofs.Sizes.{small}
@@ -22,18 +18,19 @@ abbrev word : ℕ → ℕ → ℕ → List ℕ → ℕ → ℕ → ℕ
 word n side code squares g k = squareOpening n (codeDifference n side code k) squares (g * n + k)
 
 abbrev Inv-loop : tie.InvT-loop
-Inv-loop n side code squares g out₀ base k₀ out k = (k ≤ n) × (length out ≡ length out₀) × (out ≡ sets out₀ (g * n) (tabulate k (word n side code squares g)))
+Inv-loop n side code squares g out₀ base k₀ out k = Stored out₀ (g * n) n (word n side code squares g) out k
 
 abbrev μ-loop : tie.MeasureT-loop
 μ-loop n side code squares g out₀ base k₀ out k = n - k
 
+abbrev start : tie.In-loop Inv-loop μ-loop → tie.Start Inv-loop μ-loop
+start t = t .before .before .before .before
+
 -- the square of bit k is dealt
-placed : (c : tie.In-loop Inv-loop μ-loop)
-    → c .before .before .before .before .args .g * c .before .before .before .before .args .n + c .before .loop .k
-    < squareCount (c .before .before .before .before .args .n)
-placed c =
-    let s = c .before .before .before .before in
-    square-index (s .args .n) (s .args .g) (c .before .loop .k) (s .pre .0 .1) (c .loop-test .taken)
+placed : (t : tie.In-loop Inv-loop μ-loop) → start t .args .g * start t .args .n + t .before .loop .k < squareCount (start t .args .n)
+placed t =
+    let s = start t in
+    square-index (s .args .n) (s .args .g) (t .before .loop .k) (s .pre .0 .1) (t .loop-test .taken)
 
 mul-base : tie.Need-mul-base Inv-loop μ-loop
 mul-base c =
@@ -41,60 +38,46 @@ mul-base c =
     omega (arith, mul-le-mul (le-of-lt (s .pre .0 .1)) (le-refl (s .args .n)), small (s .pre .0 .0))
 
 loop-holds : tie.Need-loop-holds Inv-loop μ-loop
-loop-holds c = search needs
+loop-holds c = stored-none
 
 cast-j : tie.Need-cast-j Inv-loop μ-loop
 cast-j c = omega arith
 
 add-j : tie.Need-add-j Inv-loop μ-loop
-add-j c =
-    let s = c .before .before .before .before in
-    omega (arith, placed c, small (s .pre .0 .0))
+add-j c = omega (arith, placed c, small (start c .pre .0 .0))
 
-bit-requires : tie.Need-bit-requires Inv-loop μ-loop
-bit-requires c κs =
-    let s = c .before .before .before .before in
-    omega (arith, small (s .pre .0 .0))
-
-complement-of-requires : tie.Need-complement-of-requires Inv-loop μ-loop
-complement-of-requires c κs =
-    let s = c .before .before .before .before .before in
-    (s .pre .0 .0, omega (arith, c .bit .ensures, bounds (s .pre .0 .0)))
+difference-requires : tie.Need-difference-requires Inv-loop μ-loop
+difference-requires c κs = (start c .pre .0 .0, c .loop-test .taken)
 
 mul-mask : tie.Need-mul-mask Inv-loop μ-loop
-mul-mask c =
-    let s = c .before .before .before .before .before .before in
-    omega (arith, placed (c .before .before), small (s .pre .0 .0))
+mul-mask c = omega (arith, placed (c .before), small (start (c .before) .pre .0 .0))
 
 mul-mask-2 : tie.Need-mul-mask-2 Inv-loop μ-loop
-mul-mask-2 c =
-    let s = c .before .before .before .before .before .before in
-    omega (arith, placed (c .before .before), small (s .pre .0 .0))
+mul-mask-2 c = omega (arith, placed (c .before), small (start (c .before) .pre .0 .0))
 
 shared-slice-read-mask : tie.Need-shared-slice-read-mask Inv-loop μ-loop
 shared-slice-read-mask c =
-    let s = c .before .before .before .before .before .before .before in
-    omega (arith, placed (c .before .before .before), s .pre .1)
+    let t = c .before .before in
+    omega (arith, placed t, start t .pre .1)
 
 mask-requires : tie.Need-mask-requires Inv-loop μ-loop
 mask-requires c κs =
-    let s = c .before .before .before .before .before .before .before in
-    (s .pre .0 .0, c .before .complement-of .ensures .1, s .pre .1 .0 .at _)
+    let d = c .before in
+    let s = start (d .before) in
+    (s .pre .0 .0, d .difference .ensures .1, s .pre .1 .0 .at _)
 
 mul-out : tie.Need-mul-out Inv-loop μ-loop
 mul-out c =
-    let s = c .before .before .before .before .before .before .before .before in
-    omega (arith, placed (c .before .before .before .before), small (s .pre .0 .0))
+    let t = c .before .before .before in
+    omega (arith, placed t, small (start t .pre .0 .0))
 
 slice-write-out : tie.Need-slice-write-out Inv-loop μ-loop
 slice-write-out c =
-    let s = c .before .before .before .before .before .before .before .before in
-    omega (arith, placed (c .before .before .before .before), s .pre .1)
+    let t = c .before .before .before in
+    omega (arith, placed t, start t .pre .1, t .before .loop .inv .long)
 
 add-k : tie.Need-add-k Inv-loop μ-loop
-add-k c =
-    let s = c .before .before .before .before .before .before .before .before in
-    omega (arith, small (s .pre .0 .0))
+add-k c = omega (arith, small (start (c .before .before .before) .pre .0 .0))
 
 loop-less : tie.Need-loop-less Inv-loop μ-loop
 loop-less c = search needs
@@ -102,24 +85,14 @@ loop-less c = search needs
 loop-again : tie.Need-loop-again Inv-loop μ-loop
 loop-again c =
     let d = c .before .before in
-    let l = d .before .before .before in
-    let a = l .before .before .before .args in (
-      omega arith,
-      simp length-set (l .loop .inv .1),
-      rw (c .mask .ensures .0, d .complement-of .ensures .0, d .before .bit .ensures, l .loop .inv .2)
-          (sets-more (a .out .now) (a .g * a .n) (l .loop .k) (word (a .n) (a .side) (a .code) (a .squares .now) (a .g))),
-    )
+    let t = d .before in
+    stored-more (t .before .loop .inv) _ _ (t .loop-test .taken) refl (c .mask .ensures .0 ∙ rw (d .difference .ensures .0))
 
 same-length : tie.Need-same-length Inv-loop μ-loop
 same-length c = search needs
 
 returns : tie.Need-returns Inv-loop μ-loop
-returns c =
-    let l = c .before in
-    let a = l .before .before .before .args in
-    let done : l .loop .k ≡ a .n = omega arith in
-    l .loop .inv .2
-    ∙ ap (λ (k : ℕ). sets (a .out .now) (a .g * a .n) (tabulate k (word (a .n) (a .side) (a .code) (a .squares .now) (a .g)))) done
+returns c = stored-all (c .before .loop .inv) (c .loop-test .left)
 
 pub open-group-spec : {M : Type 1} → statement M
 open-group-spec =
@@ -131,8 +104,7 @@ open-group-spec =
     loop-holds
     cast-j
     add-j
-    bit-requires
-    complement-of-requires
+    difference-requires
     mul-mask
     mul-mask-2
     shared-slice-read-mask

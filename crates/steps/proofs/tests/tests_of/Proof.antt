@@ -2,7 +2,6 @@
 use mathlib.Core.Path.{refl}
 use borrow.Author.Needs.{needs}
 use Rattle.field.specs.Subtraction.{minus}
-use Rattle.shares.specs.Share.{masked}
 use Rattle.steps.proofs.tests.tests_of.Statement.{statement}
 use Rattle.steps.proofs.tests.tests_of.Tie as tie
 
