@@ -1,7 +1,7 @@
 -- Remainders modulo 2^n − 1 without a division.
-use Prim.Native.Nat.{ℕ, zero, suc, _+_, _*_, _/_, _%_, _^_, _<_, _≤_}
+use Prim.Native.Nat.{ℕ, zero, suc, _+_, _-_, _*_, _/_, _%_, _^_, _<_, _≤_}
 use mathlib.Core.Path.{_≡_, refl, sym, ap, _∙_}
-use native.Mathlib.Nat.{add-mul-mod-self-left, mod-eq-of-lt, mod-add-div, mod-lt, div-lt-iff-lt-mul}
+use native.Mathlib.Nat.{add-mul-mod-self-left, mod-eq-of-lt, mod-add-div, mod-lt, div-lt-iff-lt-mul, div-mul-le-self, lt-mul-div-succ, mul-le-mul-left, mul-le-mul-right}
 use native.Mathlib.Omega.{arith}
 use lib.Pow.{pow-pos}
 use Rattle.field.specs.Width.{modulus}
@@ -10,6 +10,38 @@ use Rattle.field.proofs.Widths.{Bounds}
 -- what is below p and a multiple of p away from x is the remainder of x
 pub remainder : {p x r : ℕ} (k : ℕ) → x ≡ r + p * k → r < p → (r ≡ x % p) × (r < p)
 remainder {p} {x} {r} k e l = (sym (ap (λ (y : ℕ). y % p) e ∙ add-mul-mod-self-left r p k ∙ mod-eq-of-lt l), l)
+
+-- a difference that wrapped has its top bit set, and p added to it wraps back
+pub wrapped : {p u v d : ℕ} → p < 2 ^ 31 → v < 2 ^ 32 → d < 2 ^ 32 → u < v + p → v ≤ u + p → (d + v) % 2 ^ 32 ≡ u
+    → let r = (d + d / 2 ^ 31 * p) % 2 ^ 32 in
+    (r ≡ (u + p - v) % p) × (r < p)
+wrapped {p} {u} {v} {d} few lv ld low high same = go (d / 2 ^ 31) refl
+  where
+    go : (q : ℕ) → d / 2 ^ 31 ≡ q → let r = (d + d / 2 ^ 31 * p) % 2 ^ 32 in (r ≡ (u + p - v) % p) × (r < p)
+    go zero e = rw e (remainder 1 (omega arith) (omega arith))
+    go (suc zero) e = rw e (remainder 0 (omega arith) (omega arith))
+    go (suc (suc q)) e = absurd (omega (arith, e))
+
+-- the quotient of a word by p, from that of 2^32: at most one too small
+pub record Quotient (p w q : ℕ) : Type 0 where
+  pub most : q * p ≤ w
+  pub near : w < q * p + 2 * p
+
+pub quotient : {p w : ℕ} → 0 < p → w < 2 ^ 32 → Quotient p w (w * (2 ^ 32 / p) / 2 ^ 32)
+quotient {p} {w} pos few =
+    let c = 2 ^ 32 / p in
+    let q = w * c / 2 ^ 32 in
+    let c-most : c * p ≤ 2 ^ 32 = div-mul-le-self (2 ^ 32) p in
+    let c-near : 2 ^ 32 < p * (c + 1) = lt-mul-div-succ (2 ^ 32) pos in
+    let q-most : q * 2 ^ 32 ≤ w * c = div-mul-le-self (w * c) (2 ^ 32) in
+    let q-near : w * c < 2 ^ 32 * (q + 1) = lt-mul-div-succ (w * c) (pow-pos 32) in
+    let c-least : 2 ^ 32 + 1 ≤ p * (c + 1) = omega arith in
+    let q-least : w * c + 1 ≤ 2 ^ 32 * (q + 1) = omega arith in
+    let word : w ≤ 2 ^ 32 - 1 = omega arith in
+    record {
+      most = omega (arith, mul-le-mul-left w c-most, mul-le-mul-right p q-most);
+      near = omega (arith, mul-le-mul-left w c-least, mul-le-mul-right p q-least, mul-le-mul-right p word);
+    }
 
 module _ (n : ℕ) (b : Bounds n) where
   -- 2^n is 1 modulo p: the part above bit n may be added to the part below it
@@ -34,19 +66,3 @@ module _ (n : ℕ) (b : Bounds n) where
 
   pub twice : (x : ℕ) → x < 5 * modulus n → x % 2 ^ n + x / 2 ^ n < modulus n + 5
   twice x l = omega (arith, below x, above x 5 (omega arith))
-
-  -- one fold of x + 1, for x below 2p: what is left is 1 to p
-  pub record Single (x : ℕ) : Type 0 where
-    pub least : 1 ≤ (x + 1) % 2 ^ n + (x + 1) / 2 ^ n
-    pub most : (x + 1) % 2 ^ n + (x + 1) / 2 ^ n ≤ modulus n
-
-  pub single : (x : ℕ) → x < 2 * modulus n → Single x
-  single x l = go ((x + 1) / 2 ^ n) refl
-    where
-      few : (x + 1) / 2 ^ n < 2
-      few = above (x + 1) 2 (omega (arith, b .power))
-
-      go : (q : ℕ) → (x + 1) / 2 ^ n ≡ q → Single x
-      go zero e = record { least = omega (arith, rw e at (fold-same (x + 1)), e); most = omega (arith, below (x + 1), e) }
-      go (suc zero) e = record { least = omega (arith, e); most = omega (arith, rw e at (fold-same (x + 1)), e) }
-      go (suc (suc q)) e = absurd (omega (arith, few, e))

@@ -1,7 +1,7 @@
 // Arithmetic modulo p = 2^n - 1 on words, for the widths n that document 01 lists.
 ghost use mathlib.Core.Path.{_≡_};
 ghost use mathlib.Core.Bool.{true, _&&_};
-ghost use Prim.Native.Nat.{_+_, _-_, _*_, _/_, _%_, _^_, _<_};
+ghost use Prim.Native.Nat.{_+_, _-_, _*_, _/_, _%_, _^_, _<_, _≤_};
 ghost use lib.Dec.{ltb};
 ghost use lib.ListN.{length, getD};
 ghost use Rattle.lists.specs.Every.{every};
@@ -64,22 +64,41 @@ fn folded(n: u32, x: u64) -> u64
     (x & p) + (x >> n)
 }
 
-// A number below 2p, reduced without a comparison, so that the time does not tell whether p was taken off.
+// u - v modulo p, where it is from -p to p - 1: the sign brings p back by a product and not by a branch, so that the time does not tell it.
+fn difference(n: u32, u: u32, v: u32) -> u32
+    requires { ⌜ (listed n ≡ true) × (u < v + modulus n) × (v ≤ u + modulus n) ⌝ }
+    ensures { λ r. ⌜ r ≡ (u + modulus n - v) % modulus n ⌝ }
+    ensures below { λ r. ⌜ r < modulus n ⌝ }
+{
+    let d = std::num::wrapping_sub_u32(u, v);
+    std::num::wrapping_add_u32(d, (d >> 31) * modulus_of(n))
+}
+
+// A number below 2p, reduced.
 pub fn reduce_once(n: u32, x: u64) -> u32
     requires { ⌜ (listed n ≡ true) × (x < 2 * modulus n) ⌝ }
     ensures { λ r. ⌜ r ≡ x % modulus n ⌝ }
     ensures below { λ r. ⌜ r < modulus n ⌝ }
 {
-    (folded(n, x + 1) - 1) as u32
+    difference(n, x as u32, modulus_of(n))
 }
 
-// A sum of up to four products of words below p, reduced without a division.
+// A sum of up to four products of words below p, brought below 2p. The last subtraction can wait until several are summed.
+pub fn fold_wide(n: u32, x: u64) -> u64
+    requires { ⌜ (listed n ≡ true) × (x < 4 * (modulus n * modulus n)) ⌝ }
+    ensures { λ r. ⌜ r % modulus n ≡ x % modulus n ⌝ }
+    ensures below { λ r. ⌜ r < 2 * modulus n ⌝ }
+{
+    folded(n, folded(n, x))
+}
+
+// The same, reduced without a division.
 pub fn reduce_wide(n: u32, x: u64) -> u32
     requires { ⌜ (listed n ≡ true) × (x < 4 * (modulus n * modulus n)) ⌝ }
     ensures { λ r. ⌜ r ≡ x % modulus n ⌝ }
     ensures below { λ r. ⌜ r < modulus n ⌝ }
 {
-    reduce_once(n, folded(n, folded(n, x)))
+    reduce_once(n, fold_wide(n, x))
 }
 
 pub fn add(n: u32, a: u32, b: u32) -> u32
@@ -95,7 +114,7 @@ pub fn sub(n: u32, a: u32, b: u32) -> u32
     ensures { λ r. ⌜ r ≡ minus n a b ⌝ }
     ensures below { λ r. ⌜ r < modulus n ⌝ }
 {
-    reduce_once(n, a as u64 + (modulus_of(n) - b) as u64)
+    difference(n, a, b)
 }
 
 // The whole product of two words.
@@ -113,11 +132,14 @@ pub fn mul(n: u32, a: u32, b: u32) -> u32
     reduce_wide(n, wide_mul(a, b))
 }
 
-// Any word, reduced. One division, whatever the word, since a word that is read back may be secret.
+// Any word, reduced. A word that is read back may be secret, and a division's time depends on its operands: here both are public, and the
+// quotient is found by a product, at most one too small.
 pub fn reduce(n: u32, w: u32) -> u32
     requires { ⌜ listed n ≡ true ⌝ }
     ensures { λ r. ⌜ r ≡ w % modulus n ⌝ }
     ensures below { λ r. ⌜ r < modulus n ⌝ }
 {
-    w % modulus_of(n)
+    let p = modulus_of(n) as u64;
+    let turns = (w as u64 * (4294967296 / p)) >> 32;
+    reduce_once(n, w as u64 - turns * p)
 }

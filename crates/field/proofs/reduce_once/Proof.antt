@@ -1,38 +1,30 @@
--- `field::reduce_once` meets its contract: one fold of x + 1 leaves 1 to p.
-use Prim.Native.Nat.{_+_, _/_, _^_}
+-- `field::reduce_once` meets its contract: x − p is from −p to p − 1.
+use Prim.Native.Nat.{ℕ, _+_, _-_, _%_}
+use mathlib.Core.Path.{_≡_, ap, _∙_}
 use native.Mathlib.Omega.{arith}
 use borrow.Author.Needs.{needs}
+use Rattle.field.specs.Width.{modulus}
 use Rattle.field.proofs.Widths.{bounds}
-use Rattle.field.proofs.Remainders.{remainder, fold-same, single}
 use Rattle.field.proofs.reduce_once.Statement.{statement}
 use Rattle.field.proofs.reduce_once.Tie as tie
 
-add-folded : tie.Need-add-folded
-add-folded c = omega (arith, bounds (c .pre .0))
+cast-difference : tie.Need-cast-difference
+cast-difference c = omega (arith, bounds (c .pre .0))
 
-folded-requires : tie.Need-folded-requires
-folded-requires c κs = search needs
+modulus-of-requires : tie.Need-modulus-of-requires
+modulus-of-requires c κs = search needs
 
--- the equation, before what the difference asks: a wrong reduction fails here
+difference-requires : tie.Need-difference-requires
+difference-requires c κs = search needs
+
 returns : tie.Need-returns
 returns c =
-    let s = c .before in
+    let s = c .before .before in
     let n = s .args .n in
-    let x = s .args .x in
-    let b = bounds {n = n} (s .pre .0) in
-    let one = single n b x (s .pre .1) in
-    remainder ((x + 1) / 2 ^ n) (omega (arith, fold-same n b (x + 1), one .least, c .folded .ensures)) (omega (arith, one .most, one .least, c .folded .ensures))
-
-sub-result : tie.Need-sub-result
-sub-result c =
-    let s = c .before in
-    omega (arith, single (s .args .n) (bounds (s .pre .0)) (s .args .x) (s .pre .1) .least, c .folded .ensures)
-
-cast-result : tie.Need-cast-result
-cast-result c =
-    let s = c .before in
-    let b = bounds {n = s .args .n} (s .pre .0) in
-    omega (arith, single (s .args .n) b (s .args .x) (s .pre .1) .most, c .folded .ensures, b)
+    let r = c .difference .ensures in
+    let back : s .args .x + modulus n - c .before .modulus-of .result ≡ s .args .x = omega (arith, c .before .modulus-of .ensures) in
+    (r .0 ∙ ap (λ (y : ℕ). y % modulus n) back, r .1)
 
 pub reduce-once-spec : {M : Type 1} → statement M
-reduce-once-spec = tie.close (tie.spec add-folded folded-requires sub-result cast-result returns)
+reduce-once-spec =
+    tie.close (tie.spec cast-difference modulus-of-requires difference-requires returns)
