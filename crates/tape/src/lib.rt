@@ -19,7 +19,7 @@ const SECTIONS: usize = 3;
 const TRAILER: usize = 7;
 
 // The words of a block that is looked at as one.
-const BLOCK: usize = 16;
+const BLOCK: usize = 128;
 
 // The words of a section.
 pub fn section_words(n: u32, which: usize) -> usize
@@ -96,19 +96,33 @@ fn trailer_fits(tape: &[u32], n: u32, pair: u32, side: u32, number: u32) -> bool
     true
 }
 
-// How many words from i on can be passed over: a block that is all below p, else one word, or none if that is p or more.
-fn passable(tape: &[u32], n: u32, i: usize, end: usize) -> usize
-    requires { ⌜ (listed n ≡ true) × (i < end) × (end ≤ length (now tape)) ⌝ }
-    ensures within { λ r. ⌜ i + r ≤ end ⌝ }
-    ensures below { λ r. ⌜ ((k : ℕ) → k < r → getD (now (tape .entry)) (i + k) 0 < modulus n) ⌝ }
-    ensures stopped { λ r. ⌜ (r ≡ 0 → modulus n ≤ getD (now (tape .entry)) i 0) ⌝ }
+// Where a block that begins at i ends: blocks lie within a section.
+fn block_end(i: usize, end: usize) -> usize
+    requires { ⌜ i < end ⌝ }
+    ensures { λ r. ⌜ (i < r) × (r ≤ end) ⌝ }
 {
-    if BLOCK <= end - i {
-        if field::all_in_range(n, &tape[i..i + BLOCK]) {
-            return BLOCK;
-        }
+    if end - i <= BLOCK {
+        return end;
     }
-    if field::in_range(n, tape[i]) { 1 } else { 0 }
+    i + BLOCK
+}
+
+// From a place of a section on, where the first block stands that has a word of p or more: the section's end, if there is none. A block is
+// looked at as one, without an exit, so that several of its words are read at a time.
+fn passed(tape: &[u32], n: u32, from: usize, end: usize) -> usize
+    requires { ⌜ (listed n ≡ true) × (from ≤ end) × (end ≤ length (now tape)) ⌝ }
+    ensures within { λ r. ⌜ (from ≤ r) × (r ≤ end) ⌝ }
+    ensures below { λ r. ⌜ ((k : ℕ) → from ≤ k → k < r → getD (now (tape .entry)) k 0 < modulus n) ⌝ }
+{
+    let mut i = from;
+    while i < end {
+        let next = block_end(i, end);
+        if !field::all_in_range(n, &tape[i..next]) {
+            return i;
+        }
+        i = next;
+    }
+    i
 }
 
 // Whether every word of the body is below p. Reading ends at the first that is not, but for the rest of its block.
@@ -120,12 +134,12 @@ fn body_in_range(tape: &[u32], n: u32) -> bool
     let mut i = 0;
     'sections: while which < SECTIONS {
         let end = i + section_words(n, which);
+        i = passed(tape, n, i, end);
         while i < end {
-            let step = passable(tape, n, i, end);
-            if step == 0 {
+            if !field::in_range(n, tape[i]) {
                 break 'sections;
             }
-            i += step;
+            i += 1;
         }
         which += 1;
     }
