@@ -1,7 +1,7 @@
 // Additive secret shares of two boxes: opening, and the shares of squares and products by dealt squares and Beaver triples.
 ghost use mathlib.Core.Path.{_≡_};
 ghost use mathlib.Core.Bool.{true};
-ghost use Prim.Native.Nat.{_<_, _≤_};
+ghost use Prim.Native.Nat.{_*_, _%_, _<_, _≤_};
 ghost use Rattle.field.specs.Width.{listed, modulus};
 ghost use Rattle.shares.specs.Side.{isSide};
 ghost use Rattle.shares.specs.Share.{constantShare, masked, opened, squareShare, productShare};
@@ -39,14 +39,14 @@ pub fn open(n: u32, sent: u32, heard: u32) -> u32
     field::add(n, sent, heard)
 }
 
-// The share of a square. One reduction for the whole sum.
-pub fn square(n: u32, side: u32, e: u32, a: u32, q: u32) -> u32
+// The share of a square, not reduced yet: the squares of a level are summed first.
+pub fn square(n: u32, side: u32, e: u32, a: u32, q: u32) -> u64
     requires { ⌜ (listed n ≡ true) × (e < modulus n) × (a < modulus n) × (q < modulus n) ⌝ }
-    ensures { λ r. ⌜ r ≡ squareShare n side e a q ⌝ }
-    ensures below { λ r. ⌜ r < modulus n ⌝ }
+    ensures { λ r. ⌜ r % modulus n ≡ squareShare n side e a q ⌝ }
+    ensures below { λ r. ⌜ r < 4 * (modulus n * modulus n) ⌝ }
 {
     let own = (q as u64) + 2 * field::wide_mul(e, a);
-    field::reduce_wide(n, own + field::wide_mul(e, constant(side, e)))
+    own + field::wide_mul(e, constant(side, e))
 }
 
 // The share of a product. One reduction for the whole sum.

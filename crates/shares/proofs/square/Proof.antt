@@ -1,5 +1,5 @@
--- `shares::square` meets its contract: the sum of the three products is below 4p², so one reduction serves.
-use mathlib.Core.Path.{_≡_, ap, _∙_}
+-- `shares::square` meets its contract: the sum of the three products is below 4p².
+use mathlib.Core.Path.{_≡_, refl, ap}
 use Prim.Native.Nat.{ℕ, _+_, _*_, _%_, _<_}
 use native.Mathlib.Omega.{arith}
 use borrow.Author.Needs.{needs}
@@ -29,7 +29,7 @@ constant-requires c κs = search needs
 wide-mul-requires-2 : tie.Need-wide-mul-requires-2
 wide-mul-requires-2 c κs = search needs
 
--- the whole sum, before it is reduced
+-- the whole sum
 total : (c : tie.After-wide-mul2)
     → let s = c .before .before .before in
     s .args .q + 2 * (c .before .before .wide-mul .result) + c .wide-mul2 .result < 4 * (modulus (s .args .n) * modulus (s .args .n))
@@ -38,23 +38,18 @@ total c =
     let k : c .before .constant .result < modulus (s .args .n) = omega arith in
     omega (arith, c .before .before .wide-mul .ensures, c .wide-mul2 .ensures, product-below (s .pre .1) (s .pre .2), product-below (s .pre .1) k)
 
-add-reduce-wide : tie.Need-add-reduce-wide
-add-reduce-wide c = omega (arith, bounds (c .before .before .before .pre .0), total c)
-
-reduce-wide-requires : tie.Need-reduce-wide-requires
-reduce-wide-requires c κs = (c .before .before .before .pre .0, total c)
-
+-- the equation, before what the sum asks: a wrong formula fails here
 returns : tie.Need-returns
 unfolding squareShare
 returns c =
-    let s = c .before .before .before .before in
-    let a = s .args in
-    let r = c .reduce-wide .ensures in (
-      r .0
-          ∙ ap (λ (x : ℕ). x % modulus (a .n))
-          (rw (c .before .before .before .wide-mul .ensures, c .before .wide-mul2 .ensures, c .before .before .constant .ensures .0, constant-times (a .side) (a .e) (a .e))),
-      r .1,
+    let a = c .before .before .before .args in (
+      ap (λ (x : ℕ). x % modulus (a .n))
+          (rw (c .before .before .wide-mul .ensures, c .wide-mul2 .ensures, c .before .constant .ensures .0, constant-times (a .side) (a .e) (a .e)) refl),
+      total c,
     )
+
+add-result : tie.Need-add-result
+add-result c = omega (arith, bounds (c .before .before .before .pre .0), total c)
 
 pub square-spec : {M : Type 1} → statement M
 square-spec =
@@ -65,6 +60,5 @@ square-spec =
     add-own
     constant-requires
     wide-mul-requires-2
-    add-reduce-wide
-    reduce-wide-requires
+    add-result
     returns)
