@@ -266,7 +266,7 @@ fn row_of(n: u32) -> usize
 // g_0 to g_n of a width, filled up with 0: a row by value, to be fetched once and not once a coefficient.
 pub fn coefficients_of(n: u32) -> [u32; 32]
     requires { ⌜ listed n ≡ true ⌝ }
-    ensures { λ r. ⌜ (length r ≡ 32) × ((k : ℕ) → k ≤ n → getD r k 0 ≡ coefficient n k) ⌝ }
+    ensures { λ r. ⌜ ((k : ℕ) → k ≤ n → getD r k 0 ≡ coefficient n k) × (length r ≡ 32) ⌝ }
 {
     let row = row_of(n);
     COEFFICIENTS[row]

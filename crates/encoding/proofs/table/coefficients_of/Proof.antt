@@ -19,7 +19,7 @@ returns : tie.Need-returns
 returns c =
     let s = c .before .before in
     let e = c .before .row-of .ensures in
-    (rw e (row-length (s .args .n) (s .pre)), λ k most. rw e (entry-right (s .args .n) k (s .pre) most))
+    (λ k most. rw e (entry-right (s .args .n) k (s .pre) most), rw e (row-length (s .args .n) (s .pre)))
 
 pub coefficients-of-spec : {M : Type 1} → statement M
 coefficients-of-spec =
