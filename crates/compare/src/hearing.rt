@@ -91,10 +91,8 @@ fn hear_levels(n: u32, side: u32, tape: &[u32], work: &mut [u32], incoming: &[u3
     ensures { λ _. ⌜ ((x y : ℕ) → now (work .exit) ≡ afterHearing (party n side x y (now (tape .entry))) (now (work .entry)) 3 (now (incoming .entry))) ⌝ }
 {
     let powers = tape::section_of(tape, n, tape::POWERS);
-    let a = steps::levels::wrap_of(n, side, powers, &*work, incoming, 0);
-    let b = steps::levels::wrap_of(n, side, powers, &*work, incoming, 1);
-    let c = steps::levels::wrap_of(n, side, powers, &*work, incoming, 2);
-    keep(work, steps::places::wrap_slot(n, 0), [a, b, c]);
+    let wraps = steps::levels::wraps_of(n, side, powers, &*work, incoming);
+    keep(work, steps::places::wrap_slot(n, 0), wraps);
 }
 
 // Round 4 is heard, with the wraps known: the shares of the half tests.

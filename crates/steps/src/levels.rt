@@ -17,12 +17,21 @@ pub fn send_levels(n: u32, work: &[u32], out: &mut [u32])
     requires { ⌜ (listed n ≡ true) × (groupCount n ≤ length (now work)) × (groupCount n ≤ length (now out)) ⌝ }
     ensures { λ _. ⌜ now (out .exit) ≡ sets (now (out .entry)) 0 (tabulate (groupCount n) (held n (now (work .entry)))) ⌝ }
 {
-    let m = n as usize;
+    let groups = crate::places::group_count(n);
     let mut g: usize = 0;
-    while g < 3 * m {
+    while g < groups {
         out[g] = field::reduce(n, work[g]);
         g += 1;
     }
+}
+
+// One step of Horner's rule: total * d + g * power, brought below 2p.
+fn horner(n: u32, total: u64, d: u32, g: u32, power: u32) -> u64
+    requires { ⌜ (listed n ≡ true) × (total < 2 * modulus n) × (d < modulus n) × (g < modulus n) × (power < modulus n) ⌝ }
+    ensures { λ r. ⌜ r % modulus n ≡ (total * d + g * power) % modulus n ⌝ }
+    ensures below { λ r. ⌜ r < 2 * modulus n ⌝ }
+{
+    field::fold_wide(n, total * d as u64 + field::wide_mul(g, power))
 }
 
 // The share of P(A) of group g, from the opened d = A * w, by Horner's rule in d. `row` has the coefficients of the width.
@@ -35,40 +44,54 @@ fn level_match(n: u32, side: u32, d: u32, row: &[u32], powers: &[u32], g: usize)
 {
     let m = n as usize;
     let base = g * (m + 1);
-    let mut total: u32 = 0;
+    let mut total: u64 = 0;
     let mut k: usize = m;
     while 0 < k {
-        let sum = field::wide_mul(row[k], powers[base + k]) + total as u64;
-        total = field::mul(n, field::reduce_wide(n, sum), d);
+        total = horner(n, total, d, row[k], powers[base + k]);
         k -= 1;
     }
-    field::add(n, total, shares::constant(side, row[0]))
+    field::reduce_once(n, horner(n, total, d, shares::constant(side, row[0]), 1))
 }
 
 // The share of one test's wrap: the sum over its levels.
-pub fn wrap_of(
+fn wrap_of(
     n: u32,
     side: u32,
+    row: &[u32],
     powers: &[u32],
     work: &[u32],
     incoming: &[u32],
     test: usize,
 ) -> u32
     requires { ⌜ (listed n ≡ true) × (test < 3) × (groupCount n ≤ length (now work)) ⌝ }
+    requires { ⌜ (length (now row) ≡ 32) × ((k : ℕ) → k ≤ n → getD (now row) k 0 ≡ coefficient n k) ⌝ }
     requires { ⌜ Below (modulus n) (now powers) × (groupCount n * (n + 1) ≤ length (now powers)) ⌝ }
     requires { ⌜ FromLine n (groupCount n) (now incoming) ⌝ }
     ensures { λ r. ⌜ r ≡ wrapShare n side (now (powers .entry)) (now (work .entry)) (now (incoming .entry)) test ⌝ }
     ensures below { λ r. ⌜ r < modulus n ⌝ }
 {
     let m = n as usize;
-    let row = encoding::table::coefficients_of(n);
     let mut total: u32 = 0;
     let mut i: usize = 0;
     while i < m {
         let g = test * m + i;
         let d = shares::open(n, field::reduce(n, work[g]), incoming[g]);
-        total = field::add(n, total, level_match(n, side, d, &row, powers, g));
+        total = field::add(n, total, level_match(n, side, d, row, powers, g));
         i += 1;
     }
     total
+}
+
+// The shares of the three wraps. The row of coefficients is fetched once for them all.
+pub fn wraps_of(n: u32, side: u32, powers: &[u32], work: &[u32], incoming: &[u32]) -> [u32; 3]
+    requires { ⌜ (listed n ≡ true) × (groupCount n ≤ length (now work)) ⌝ }
+    requires { ⌜ Below (modulus n) (now powers) × (groupCount n * (n + 1) ≤ length (now powers)) ⌝ }
+    requires { ⌜ FromLine n (groupCount n) (now incoming) ⌝ }
+    ensures { λ r. ⌜ r ≡ tabulate 3 (wrapShare n side (now (powers .entry)) (now (work .entry)) (now (incoming .entry))) ⌝ }
+{
+    let row = encoding::table::coefficients_of(n);
+    let a = wrap_of(n, side, &row, powers, work, incoming, 0);
+    let b = wrap_of(n, side, &row, powers, work, incoming, 1);
+    let c = wrap_of(n, side, &row, powers, work, incoming, 2);
+    [a, b, c]
 }

@@ -13,23 +13,42 @@ ghost use Rattle.encoding.specs.Codes.{levelCode};
 ghost use Rattle.protocol.specs.Words.{Below, FromLine};
 ghost use Rattle.protocol.specs.Squares.{codeDifference, bitDifference, squareOpening, squareClosing, matchCount};
 
+// The test of group g. Groups stand in the order test, level; two comparisons take less time than a division.
+fn test_of(n: u32, g: usize) -> usize
+    requires { ⌜ (listed n ≡ true) × (g < groupCount n) ⌝ }
+    ensures { λ r. ⌜ r ≡ g / n ⌝ }
+{
+    let m = n as usize;
+    if g < m {
+        return 0;
+    }
+    if g < 2 * m {
+        return 1;
+    }
+    2
+}
+
 // The code of group g: level g % n of test g / n.
 fn code_of(n: u32, side: u32, tests: Tests, g: usize) -> u32
     requires { ⌜ (listed n ≡ true) × Below (modulus n) (tests .doubled) × (g < groupCount n) ⌝ }
     ensures { λ r. ⌜ r ≡ levelCode n side (getD (tests .doubled) (g / n) 0) (g % n) ⌝ }
 {
-    let m = n as usize;
-    let t = g / m;
-    encoding::codes::level_code(n, side, tests.doubled[t], (g % m) as u32)
+    let t = test_of(n, g);
+    let level = g - t * (n as usize);
+    encoding::codes::level_code(n, side, tests.doubled[t], level as u32)
 }
 
-// This box's share of the difference of its code's bit k from the other box's.
+// This box's share of the difference of its code's bit k from the other box's: 1 - bit at box 1, -bit at box 2.
 fn difference(n: u32, side: u32, code: u32, k: u32) -> u32
     requires { ⌜ (listed n ≡ true) × (k < n) ⌝ }
     ensures { λ r. ⌜ r ≡ codeDifference n side code k ⌝ }
     ensures below { λ r. ⌜ r < modulus n ⌝ }
 {
-    crate::tests::complement_of(n, side, encoding::codes::bit(code, k))
+    let bit = encoding::codes::bit(code, k);
+    if side == 1 {
+        return 1 - bit;
+    }
+    bit * (field::modulus_of(n) - 1)
 }
 
 // The n words that open the bit differences of group g, whose code is given.
@@ -66,19 +85,19 @@ pub fn open_squares(n: u32, side: u32, tests: Tests, squares: &[u32], out: &mut 
     }
 }
 
-// The share of the square of v by square j, the other box's word standing at j of incoming.
-fn close_square(n: u32, side: u32, v: u32, squares: &[u32], incoming: &[u32], j: usize) -> u32
+// The share of the square of v by square j, below 2p, the other box's word standing at j of incoming.
+fn close_square(n: u32, side: u32, v: u32, squares: &[u32], incoming: &[u32], j: usize) -> u64
     requires { ⌜ (listed n ≡ true) × (v < modulus n) × Below (modulus n) (now squares) × (j * 2 + 1 < length (now squares)) ⌝ }
     requires { ⌜ FromLine n (j + 1) (now incoming) ⌝ }
-    ensures { λ r. ⌜ r ≡ squareClosing n side v (now (squares .entry)) (now (incoming .entry)) j ⌝ }
-    ensures below { λ r. ⌜ r < modulus n ⌝ }
+    ensures { λ r. ⌜ r % modulus n ≡ squareClosing n side v (now (squares .entry)) (now (incoming .entry)) j ⌝ }
+    ensures below { λ r. ⌜ r < 2 * modulus n ⌝ }
 {
     let a = squares[j * 2];
     let e = shares::open(n, shares::mask(n, v, a), incoming[j]);
-    shares::square(n, side, e, a, squares[j * 2 + 1])
+    field::fold_wide(n, shares::square(n, side, e, a, squares[j * 2 + 1]))
 }
 
-// The share of 1 + the n squares of group g, whose code is given.
+// The share of 1 + the n squares of group g, whose code is given: summed, and reduced once.
 fn close_group(n: u32, side: u32, code: u32, squares: &[u32], g: usize, incoming: &[u32]) -> u32
     requires { ⌜ (listed n ≡ true) × (g < groupCount n) ⌝ }
     requires { ⌜ Below (modulus n) (now squares) × (squareCount n * 2 ≤ length (now squares)) × FromLine n (squareCount n) (now incoming) ⌝ }
@@ -89,15 +108,14 @@ fn close_group(n: u32, side: u32, code: u32, squares: &[u32], g: usize, incoming
     ensures below { λ r. ⌜ r < modulus n ⌝ }
 {
     let base = g * (n as usize);
-    let mut total = shares::constant(side, 1);
+    let mut total = shares::constant(side, 1) as u64;
     let mut k: u32 = 0;
     while k < n {
         let v = difference(n, side, code, k);
-        let square = close_square(n, side, v, squares, incoming, base + k as usize);
-        total = field::add(n, total, square);
+        total += close_square(n, side, v, squares, incoming, base + k as usize);
         k += 1;
     }
-    total
+    field::reduce_wide(n, total)
 }
 
 // The counts of all groups, at the front of work.

@@ -35,7 +35,7 @@ pub fn complement_of(n: u32, side: u32, v: u32) -> u32
     ensures { λ r. ⌜ r ≡ complement n side v ⌝ }
     ensures below { λ r. ⌜ r < modulus n ⌝ }
 {
-    shares::mask(n, shares::constant(side, 1), v)
+    field::sub(n, shares::constant(side, 1), v)
 }
 
 // A share of u + v - 2uv, from the shares of u + v and of uv.
@@ -44,5 +44,5 @@ pub fn exclusive_of(n: u32, total: u32, product: u32) -> u32
     ensures { λ r. ⌜ r ≡ exclusive n total product ⌝ }
     ensures below { λ r. ⌜ r < modulus n ⌝ }
 {
-    shares::mask(n, total, field::add(n, product, product))
+    field::sub(n, total, field::add(n, product, product))
 }

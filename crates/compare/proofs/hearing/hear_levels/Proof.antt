@@ -15,7 +15,7 @@ use Rattle.compare.proofs.hearing.hear_levels.Tie as tie
 abbrev start : tie.After-section-of → tie.Start
 start p = p .before .before .before .before
 
--- what wrap_of wants of the section
+-- what wraps_of wants of the section
 powers : (p : tie.After-section-of)
     → Below (modulus (start p .args .n)) (p .section-of .result .now)
     × (groupCount (start p .args .n) * (start p .args .n + 1) ≤ length (p .section-of .result .now))
@@ -26,26 +26,12 @@ powers p =
 section-of-requires : tie.Need-section-of-requires
 section-of-requires c κs = search needs
 
-wrap-of-requires : tie.Need-wrap-of-requires
+wraps-of-requires : tie.Need-wraps-of-requires
 unfolding roundWords
-wrap-of-requires c κs =
+wraps-of-requires c κs =
     let p = c .before in
     let s = start p in
-    ((s .pre .0 .width, omega arith, omega (arith, s .pre .1)), (powers p, s .pre .2))
-
-wrap-of-requires-2 : tie.Need-wrap-of-requires-2
-unfolding roundWords
-wrap-of-requires-2 c κs =
-    let p = c .before .before .before in
-    let s = start p in
-    ((s .pre .0 .width, omega arith, omega (arith, s .pre .1)), (powers p, s .pre .2))
-
-wrap-of-requires-3 : tie.Need-wrap-of-requires-3
-unfolding roundWords
-wrap-of-requires-3 c κs =
-    let p = c .before .before .before .before .before in
-    let s = start p in
-    ((s .pre .0 .width, omega arith, omega (arith, s .pre .1)), (powers p, s .pre .2))
+    ((s .pre .0 .width, omega (arith, s .pre .1)), (powers p, s .pre .2))
 
 wrap-slot-requires : tie.Need-wrap-slot-requires
 wrap-slot-requires c κs = search needs
@@ -61,27 +47,15 @@ unfolding afterHearing
 returns c =
     let k = c .before .before in
     let at = k .before in
-    let w3 = at .before .before in
-    let w2 = w3 .before .before in
-    let w1 = w2 .before .before in
-    λ x y.
-    k .keep .ensures
-    ∙ rw (
-      at .wrap-slot .ensures,
-      w3 .wrap-of3 .ensures .0,
-      w2 .wrap-of2 .ensures .0,
-      w1 .wrap-of .ensures .0,
-      w1 .before .before .section-of .ensures,
-    )
+    let w = at .before .before in
+    λ x y. k .keep .ensures ∙ rw (at .wrap-slot .ensures, w .wraps-of .ensures, w .before .before .section-of .ensures)
 
 pub hear-levels-spec : {M : Type 1} → statement M
 hear-levels-spec =
     tie.close
     (tie.spec
     section-of-requires
-    wrap-of-requires
-    wrap-of-requires-2
-    wrap-of-requires-3
+    wraps-of-requires
     wrap-slot-requires
     keep-requires
     same-length

@@ -1,7 +1,7 @@
 -- `steps::levels::send_levels` meets its contract. The loop's invariant: the words of the groups passed stand in their places.
 use borrow.Author.Needs.{needs}
 use mathlib.Core.Path.{sym}
-use Prim.Native.Nat.{_-_, _*_}
+use Prim.Native.Nat.{_-_}
 use native.Mathlib.Nat.{zero-add}
 use Rattle.lists.proofs.Stores.{Stored, stored-none, stored-more, stored-all}
 use Rattle.protocol.specs.Work.{held}
@@ -9,16 +9,16 @@ use Rattle.steps.proofs.levels.send_levels.Statement.{statement}
 use Rattle.steps.proofs.levels.send_levels.Tie as tie
 
 abbrev Inv-loop : tie.InvT-loop
-Inv-loop n work out₀ m g₀ out g = Stored out₀ 0 (3 * n) (held n work) out g
+Inv-loop n work out₀ groups g₀ out g = Stored out₀ 0 groups (held n work) out g
 
 abbrev μ-loop : tie.MeasureT-loop
-μ-loop n work out₀ m g₀ out g = 3 * n - g
+μ-loop n work out₀ groups g₀ out g = groups - g
+
+group-count-requires : tie.Need-group-count-requires Inv-loop μ-loop
+group-count-requires c κs = search needs
 
 loop-holds : tie.Need-loop-holds Inv-loop μ-loop
 loop-holds c = stored-none
-
-mul-loop : tie.Need-mul-loop Inv-loop μ-loop
-mul-loop c = search needs
 
 mul-reduce : tie.Need-mul-reduce Inv-loop μ-loop
 mul-reduce c = search needs
@@ -51,7 +51,7 @@ same-length : tie.Need-same-length Inv-loop μ-loop
 same-length c = search needs
 
 returns : tie.Need-returns Inv-loop μ-loop
-returns c = stored-all (c .before .loop .inv) (c .loop-test .left)
+returns c = rw (← c .before .before .group-count .ensures) (stored-all (c .before .loop .inv) (c .loop-test .left))
 
 pub send-levels-spec : {M : Type 1} → statement M
 send-levels-spec =
@@ -59,8 +59,8 @@ send-levels-spec =
     (tie.spec
     Inv-loop
     μ-loop
+    group-count-requires
     loop-holds
-    mul-loop
     mul-reduce
     shared-slice-read-reduce
     reduce-requires

@@ -25,11 +25,11 @@ abbrev level : ℕ → ℕ → List ℕ → List ℕ → List ℕ → ℕ → �
 level n side powers work incoming test i = levelMatch n side (levelOpened n work incoming (test * n + i)) powers (test * n + i)
 
 abbrev Inv-loop : tie.InvT-loop
-Inv-loop n side powers work incoming test m row total₀ i₀ total i =
+Inv-loop n side row powers work incoming test m total₀ i₀ total i =
     (i ≤ n) × (total < modulus n) × Cong (modulus n) total (sum i (level n side powers work incoming test))
 
 abbrev μ-loop : tie.MeasureT-loop
-μ-loop n side powers work incoming test m row total₀ i₀ total i = n - i
+μ-loop n side row powers work incoming test m total₀ i₀ total i = n - i
 
 abbrev start : tie.In-loop Inv-loop μ-loop → tie.Start Inv-loop μ-loop
 start t = t .before .before .before .before .before .before
@@ -37,9 +37,6 @@ start t = t .before .before .before .before .before .before
 -- the group of a turn
 inside : (t : tie.In-loop Inv-loop μ-loop) → start t .args .test * start t .args .n + t .before .loop .i < groupCount (start t .args .n)
 inside t = group-index (start t .args .n) (start t .args .test) (t .before .loop .i) (start t .pre .0 .1) (t .loop-test .taken)
-
-coefficients-of-requires : tie.Need-coefficients-of-requires Inv-loop μ-loop
-coefficients-of-requires c κs = search needs
 
 loop-holds : tie.Need-loop-holds Inv-loop μ-loop
 loop-holds c = (omega arith, omega (arith, bounds (c .before .before .before .before .pre .0 .0)), cong-refl)
@@ -74,18 +71,13 @@ open-requires c κs =
     let r = c .before in
     let t = r .before .before in
     let s = start t in
-    (s .pre .0 .0, r .reduce .ensures .1, s .pre .1 .1 .below .at (s .args .test * s .args .n + t .before .loop .i))
-
-slice-aggregate-level-match : tie.Need-slice-aggregate-level-match Inv-loop μ-loop
-slice-aggregate-level-match c =
-    let l = c .before .before .before .before .before in
-    sym (l .before .before .coefficients-of .ensures .0)
+    (s .pre .0 .0, r .reduce .ensures .1, s .pre .1 .1 .1 .below .at (s .args .test * s .args .n + t .before .loop .i))
 
 level-match-requires : tie.Need-level-match-requires Inv-loop μ-loop
 level-match-requires c κs =
-    let t = c .before .before .before .before .before in
+    let t = c .before .before .before .before in
     let s = start t in
-    ((s .pre .0 .0, c .before .«open» .ensures .1, inside t), (t .before .before .coefficients-of .ensures, s .pre .1 .0))
+    ((s .pre .0 .0, c .«open» .ensures .1, inside t), (s .pre .1 .0, s .pre .1 .1 .0))
 
 add-requires : tie.Need-add-requires Inv-loop μ-loop
 add-requires c κs = search needs
@@ -100,7 +92,7 @@ loop-again : tie.Need-loop-again Inv-loop μ-loop
 unfolding held
 loop-again c =
     let match = c .before in
-    let opening = match .before .before in
+    let opening = match .before in
     let reduced = opening .before .before in
     let t = reduced .before .before in
     let l = t .before in
@@ -130,7 +122,6 @@ wrap-of-spec =
     (tie.spec
     Inv-loop
     μ-loop
-    coefficients-of-requires
     loop-holds
     mul-g
     add-g
@@ -140,7 +131,6 @@ wrap-of-spec =
     mul-open
     shared-slice-read-open
     open-requires
-    slice-aggregate-level-match
     level-match-requires
     add-requires
     add-i

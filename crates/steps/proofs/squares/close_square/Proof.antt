@@ -49,11 +49,15 @@ square-requires c κs =
     let s = e .before .before .before .before .before .before in
     (s .pre .0 .0, e .«open» .ensures .1, s .pre .0 .2 .at _, s .pre .0 .2 .at _)
 
+fold-wide-requires : tie.Need-fold-wide-requires
+fold-wide-requires c κs = (c .before .before .before .before .before .before .before .before .pre .0 .0, c .square .ensures .1)
+
 returns : tie.Need-returns
 unfolding squareClosing
 returns c =
-    let e = c .before .before in
-    (c .square .ensures .0 ∙ rw (e .«open» .ensures .0, e .before .before .mask .ensures .0), c .square .ensures .1)
+    let q = c .before in
+    let e = q .before .before in
+    (c .fold-wide .ensures .0 ∙ q .square .ensures .0 ∙ rw (e .«open» .ensures .0, e .before .before .mask .ensures .0), c .fold-wide .ensures .1)
 
 pub close-square-spec : {M : Type 1} → statement M
 close-square-spec =
@@ -71,4 +75,5 @@ close-square-spec =
     mul-square-2
     shared-slice-read-square
     square-requires
+    fold-wide-requires
     returns)

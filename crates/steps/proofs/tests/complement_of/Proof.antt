@@ -4,7 +4,7 @@ use mathlib.Core.Path.{ap, _∙_}
 use Prim.Native.Nat.{ℕ}
 use borrow.Author.Needs.{needs}
 use Rattle.field.proofs.Widths.{bounds}
-use Rattle.shares.specs.Share.{masked}
+use Rattle.field.specs.Subtraction.{minus}
 use Rattle.protocol.specs.Tests.{complement}
 use Rattle.steps.proofs.tests.complement_of.Statement.{statement}
 use Rattle.steps.proofs.tests.complement_of.Tie as tie
@@ -12,8 +12,8 @@ use Rattle.steps.proofs.tests.complement_of.Tie as tie
 constant-requires : tie.Need-constant-requires
 constant-requires c κs = search needs
 
-mask-requires : tie.Need-mask-requires
-mask-requires c κs =
+sub-requires : tie.Need-sub-requires
+sub-requires c κs =
     let s = c .before in
     (s .pre .0, omega (arith, bounds (s .pre .0)), s .pre .1)
 
@@ -21,7 +21,7 @@ returns : tie.Need-returns
 unfolding complement
 returns c =
     let a = c .before .before .args in
-    (c .mask .ensures .0 ∙ ap (λ (v : ℕ). masked (a .n) v (a .v)) (c .before .constant .ensures .0), c .mask .ensures .1)
+    (c .sub .ensures .0 ∙ ap (λ (v : ℕ). minus (a .n) v (a .v)) (c .before .constant .ensures .0), c .sub .ensures .1)
 
 pub complement-of-spec : {M : Type 1} → statement M
-complement-of-spec = tie.close (tie.spec constant-requires mask-requires returns)
+complement-of-spec = tie.close (tie.spec constant-requires sub-requires returns)

@@ -2,7 +2,7 @@
 use mathlib.Core.Path.{ap, _∙_}
 use Prim.Native.Nat.{ℕ}
 use borrow.Author.Needs.{needs}
-use Rattle.shares.specs.Share.{masked}
+use Rattle.field.specs.Subtraction.{minus}
 use Rattle.protocol.specs.Tests.{exclusive}
 use Rattle.steps.proofs.tests.exclusive_of.Statement.{statement}
 use Rattle.steps.proofs.tests.exclusive_of.Tie as tie
@@ -10,14 +10,14 @@ use Rattle.steps.proofs.tests.exclusive_of.Tie as tie
 add-requires : tie.Need-add-requires
 add-requires c κs = search needs
 
-mask-requires : tie.Need-mask-requires
-mask-requires c κs = search needs
+sub-requires : tie.Need-sub-requires
+sub-requires c κs = search needs
 
 returns : tie.Need-returns
 unfolding exclusive
 returns c =
     let a = c .before .before .args in
-    (c .mask .ensures .0 ∙ ap (λ (v : ℕ). masked (a .n) (a .total) v) (c .before .add .ensures .0), c .mask .ensures .1)
+    (c .sub .ensures .0 ∙ ap (λ (v : ℕ). minus (a .n) (a .total) v) (c .before .add .ensures .0), c .sub .ensures .1)
 
 pub exclusive-of-spec : {M : Type 1} → statement M
-exclusive-of-spec = tie.close (tie.spec add-requires mask-requires returns)
+exclusive-of-spec = tie.close (tie.spec add-requires sub-requires returns)
