@@ -13,7 +13,9 @@ use refusals::Refusal;
 use rules::state::State;
 use rules::state::Turn;
 ghost use mathlib.Core.Path.{_≡_};
-ghost use Rattle.rules.specs.Grounds.{firstOf, turnGrounds, wakeGround, startGround, speakGround, hearGround, dropGround};
+ghost use mathlib.Core.List.{_++_};
+ghost use Rattle.rules.specs.Modes.{modeOf};
+ghost use Rattle.rules.specs.Grounds.{firstOf, jobGrounds, dueGrounds, wakeGround, startGround, speakGround, hearGround, dropGround};
 ghost use Rattle.limit_box.specs.Checks.{groundOf};
 
 // The call goes on, or is refused.
@@ -46,7 +48,7 @@ pub fn start_check(
     let length = when(idle, tally.len() != state.tally as usize, Refusal::Tally);
     let mark = mark_check(length, number, tally);
     let share = share_check(mark, state.n, x, y);
-    let ordered = tape_check(share, state, number, tape);
+    let ordered = tape_check(share, state.n, state.pair, state.side, number, tape);
     room_check(ordered, state.n, work, true)
 }
 
@@ -60,7 +62,10 @@ pub fn speak_check(
 ) -> Check
     ensures { λ r. ⌜ groundOf r ≡ speakGround state number round (now (tape .entry)) (now (work .entry)) (now (out .entry)) ⌝ }
 {
-    turn_check(state, number, Turn::Speak(round), tape, work, out)
+    let turn = Turn::Speak(round);
+    let due = due_check(state, number, turn);
+    let ordered = tape_check(due, state.n, state.pair, state.side, number, tape);
+    message_check(ordered, state.n, turn, work, out)
 }
 
 pub fn hear_check(
@@ -73,8 +78,11 @@ pub fn hear_check(
 ) -> Check
     ensures { λ r. ⌜ groundOf r ≡ hearGround state number round (now (tape .entry)) (now (work .entry)) (now (incoming .entry)) ⌝ }
 {
-    let turn = turn_check(state, number, Turn::Hear(round), tape, work, incoming);
-    word_check(turn, state.n, incoming)
+    let turn = Turn::Hear(round);
+    let due = due_check(state, number, turn);
+    let ordered = tape_check(due, state.n, state.pair, state.side, number, tape);
+    let room = message_check(ordered, state.n, turn, work, incoming);
+    word_check(room, state.n, incoming)
 }
 
 pub fn drop_check(state: State) -> Check
@@ -83,24 +91,15 @@ pub fn drop_check(state: State) -> Check
     job_check(crate::modes::mode_of(state))
 }
 
-// What a speak and a hear have in common: the turn that is due, the job's tape, and room for the message in out or incoming.
-fn turn_check(
-    state: State,
-    number: u32,
-    turn: Turn,
-    tape: &[u32],
-    work: &[u32],
-    buffer: &[u32],
-) -> Check
-    ensures { λ r. ⌜ groundOf r ≡ firstOf (turnGrounds state number turn (now (tape .entry)) (now (work .entry)) (now (buffer .entry))) ⌝ }
+// The box is in a job, and the call is the one due.
+fn due_check(state: State, number: u32, turn: Turn) -> Check
+    ensures { λ r. ⌜ groundOf r ≡ firstOf (jobGrounds (modeOf state) ++ dueGrounds (modeOf state) number turn) ⌝ }
 {
     let mode = crate::modes::mode_of(state);
     let job = job_check(mode);
-    let due = when(
+    when(
         job,
         !crate::modes::is_due(mode, number, turn),
         Refusal::Turn,
-    );
-    let ordered = tape_check(due, state, number, tape);
-    message_check(ordered, state.n, turn, work, buffer)
+    )
 }

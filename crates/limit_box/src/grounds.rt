@@ -2,17 +2,17 @@
 use crate::checks::Check;
 use refusals::Refusal;
 use rules::state::Phase;
-use rules::state::State;
 use rules::state::Turn;
 ghost use mathlib.Core.Path.{_≡_};
 ghost use mathlib.Core.Bool.{true, not};
 ghost use mathlib.Core.List.{[], _∷_};
 ghost use lib.ListN.{length};
 ghost use Rattle.field.specs.Width.{listed};
-ghost use Rattle.refusals.specs.declared.Refusal.the-variants.{Busy};
+ghost use Rattle.tape.specs.Order.{inOrder};
+ghost use Rattle.refusals.specs.declared.Refusal.the-variants.{Busy, Tape};
 ghost use Rattle.rules.specs.Modes.{isAsleep};
 ghost use Rattle.rules.specs.Grounds.{_when_, firstOf, wordsFit, messageFits};
-ghost use Rattle.rules.specs.Grounds.{idleGrounds, jobGrounds, markGrounds, shareGrounds, tapeGrounds, roomGrounds, wordGrounds};
+ghost use Rattle.rules.specs.Grounds.{idleGrounds, jobGrounds, markGrounds, shareGrounds, roomGrounds, wordGrounds};
 ghost use Rattle.limit_box.specs.Checks.{groundOf, thenGround};
 
 // One ground.
@@ -105,15 +105,15 @@ pub fn share_check(earlier: Check, n: u32, x: u32, y: u32) -> Check
 }
 
 // The lent tape is this job's, and in order.
-pub fn tape_check(earlier: Check, state: State, number: u32, tape: &[u32]) -> Check
-    ensures { λ r. ⌜ groundOf r ≡ thenGround earlier (firstOf (tapeGrounds state number (now (tape .entry)))) ⌝ }
+pub fn tape_check(earlier: Check, n: u32, pair: u32, side: u32, number: u32, tape: &[u32]) -> Check
+    ensures { λ r. ⌜ groundOf r ≡ thenGround earlier (firstOf ((Tape when not (inOrder n pair side number (now (tape .entry)))) ∷ [])) ⌝ }
 {
     if let Check::Refused(refusal) = earlier {
         return Check::Refused(refusal);
     }
     when(
         earlier,
-        !tape::in_order(tape, state.n, state.pair, state.side, number),
+        !tape::in_order(tape, n, pair, side, number),
         Refusal::Tape,
     )
 }
