@@ -7,7 +7,7 @@ use lib.ListN.{length-replicate}
 use Rattle.shares.specs.Side.{other}
 use Rattle.protocol.specs.Work.{workLength}
 use Rattle.protocol.specs.Products.{Party}
-use Rattle.protocol.specs.Rounds.{lastRound}
+use Rattle.protocol.specs.Rounds.{earlierRounds, lastRound}
 use Rattle.protocol.specs.Exchange.{Both, exchanged, sentOwn, sentOthers, answerOwn, answerOthers}
 use Rattle.protocol.specs.Pairing.{Roomy, LooksAlike}
 use Rattle.guarantees.specs.Boxes.{Box, box1, box2, sideOf, otherBox}
@@ -35,7 +35,7 @@ others-swap p q w r = rw (exchanged-swap p q w r)
 
 answer-swap : (p q : Party) (w : Both) → answerOthers q p (swap w) ≡ answerOwn p q w
 unfolding answerOwn answerOthers
-answer-swap p q w = rw (exchanged-swap p q w 5, own-swap p q w 5)
+answer-swap p q w = rw (exchanged-swap p q w earlierRounds, own-swap p q w earlierRounds)
 
 -- ---- alike under two tapes and two pairs of shares of box b
 

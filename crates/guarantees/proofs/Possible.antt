@@ -38,7 +38,7 @@ use Rattle.guarantees.specs.Run.{Lending, Setting, Memory, Event, World,
 use Rattle.guarantees.specs.Premises.{TrueMessage, Keeps, Meets, AtFirst, InBoth, Compatible, AllCompatible}
 use Rattle.guarantees.specs.Maps.{sameBox}
 use Rattle.guarantees.specs.Comparison.{Valid, byBox, worldOf, settingOf, events}
-use Rattle.guarantees.specs.Possible.{pairNumber, sharesOf, sharesAnew, plainSet, plainCommon, zeros, whole, again}
+use Rattle.guarantees.specs.Possible.{pairNumber, sharesOf, sharesAnew, plainSet, plainCommon, zeros, lastHears, whole, again}
 use Rattle.guarantees.specs.Possible.{CutInMark, AnswersAt, RightSum, Possible}
 use Rattle.guarantees.proofs.Once.{same-box}
 use Rattle.guarantees.proofs.Outcomes.{isMessage, message-of}
@@ -221,7 +221,7 @@ record ByRun (entries : List Entry) (place : ℕ) (b : Box) : Type 0 where
   answer1 : AnswersAt (events (plainCommon entries b) b (plainSet b) (sharesOf b) zeros) place box1 2
   answer2 : AnswersAt (events (plainCommon entries b) b (plainSet b) (sharesOf b) zeros) (place + 1) box2 6
 
-whole-run : (b : Box) → ByRun whole 26 b
+whole-run : (b : Box) → ByRun whole (lastHears 2) b
 unfolding modulus listed isSide otherSide constantShare minus opened squareShare productShare section trailerFits bodyInRange inOrder plainTape
     rangeCode pointCode levelCode coefficient polynomial complement exclusive held
     openLeft openRight openings closed closing bitDifference squareClosing matchCount levelMatch wrapShare
@@ -244,7 +244,7 @@ whole-run box2 =
       answer2 = record { box = refl; key = refl; said = refl };
     }
 
-again-run : (b : Box) → ByRun again 28 b
+again-run : (b : Box) → ByRun again (lastHears 4) b
 unfolding modulus listed isSide otherSide constantShare minus opened squareShare productShare section trailerFits bodyInRange inOrder plainTape
     rangeCode pointCode levelCode coefficient polynomial complement exclusive held
     openLeft openRight openings closed closing bitDifference squareClosing matchCount levelMatch wrapShare
@@ -280,11 +280,11 @@ from-run entries place b c =
       answer2 = c .answer2;
     }
 
-pub whole-possible : (b : Box) → Possible whole 26 b
-whole-possible b = from-run whole 26 b (whole-run b)
+pub whole-possible : (b : Box) → Possible whole (lastHears 2) b
+whole-possible b = from-run whole (lastHears 2) b (whole-run b)
 
-pub again-possible : (b : Box) → Possible again 28 b
-again-possible b = from-run again 28 b (again-run b)
+pub again-possible : (b : Box) → Possible again (lastHears 4) b
+again-possible b = from-run again (lastHears 4) b (again-run b)
 
 pub right-sum : RightSum
 unfolding modulus

@@ -1,5 +1,5 @@
 -- The premises of demand 3 are not empty: two lists at width 3 that meet them, on the plain tapes, in which both boxes answer.
-use Prim.Native.Nat.{ℕ, _+_, _%_}
+use Prim.Native.Nat.{ℕ, zero, suc, _+_, _*_, _%_}
 use mathlib.Core.Path.{_≡_}
 use mathlib.Core.List.{List, [], _∷_, _++_}
 use lib.Dec.{ltb}
@@ -8,7 +8,7 @@ use Rattle.field.specs.Width.{modulus}
 use Rattle.tape.specs.Plain.{plainTape}
 use Rattle.encoding.specs.Matching.{indicator}
 use Rattle.protocol.specs.Work.{workLength}
-use Rattle.protocol.specs.Rounds.{roundWords}
+use Rattle.protocol.specs.Rounds.{earlierRounds, lastRound, roundWords}
 use Rattle.rules.specs.Answers.{share}
 use Rattle.rules.specs.Grounds.{startGround}
 use Rattle.rules.specs.declared.state.Phase.the-variants.{Asleep}
@@ -70,17 +70,21 @@ roundFrom place round =
     ∷ (box2 does hear 0 round (dealt box2 0 3) (spokenAt place))
     ∷ []
 
+-- the rounds up to one, from a place on: four entries each
+abbrev pub roundsFrom : ℕ → ℕ → List Entry
+roundsFrom place zero = []
+roundsFrom place (suc r) = roundsFrom place r ++ roundFrom (place + 4 * r) (suc r)
+
 -- a whole job on tape 0, from a place on
 abbrev pub jobFrom : ℕ → List Entry
 jobFrom place =
     (box1 does start 0 (dealt box1 0 3))
     ∷ (box2 does start 0 (dealt box2 0 3))
-    ∷ roundFrom (place + 2) 1
-    ++ roundFrom (place + 6) 2
-    ++ roundFrom (place + 10) 3
-    ++ roundFrom (place + 14) 4
-    ++ roundFrom (place + 18) 5
-    ++ roundFrom (place + 22) 6
+    ∷ roundsFrom (place + 2) lastRound
+
+-- where the boxes hear the last round in such a job, one after the other
+abbrev pub lastHears : ℕ → ℕ
+lastHears place = place + 2 + 4 * earlierRounds + 2
 
 unfoldable pub whole : List Entry
 whole = wakes box1 ∷ wakes box2 ∷ jobFrom 2

@@ -14,7 +14,7 @@ use Rattle.tape.specs.Dealt.{Matched}
 use Rattle.tape.proofs.Dealing.{own-readable}
 use Rattle.protocol.specs.Work.{workLength}
 use Rattle.protocol.specs.Products.{Party, party}
-use Rattle.protocol.specs.Rounds.{lastLeft, lastRight, message}
+use Rattle.protocol.specs.Rounds.{earlierRounds, lastRound, lastLeft, lastRight, message}
 use Rattle.protocol.specs.Clear.{valueOf}
 use Rattle.protocol.specs.Exchange.{Both, exchanged, sentOwn, sentOthers, answerOthers}
 use Rattle.protocol.proofs.Halves.{indicator-bit}
@@ -34,21 +34,21 @@ module _ {n pair number side : ℕ} {own others : List ℕ} (m : Matched n pair 
   q = sharesOf n side x y xo yo
 
   abbrev Z : Both
-  Z = exchanged (party n side x y own) (party n (other side) xo yo others) w 5
+  Z = exchanged (party n side x y own) (party n (other side) xo yo others) w earlierRounds
 
   bit : (k : ℕ) → halvesOf q k ≤ 1
   bit k = indicator-bit (ltb (2 * valueOf n x y xo yo k) (modulus n))
 
   last-left : Cong (modulus n) (lastLeft n side (Z .own) + lastLeft n (other side) (Z .others)) (1 - (halvesOf q 0 + halvesOf q 1) % 2)
   last-left =
-      let r = rooms m x y xo yo ly lyo w room room-o 5 in
+      let r = rooms m x y xo yo ly lyo w room room-o earlierRounds in
       let h = halves-5 m x y xo yo ly lyo w room room-o in
       left-total m x y xo yo (Z .own) (Z .others) (r .own) (r .other) (halvesOf q 0) (halvesOf q 1) (halvesOf q 2) (bit 0) (bit 1) (bit 2)
       (h 0 (omega arith)) (h 1 (omega arith)) (h 2 (omega arith)) (both m x y xo yo ly lyo w room room-o)
 
   last-right : Cong (modulus n) (lastRight n side (Z .own) + lastRight n (other side) (Z .others)) (1 - halvesOf q 2)
   last-right =
-      let r = rooms m x y xo yo ly lyo w room room-o 5 in
+      let r = rooms m x y xo yo ly lyo w room room-o earlierRounds in
       let h = halves-5 m x y xo yo ly lyo w room room-o in
       right-total m x y xo yo (Z .own) (Z .others) (r .own) (r .other) (halvesOf q 0) (halvesOf q 1) (halvesOf q 2) (bit 0) (bit 1) (bit 2)
       (h 0 (omega arith)) (h 1 (omega arith)) (h 2 (omega arith)) (both m x y xo yo ly lyo w room room-o)
@@ -166,7 +166,7 @@ module _ {n pair number side : ℕ} {own others : List ℕ} (m : Matched n pair 
 
   -- ---- the theorem
 
-  pub all-alike : (r : ℕ) → r < 6 → Alike r
+  pub all-alike : (r : ℕ) → r < lastRound → Alike r
   all-alike zero less = alike-0
   all-alike (suc zero) less = alike-1
   all-alike (suc (suc zero)) less = alike-2
@@ -175,15 +175,16 @@ module _ {n pair number side : ℕ} {own others : List ℕ} (m : Matched n pair 
   all-alike (suc (suc (suc (suc (suc zero))))) less = alike-5
   all-alike (suc (suc (suc (suc (suc (suc r)))))) less = absurd (omega arith)
 
-  pub same-own : (r : ℕ) → r < 6 → sentOwn b c w (suc r) ≡ sentOwn b′ c w′ (suc r)
+  pub same-own : (r : ℕ) → r < lastRound → sentOwn b c w (suc r) ≡ sentOwn b′ c w′ (suc r)
   unfolding sentOwn
   same-own r less = all-alike r less .own-same
 
-  pub same-others : (r : ℕ) → r < 6 → sentOthers b c w (suc r) ≡ sentOthers b′ c w′ (suc r)
+  pub same-others : (r : ℕ) → r < lastRound → sentOthers b c w (suc r) ≡ sentOthers b′ c w′ (suc r)
   unfolding sentOthers
   same-others r less = all-alike r less .other-same
 
   pub same-answer : answerOthers b c w ≡ answerOthers b′ c w′
   unfolding answerOthers
   same-answer =
-      rw (same-own 5 (omega arith)) (answer-live c (X 5 .others) (Y 5 .others) (sentOwn b′ c w′ 6) live-5)
+      rw (same-own earlierRounds (omega arith))
+      (answer-live c (X earlierRounds .others) (Y earlierRounds .others) (sentOwn b′ c w′ lastRound) (all-alike earlierRounds (omega arith) .live))

@@ -15,7 +15,7 @@ use Rattle.tape.proofs.Letters.{group-index}
 use Rattle.protocol.specs.Work.{sumSlot, wrapSlot, halfSlot, bothSlot, workLength, held}
 use Rattle.protocol.specs.Products.{Party, Products, openLeft, openRight, openings, alternating, closing}
 use Rattle.protocol.specs.Levels.{levelMatch, levelOpened, wrapShare}
-use Rattle.protocol.specs.Rounds.{powersOf, levelProducts, wrapProducts, halfShare, halfProduct, lastLeft, lastRight, lastProduct, answerShare, message, afterHearing}
+use Rattle.protocol.specs.Rounds.{earlierRounds, powersOf, levelProducts, wrapProducts, halfShare, halfProduct, lastLeft, lastRight, lastProduct, answerShare, message, afterHearing}
 use Rattle.protocol.proofs.Slots.{count-1, sum-1, level-2, sum-2, wrap-3, sum-3, half-4, both-5, half-5}
 
 -- two works hold the same in the slots of a range
@@ -70,7 +70,7 @@ module _ (q : Party) where
       (λ i li. rw (h .0 2 (omega arith)))
   message-live (suc (suc (suc (suc (suc (suc r)))))) v v′ h = refl
 
-  pub answer-live : (v v′ incoming : List ℕ) → Live n 5 v v′ → answerShare q v incoming ≡ answerShare q v′ incoming
+  pub answer-live : (v v′ incoming : List ℕ) → Live n earlierRounds v v′ → answerShare q v incoming ≡ answerShare q v′ incoming
   unfolding answerShare closing lastProduct lastLeft lastRight
   answer-live v v′ incoming h = rw (h .0 0 (omega arith), h .0 1 (omega arith), h .0 2 (omega arith), h .1)
 

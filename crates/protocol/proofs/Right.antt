@@ -17,7 +17,7 @@ use Rattle.tape.proofs.Dealing.{own-readable}
 use Rattle.encoding.specs.Matching.{indicator}
 use Rattle.protocol.specs.Work.{workLength, sumSlot, wrapSlot, halfSlot, bothSlot, held}
 use Rattle.protocol.specs.Products.{Party, party}
-use Rattle.protocol.specs.Rounds.{message}
+use Rattle.protocol.specs.Rounds.{earlierRounds, message}
 use Rattle.protocol.specs.Exchange.{Both, exchanged, sentOwn, sentOthers, answerOwn, answerOthers}
 use Rattle.protocol.specs.Clear.{valueOf, sharedBits, lowSumOf, wrapOf, half, halfOf}
 use Rattle.protocol.proofs.Halves.{compared, modulus-odd, indicator-bit}
@@ -108,7 +108,7 @@ module _ {n pair number side : ℕ} {t1 t2 : List ℕ} (m : Matched n pair numbe
       let p = modulus n in
       let v = valueOf n x1 y1 x2 y2 in
       let bit : (k : ℕ) → half p (v k) ≤ 1 = λ k. indicator-bit (ltb (2 * v k) p) in
-      answer-total m x1 y1 x2 y2 (o 5) (t 5) (rooms 5 .own) (rooms 5 .other)
+      answer-total m x1 y1 x2 y2 (o earlierRounds) (t earlierRounds) (rooms earlierRounds .own) (rooms earlierRounds .other)
       (half p (v 0)) (half p (v 1)) (half p (v 2)) (bit 0) (bit 1) (bit 2)
       (halves-5 0 (omega arith)) (halves-5 1 (omega arith)) (halves-5 2 (omega arith)) both
       (indicator (ltb (v 0) (v 1)))

@@ -33,7 +33,7 @@ use Rattle.protocol.specs.Work.{sumSlot, wrapSlot, halfSlot, bothSlot, w
 use Rattle.protocol.specs.Products.{Party, party, closing, openings}
 use Rattle.protocol.specs.Squares.{bitDifference, squareOpening}
 use Rattle.protocol.specs.Levels.{levelMatch, levelOpened, wrapShare}
-use Rattle.protocol.specs.Rounds.{doubledOf, squaresOf, squareWord, lowProducts, lowSum, levelProducts, wrapProducts, halfShare, halfProduct, lastProduct, lastLeft, lastRight, answerShare, message, afterHearing}
+use Rattle.protocol.specs.Rounds.{doubledOf, squaresOf, squareWord, lowProducts, lowSum, levelProducts, wrapProducts, halfShare, halfProduct, lastProduct, lastLeft, lastRight, answerShare, lastRound, message, afterHearing}
 use Rattle.protocol.specs.Clear.{valueOf, sharedBits, lowSumOf, wrapOf, halfOf}
 use Rattle.protocol.proofs.Reading.{held-below}
 use Rattle.protocol.proofs.Totals.{part, complement-total, exclusive-total}
@@ -241,7 +241,7 @@ module _ {n pair number side : ℕ} {t1 t2 : List ℕ} (m : Matched n pair numbe
   pub half-total-5 : (t : ℕ) → t < 3 → total 5 (halfSlot n t) ≡ held n v1 (halfSlot n t) + held n v2 (halfSlot n t)
   half-total-5 t less = rw (half-5 b l v1 (message c v2 5) room1 t less, half-5 c l v2 (message b v1 5) room2 t less)
 
-  -- ---- round 6: the answer
+  -- ---- the last round: the answer
 
   module _ (h u z : ℕ) (lh : h ≤ 1) (lu : u ≤ 1) (lz : z ≤ 1)
       (hh : Cong (modulus n) (held n v1 (halfSlot n 0) + held n v2 (halfSlot n 0)) h)
@@ -266,22 +266,22 @@ module _ {n pair number side : ℕ} {t1 t2 : List ℕ} (m : Matched n pair numbe
         (held-below n v1 (halfSlot n 2) l) (held-below n v2 (halfSlot n 2) l) hz lz
 
     pub answer-total : (e : ℕ) → e + h * u ≡ h + (1 - (h + u) % 2) * (1 - z)
-        → Cong (modulus n) (answerShare b v1 (message c v2 6) + answerShare c v2 (message b v1 6)) e
+        → Cong (modulus n) (answerShare b v1 (message c v2 lastRound) + answerShare c v2 (message b v1 lastRound)) e
     unfolding answerShare closing lastProduct message
     answer-total e same =
         let h1 = held n v1 (halfSlot n 0) in
         let h2 = held n v2 (halfSlot n 0) in
         let m1 = held n v1 (bothSlot n) in
         let m2 = held n v2 (bothSlot n) in
-        let k1 = closing b (lastProduct b v1) (message c v2 6) 0 0 in
-        let k2 = closing c (lastProduct c v2) (message b v1 6) 0 0 in
+        let k1 = closing b (lastProduct b v1) (message c v2 lastRound) 0 0 in
+        let k2 = closing c (lastProduct c v2) (message b v1 lastRound) 0 0 in
         cong-add cong-mod cong-mod
         ⊙ part n l (masked n h1 m1 + k1 + (masked n h2 m2 + k2)) (m1 + m2) (h + (1 - (h + u) % 2) * (1 - z)) (h * u)
         (cong-eq {b = (masked n h1 m1 + masked n h2 m2 + (m1 + m2)) + (k1 + k2)} (omega arith)
         ⊙ cong-add
         (minus-total n h1 h2 m1 m2 (le-of-lt (held-below n v1 (bothSlot n) l)) (le-of-lt (held-below n v2 (bothSlot n) l)) ⊙ hh)
         (closed-total m (3 * n + 7 + 0) (omega arith) (lastLeft n side v1) (lastRight n side v1) (lastLeft n (other side) v2) (lastRight n (other side) v2)
-        (message c v2 6) (message b v1 6) (0 + 0 * 2)
+        (message c v2 lastRound) (message b v1 lastRound) (0 + 0 * 2)
         (openings-heard c (lastProduct c v2) 0 (omega arith)) (openings-heard b (lastProduct b v1) 0 (omega arith))
         ⊙ cong-mul left-total right-total))
         hm e same

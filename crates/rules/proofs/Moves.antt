@@ -108,7 +108,7 @@ unfolding hearRule
 heard-job s number round tape work incoming z other t =
     let last = t .range .last in
     rw (z, ne-eqb round lastRound other)
-    (turned-job s t (Speak (round + 1)) (rw (le-leb 1 (round + 1) (omega arith), le-leb (round + 1) 6 (omega arith))))
+    (turned-job s t (Speak (round + 1)) (rw (le-leb 1 (round + 1) (omega arith), le-leb (round + 1) lastRound (omega arith))))
 
 -- before the last round
 hear-goes-on : (s : State) (number round : ℕ) (tape work incoming : List ℕ) → hearGround s number round tape work incoming ≡ 0 → (round ≡ lastRound → ⊥)
@@ -119,11 +119,11 @@ hear-goes-on s number round tape work incoming z other =
     let less : round < lastRound = omega (arith, t .range .last) in
     rw (found-job s t, heard-job s number round tape work incoming z other t, z, ne-eqb round lastRound other) (hears less)
 
-hear-ends : (s : State) (number : ℕ) (tape work incoming : List ℕ) → hearGround s number 6 tape work incoming ≡ 0
-    → HearMoves s number 6 tape work incoming
+hear-ends : (s : State) (number : ℕ) (tape work incoming : List ℕ) → hearGround s number lastRound tape work incoming ≡ 0
+    → HearMoves s number lastRound tape work incoming
 unfolding hearRule HearMoves
 hear-ends s number tape work incoming z =
-    let t = hear-passed s number 6 tape work incoming z .turn in
+    let t = hear-passed s number lastRound tape work incoming z .turn in
     rw (found-job s t, z, phase-mode s Idle (awake-range s (t .awake)) refl) ends
 
 hear-moves : (s : State) (number round : ℕ) (tape work incoming : List ℕ) → hearGround s number round tape work incoming ≡ 0
@@ -134,7 +134,7 @@ hear-moves s number round tape work incoming z = go (eqb round lastRound) refl
     go true e =
         subst (λ (r : ℕ). hearGround s number r tape work incoming ≡ 0 → HearMoves s number r tape work incoming) (sym (eqb-true round lastRound e))
         (hear-ends s number tape work incoming) z
-    go false e = hear-goes-on s number round tape work incoming z (eqb-false round 6 e)
+    go false e = hear-goes-on s number round tape work incoming z (eqb-false round lastRound e)
 
 -- ---- drop
 

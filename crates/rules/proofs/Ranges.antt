@@ -7,6 +7,7 @@ use borrow.Author.Tests.{ltb-true, leb-true, eqb-true}
 use Rattle.lists.proofs.Tests.{and-left, and-right}
 use Rattle.field.specs.Width.{listed, modulus}
 use Rattle.shares.specs.Side.{isSide}
+use Rattle.protocol.specs.Rounds.{lastRound}
 use Rattle.rules.specs.Tally.{tallyFits, tapesOf}
 use Rattle.rules.specs.Modes.{roundOf, roundFits, phaseFits, inRange, modeOf, isAsleep, isDue, sameTurn}
 use Rattle.rules.specs.Calls.{inPhase, xOf, yOf, turned}
@@ -80,10 +81,10 @@ due-job s number turn awake e = go (s .phase) refl (rw (awake-mode s awake) at e
         let same-turn = turn-same turn due (and-right (eqb number own) (sameTurn turn due) h) in
         record { x = x; y = y; job = rw (same-number, same-turn) q }
 
--- a job in range: its turn is of one of the six rounds, its shares are below p
+-- a job in range: its turn is of one of the rounds, its shares are below p
 pub record JobRange (s : State) (turn : Turn) (x y : ℕ) : Type 0 where
   pub round-fits : roundFits (roundOf turn) ≡ true
-  pub last : roundOf turn ≤ 6
+  pub last : roundOf turn ≤ lastRound
   pub x-fits : x < modulus (s .n)
   pub y-fits : y < modulus (s .n)
 
@@ -97,7 +98,7 @@ job-range s x y {turn} {number} awake job =
     let round = and-right (ltb number (tapesOf (s .tally))) (roundFits (roundOf turn)) twos in
     record {
       round-fits = round;
-      last = leb-true (roundOf turn) 6 (and-right (leb 1 (roundOf turn)) (leb (roundOf turn) 6) round);
+      last = leb-true (roundOf turn) lastRound (and-right (leb 1 (roundOf turn)) (leb (roundOf turn) lastRound) round);
       x-fits = ltb-true x (modulus (s .n)) (and-right two (ltb x (modulus (s .n))) threes);
       y-fits = ltb-true y (modulus (s .n)) (and-right three (ltb y (modulus (s .n))) fits);
     }
