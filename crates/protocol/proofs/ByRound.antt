@@ -1,4 +1,5 @@
--- From a round to its entry of a table: what holds of every entry, and of what stands for no round, holds at every round.
+-- From a round to its entry of a table: what holds of every entry, and of what stands for no round, holds at every round. And a law over all
+-- rounds from one proof for each.
 use Prim.Native.Nat.{ℕ, zero, suc, _<_}
 use mathlib.Core.Path.{_≡_, refl, ap, _∙_}
 use mathlib.Core.List.{List, [], _∷_}
@@ -43,6 +44,16 @@ pub at-both : {A B : Type 0} (P : A → B → Type 0) (rounds : List A) (rounds�
     → P none none′ → (round : ℕ) → P (atRound round rounds none) (atRound round rounds′ none′)
 at-both P rounds rounds′ none none′ e n zero = n
 at-both P rounds rounds′ none none′ e n (suc k) = both-at P rounds rounds′ none none′ e n k
+
+-- a law at each of so many rounds, and at all later ones
+abbrev pub AtRounds : ℕ → (ℕ → Type 0) → Type 0
+AtRounds zero P = (round : ℕ) → P round
+AtRounds (suc count) P = P 0 × AtRounds count (λ round. P (suc round))
+
+pub by-round : (count : ℕ) (P : ℕ → Type 0) → AtRounds count P → (round : ℕ) → P round
+by-round zero P e round = e round
+by-round (suc count) P e zero = e .0
+by-round (suc count) P e (suc round) = by-round count (λ round. P (suc round)) (e .1) round
 
 -- none of the rounds 1 to count, as a match that has an arm for each of them leaves it
 abbrev pub Outside : ℕ → ℕ → Type 0

@@ -1,6 +1,6 @@
 -- Two whole exchanges side by side: with shares s and a dealt tape, and with s′ and the shifted tape. Every message of both boxes is the
 -- same, and so is the other box's answer share, whatever work held at first in either.
-use Prim.Native.Nat.{ℕ, zero, suc, _+_, _-_, _*_, _%_, _<_, _≤_}
+use Prim.Native.Nat.{ℕ, suc, _+_, _-_, _*_, _%_, _<_, _≤_}
 use mathlib.Core.Path.{_≡_}
 use mathlib.Core.Bool.{true}
 use mathlib.Core.List.{List}
@@ -17,6 +17,7 @@ use Rattle.protocol.specs.Products.{Party, party}
 use Rattle.protocol.specs.Rounds.{earlierRounds, lastRound, lastLeft, lastRight, message}
 use Rattle.protocol.specs.Clear.{valueOf}
 use Rattle.protocol.specs.Exchange.{Both, exchanged, sentOwn, sentOthers, answerOthers}
+use Rattle.protocol.proofs.ByRound.{by-round}
 use Rattle.protocol.proofs.Halves.{indicator-bit}
 use Rattle.protocol.proofs.Stages.{left-total, right-total}
 use Rattle.protocol.proofs.Right.{rooms, counts, levels, sums, wraps, halves-4, halves-5, both}
@@ -138,7 +139,7 @@ module _ {n pair number side : ℕ} {own others : List ℕ} (m : Matched n pair 
       (round-4 m x y x′ y′ xo yo (X 3 .own) (Y 3 .own) (X 3 .others) (Y 3 .others)
       (sums m x y xo yo ly lyo w room room-o) (sums m′ x′ y′ xo yo ly′ lyo w′ room′ room-o′)
       (wraps m x y xo yo ly lyo w room room-o) (wraps m′ x′ y′ xo yo ly′ lyo w′ room′ room-o′)
-      (live-3 .0) (live-3 .1))
+      (live-3 .0) (live-3 .1 .0))
 
   live-4 : Live n 4 (X 4 .others) (Y 4 .others)
   live-4 =
@@ -148,7 +149,7 @@ module _ {n pair number side : ℕ} {own others : List ℕ} (m : Matched n pair 
   alike-4 =
       alike 4 live-4
       (round-5 m x y x′ y′ xo yo (X 4 .own) (Y 4 .own) (X 4 .others) (Y 4 .others)
-      (halves-4 m x y xo yo ly lyo w room room-o) (halves-4 m′ x′ y′ xo yo ly′ lyo w′ room′ room-o′) live-4)
+      (halves-4 m x y xo yo ly lyo w room room-o) (halves-4 m′ x′ y′ xo yo ly′ lyo w′ room′ room-o′) (live-4 .0))
 
   live-5 : Live n 5 (X 5 .others) (Y 5 .others)
   live-5 =
@@ -161,19 +162,15 @@ module _ {n pair number side : ℕ} {own others : List ℕ} (m : Matched n pair 
       (round-6 m x y x′ y′ xo yo (X 5 .own) (Y 5 .own) (X 5 .others) (Y 5 .others)
       (last-left m x y xo yo ly lyo w room room-o) (last-left m′ x′ y′ xo yo ly′ lyo w′ room′ room-o′)
       (last-right m x y xo yo ly lyo w room room-o) (last-right m′ x′ y′ xo yo ly′ lyo w′ room′ room-o′)
-      (rw (live-5 .0 0 (omega arith), live-5 .0 1 (omega arith), live-5 .1))
+      (rw (live-5 .0 0 (omega arith), live-5 .0 1 (omega arith), live-5 .1 .0 0 (omega arith)))
       (rw (live-5 .0 2 (omega arith))))
 
   -- ---- the theorem
 
   pub all-alike : (r : ℕ) → r < lastRound → Alike r
-  all-alike zero less = alike-0
-  all-alike (suc zero) less = alike-1
-  all-alike (suc (suc zero)) less = alike-2
-  all-alike (suc (suc (suc zero))) less = alike-3
-  all-alike (suc (suc (suc (suc zero)))) less = alike-4
-  all-alike (suc (suc (suc (suc (suc zero))))) less = alike-5
-  all-alike (suc (suc (suc (suc (suc (suc r)))))) less = absurd (omega arith)
+  all-alike =
+      by-round lastRound (λ r. r < lastRound → Alike r)
+      (λ _. alike-0, (λ _. alike-1, (λ _. alike-2, (λ _. alike-3, (λ _. alike-4, (λ _. alike-5, λ r less. absurd (omega arith)))))))
 
   pub same-own : (r : ℕ) → r < lastRound → sentOwn b c w (suc r) ≡ sentOwn b′ c w′ (suc r)
   unfolding sentOwn

@@ -1,8 +1,8 @@
 -- What a box goes on with after each round: the words of work that later rounds read. All else that work holds makes no difference.
-use Prim.Native.Nat.{ℕ, zero, suc, _+_, _*_, _/_, _%_, _<_, _≤_}
+use Prim.Native.Nat.{ℕ, suc, _+_, _*_, _/_, _%_, _<_, _≤_}
 use mathlib.Core.Path.{_≡_, refl, sym, ap, _∙_}
 use mathlib.Core.Bool.{Bool, true, false, cond}
-use mathlib.Core.List.{List}
+use mathlib.Core.List.{List, [], _∷_}
 use native.Mathlib.Omega.{arith}
 use lib.Dec.{eqb}
 use lib.ListN.{length}
@@ -15,22 +15,35 @@ use Rattle.tape.proofs.Letters.{group-index}
 use Rattle.protocol.specs.Work.{sumSlot, wrapSlot, halfSlot, bothSlot, workLength, held}
 use Rattle.protocol.specs.Products.{Party, Products, openLeft, openRight, openings, alternating, closing}
 use Rattle.protocol.specs.Levels.{levelMatch, levelOpened, wrapShare}
-use Rattle.protocol.specs.Rounds.{earlierRounds, powersOf, levelProducts, wrapProducts, halfShare, halfProduct, lastLeft, lastRight, lastProduct, answerShare, message, afterHearing}
+use Rattle.protocol.specs.Rounds.{earlierRounds, lastRound, atRound, powersOf, levelProducts, wrapProducts, halfShare, halfProduct, lastLeft, lastRight, lastProduct, answerShare, message, afterHearing}
+use Rattle.protocol.proofs.ByRound.{Each, by-round}
 use Rattle.protocol.proofs.Slots.{count-1, sum-1, level-2, sum-2, wrap-3, sum-3, half-4, both-5, half-5}
 
--- two works hold the same in the slots of a range
-abbrev pub Equal : ℕ → ℕ → (ℕ → ℕ) → List ℕ → List ℕ → Type 0
-Equal n count slot v v′ = (i : ℕ) → i < count → held n v (slot i) ≡ held n v′ (slot i)
+-- so many words of work, by their slots
+pub record Stretch : Type 0 where
+  pub count : ℕ
+  pub slot : ℕ → ℕ
+
+abbrev stretch : ℕ → (ℕ → ℕ) → Stretch
+stretch count slot = record { count = count; slot = slot }
+
+-- two works hold the same in them
+abbrev pub Equal : ℕ → List ℕ → List ℕ → Stretch → Type 0
+Equal n v v′ s = (i : ℕ) → i < s .count → held n v (s .slot i) ≡ held n v′ (s .slot i)
+
+-- the words that are read later, after each round
+abbrev pub liveTable : ℕ → List (List Stretch)
+liveTable n =
+    (stretch (groupCount n) (λ g. g) ∷ stretch 3 (sumSlot n) ∷ [])
+    ∷ (stretch (groupCount n) (λ g. g) ∷ stretch 3 (sumSlot n) ∷ [])
+    ∷ (stretch 3 (sumSlot n) ∷ stretch 3 (wrapSlot n) ∷ [])
+    ∷ (stretch 3 (halfSlot n) ∷ [])
+    ∷ (stretch 3 (halfSlot n) ∷ stretch 1 (λ i. bothSlot n) ∷ [])
+    ∷ []
 
 -- after so many rounds, the same in every word that is read later
 abbrev pub Live : ℕ → ℕ → List ℕ → List ℕ → Type 0
-Live n zero v v′ = Unit {0}
-Live n (suc zero) v v′ = Equal n (groupCount n) (λ g. g) v v′ × Equal n 3 (sumSlot n) v v′
-Live n (suc (suc zero)) v v′ = Equal n (groupCount n) (λ g. g) v v′ × Equal n 3 (sumSlot n) v v′
-Live n (suc (suc (suc zero))) v v′ = Equal n 3 (sumSlot n) v v′ × Equal n 3 (wrapSlot n) v v′
-Live n (suc (suc (suc (suc zero)))) v v′ = Equal n 3 (halfSlot n) v v′
-Live n (suc (suc (suc (suc (suc zero))))) v v′ = Equal n 3 (halfSlot n) v v′ × (held n v (bothSlot n) ≡ held n v′ (bothSlot n))
-Live n (suc (suc (suc (suc (suc (suc r)))))) v v′ = Unit {0}
+Live n r v v′ = Each (Equal n v v′) (atRound r (liveTable n) [])
 
 -- ---- products with the same factors
 
@@ -54,25 +67,40 @@ module _ (q : Party) where
 
   -- ---- what is sent depends on those words alone
 
+  module _ (v v′ : List ℕ) where
+    message-2 : Live n 1 v v′ → message q v 2 ≡ message q v′ 2
+    unfolding message levelProducts openLeft openRight
+    message-2 h = openings-same q q (levelProducts q v) (levelProducts q v′) refl (λ g lg. rw (h .0 g lg)) (λ g lg. refl)
+
+    message-3 : Live n 2 v v′ → message q v 3 ≡ message q v′ 3
+    unfolding message
+    message-3 h = tabulate-same (groupCount n) (λ g. held n v g) (λ g. held n v′ g) (h .0)
+
+    message-4 : Live n 3 v v′ → message q v 4 ≡ message q v′ 4
+    unfolding message wrapProducts openLeft openRight
+    message-4 h = openings-same q q (wrapProducts q v) (wrapProducts q v′) refl (λ t lt. rw (h .0 t lt)) (λ t lt. rw (h .1 .0 t lt))
+
+    message-5 : Live n 4 v v′ → message q v 5 ≡ message q v′ 5
+    unfolding message halfProduct openLeft openRight
+    message-5 h =
+        openings-same q q (halfProduct q v) (halfProduct q v′) refl (λ i li. rw (h .0 0 (omega arith))) (λ i li. rw (h .0 1 (omega arith)))
+
+    message-6 : Live n 5 v v′ → message q v 6 ≡ message q v′ 6
+    unfolding message lastProduct lastLeft lastRight openLeft openRight
+    message-6 h =
+        openings-same q q (lastProduct q v) (lastProduct q v′) refl
+        (λ i li. rw (h .0 0 (omega arith), h .0 1 (omega arith), h .1 .0 0 (omega arith)))
+        (λ i li. rw (h .0 2 (omega arith)))
+
   pub message-live : (r : ℕ) (v v′ : List ℕ) → Live n r v v′ → message q v (suc r) ≡ message q v′ (suc r)
-  unfolding message levelProducts wrapProducts halfProduct lastProduct lastLeft lastRight openLeft openRight
-  message-live zero v v′ h = refl
-  message-live (suc zero) v v′ h =
-      openings-same q q (levelProducts q v) (levelProducts q v′) refl (λ g lg. rw (h .0 g lg)) (λ g lg. refl)
-  message-live (suc (suc zero)) v v′ h = tabulate-same (groupCount n) (λ g. held n v g) (λ g. held n v′ g) (h .0)
-  message-live (suc (suc (suc zero))) v v′ h =
-      openings-same q q (wrapProducts q v) (wrapProducts q v′) refl (λ t lt. rw (h .0 t lt)) (λ t lt. rw (h .1 t lt))
-  message-live (suc (suc (suc (suc zero)))) v v′ h =
-      openings-same q q (halfProduct q v) (halfProduct q v′) refl (λ i li. rw (h 0 (omega arith))) (λ i li. rw (h 1 (omega arith)))
-  message-live (suc (suc (suc (suc (suc zero))))) v v′ h =
-      openings-same q q (lastProduct q v) (lastProduct q v′) refl
-      (λ i li. rw (h .0 0 (omega arith), h .0 1 (omega arith), h .1))
-      (λ i li. rw (h .0 2 (omega arith)))
-  message-live (suc (suc (suc (suc (suc (suc r)))))) v v′ h = refl
+  unfolding message
+  message-live r v v′ =
+      by-round lastRound (λ r. Live n r v v′ → message q v (suc r) ≡ message q v′ (suc r))
+      (λ h. refl, (message-2 v v′, (message-3 v v′, (message-4 v v′, (message-5 v v′, (message-6 v v′, λ r h. refl)))))) r
 
   pub answer-live : (v v′ incoming : List ℕ) → Live n earlierRounds v v′ → answerShare q v incoming ≡ answerShare q v′ incoming
   unfolding answerShare closing lastProduct lastLeft lastRight
-  answer-live v v′ incoming h = rw (h .0 0 (omega arith), h .0 1 (omega arith), h .0 2 (omega arith), h .1)
+  answer-live v v′ incoming h = rw (h .0 0 (omega arith), h .0 1 (omega arith), h .0 2 (omega arith), h .1 .0 0 (omega arith))
 
   -- ---- and what is held after hearing depends on them and on what was heard
 
@@ -80,46 +108,48 @@ module _ (q : Party) where
     after-1 : Live n 1 (afterHearing q v 1 incoming) (afterHearing q v′ 1 incoming)
     after-1 = (
       λ g less. count-1 q l v incoming room g less ∙ sym (count-1 q l v′ incoming room′ g less),
-      λ t less. sum-1 q l v incoming room t less ∙ sym (sum-1 q l v′ incoming room′ t less),
+      (λ t less. sum-1 q l v incoming room t less ∙ sym (sum-1 q l v′ incoming room′ t less), tt),
     )
 
     after-2 : Live n 1 v v′ → Live n 2 (afterHearing q v 2 incoming) (afterHearing q v′ 2 incoming)
     unfolding closing levelProducts
     after-2 h = (
       λ g less. level-2 q l v incoming room g less ∙ rw (h .0 g less) (sym (level-2 q l v′ incoming room′ g less)),
-      λ t less. sum-2 q l v incoming room t ∙ h .1 t less ∙ sym (sum-2 q l v′ incoming room′ t),
+      (λ t less. sum-2 q l v incoming room t ∙ h .1 .0 t less ∙ sym (sum-2 q l v′ incoming room′ t), tt),
     )
 
-    after-3 : Live n 2 v v′ → Live n 3 (afterHearing q v 3 incoming) (afterHearing q v′ 3 incoming)
+    wrap-same : Live n 2 v v′ → Equal n (afterHearing q v 3 incoming) (afterHearing q v′ 3 incoming) (stretch 3 (wrapSlot n))
     unfolding wrapShare
+    wrap-same h t less =
+        wrap-3 q l v incoming room t less
+        ∙ ap (λ (k : ℕ). k % modulus n)
+        (sum-same n
+        (λ i. levelMatch n (q .side) (levelOpened n v incoming (t * n + i)) (powersOf q) (t * n + i))
+        (λ i. levelMatch n (q .side) (levelOpened n v′ incoming (t * n + i)) (powersOf q) (t * n + i))
+        (λ i li. rw (h .0 (t * n + i) (group-index n t i less li))))
+        ∙ sym (wrap-3 q l v′ incoming room′ t less)
+
+    after-3 : Live n 2 v v′ → Live n 3 (afterHearing q v 3 incoming) (afterHearing q v′ 3 incoming)
     after-3 h = (
-      λ t less. sum-3 q l v incoming room t less ∙ h .1 t less ∙ sym (sum-3 q l v′ incoming room′ t less),
-      λ t less.
-          wrap-3 q l v incoming room t less
-          ∙ ap (λ (k : ℕ). k % modulus n)
-          (sum-same n
-          (λ i. levelMatch n (q .side) (levelOpened n v incoming (t * n + i)) (powersOf q) (t * n + i))
-          (λ i. levelMatch n (q .side) (levelOpened n v′ incoming (t * n + i)) (powersOf q) (t * n + i))
-          (λ i li. rw (h .0 (t * n + i) (group-index n t i less li))))
-          ∙ sym (wrap-3 q l v′ incoming room′ t less),
+      λ t less. sum-3 q l v incoming room t less ∙ h .1 .0 t less ∙ sym (sum-3 q l v′ incoming room′ t less),
+      (wrap-same h, tt),
     )
 
     after-4 : Live n 3 v v′ → Live n 4 (afterHearing q v 4 incoming) (afterHearing q v′ 4 incoming)
     unfolding halfShare closing wrapProducts
-    after-4 h t less =
-        half-4 q l v incoming room t less ∙ rw (h .0 t less, h .1 t less) (sym (half-4 q l v′ incoming room′ t less))
+    after-4 h = (
+      λ t less. half-4 q l v incoming room t less ∙ rw (h .0 t less, h .1 .0 t less) (sym (half-4 q l v′ incoming room′ t less)),
+      tt,
+    )
 
     after-5 : Live n 4 v v′ → Live n 5 (afterHearing q v 5 incoming) (afterHearing q v′ 5 incoming)
     unfolding closing halfProduct
     after-5 h = (
-      λ t less. half-5 q l v incoming room t less ∙ h t less ∙ sym (half-5 q l v′ incoming room′ t less),
-      both-5 q l v incoming room ∙ rw (h 0 (omega arith), h 1 (omega arith)) (sym (both-5 q l v′ incoming room′)),
+      λ t less. half-5 q l v incoming room t less ∙ h .0 t less ∙ sym (half-5 q l v′ incoming room′ t less),
+      (λ i less. both-5 q l v incoming room ∙ rw (h .0 0 (omega arith), h .0 1 (omega arith)) (sym (both-5 q l v′ incoming room′)), tt),
     )
 
     pub after-live : (r : ℕ) → Live n r v v′ → Live n (suc r) (afterHearing q v (suc r) incoming) (afterHearing q v′ (suc r) incoming)
-    after-live zero h = after-1
-    after-live (suc zero) h = after-2 h
-    after-live (suc (suc zero)) h = after-3 h
-    after-live (suc (suc (suc zero))) h = after-4 h
-    after-live (suc (suc (suc (suc zero)))) h = after-5 h
-    after-live (suc (suc (suc (suc (suc r))))) h = tt
+    after-live =
+        by-round earlierRounds (λ r. Live n r v v′ → Live n (suc r) (afterHearing q v (suc r) incoming) (afterHearing q v′ (suc r) incoming))
+        (λ h. after-1, (after-2, (after-3, (after-4, (after-5, λ r h. tt)))))
