@@ -1,8 +1,8 @@
 -- The values that the products open are at most p.
-use Prim.Native.Nat.{ℕ, zero, suc, _+_, _-_, _*_, _%_, _<_, _≤_}
+use Prim.Native.Nat.{ℕ, _+_, _-_, _*_, _%_, _<_, _≤_}
 use mathlib.Core.Path.{_≡_, refl}
 use mathlib.Core.Bool.{Bool, true, false, cond}
-use mathlib.Core.List.{List, [], _∷_}
+use mathlib.Core.List.{List}
 use native.Mathlib.Nat.{le-of-lt, le-trans}
 use native.Mathlib.Omega.{arith}
 use borrow.Author.Tests.{ltb-true, leb-true}
@@ -13,9 +13,12 @@ use Rattle.field.proofs.Widths.{bounds, each-listed}
 use Rattle.shares.specs.Side.{other}
 use Rattle.shares.specs.Share.{constantShare}
 use Rattle.shares.proofs.Sides.{constant-below}
+use Rattle.tape.specs.Layout.{groupCount}
 use Rattle.protocol.specs.Tests.{doubled}
+use Rattle.protocol.specs.Products.{lowTriple}
 use Rattle.protocol.specs.Squares.{bitDifference}
 use Rattle.protocol.specs.Clear.{valueOf}
+use Rattle.protocol.proofs.ByRound.{each-at}
 use Rattle.protocol.proofs.Below.{complement-below}
 use Rattle.protocol.proofs.Halves.{indicator-bit}
 use Rattle.protocol.specs.Change.{Shares, squareShareOf, countOf, lowOf, sumOf, wrapsOf, halvesOf, byTriple, leftValues, leftValue, rightValues, rightValue}
@@ -29,25 +32,12 @@ module _ (s : Shares) (l : listed (s .n) ≡ true) where
   unfolding bitDifference
   square-share-most j = le-of-lt (complement-below (s .n) l (s .side) _)
 
-  -- of eight numbers, one by its place
-  eight : (a b c d e f g h k : ℕ) → a ≤ p → b ≤ p → c ≤ p → d ≤ p → e ≤ p → f ≤ p → g ≤ p → h ≤ p
-      → getD (a ∷ b ∷ c ∷ d ∷ e ∷ f ∷ g ∷ h ∷ []) k 0 ≤ p
-  eight a b c d e f g h zero la lb lc ld le lf lg lh = la
-  eight a b c d e f g h (suc zero) la lb lc ld le lf lg lh = lb
-  eight a b c d e f g h (suc (suc zero)) la lb lc ld le lf lg lh = lc
-  eight a b c d e f g h (suc (suc (suc zero))) la lb lc ld le lf lg lh = ld
-  eight a b c d e f g h (suc (suc (suc (suc zero)))) la lb lc ld le lf lg lh = le
-  eight a b c d e f g h (suc (suc (suc (suc (suc zero))))) la lb lc ld le lf lg lh = lf
-  eight a b c d e f g h (suc (suc (suc (suc (suc (suc zero)))))) la lb lc ld le lf lg lh = lg
-  eight a b c d e f g h (suc (suc (suc (suc (suc (suc (suc zero))))))) la lb lc ld le lf lg lh = lh
-  eight a b c d e f g h (suc (suc (suc (suc (suc (suc (suc (suc k)))))))) la lb lc ld le lf lg lh = omega arith
-
-  by-triple : (level : ℕ → ℕ) (rest : List ℕ) (i : ℕ) → (i < 3 * s .n → level i ≤ p) → getD rest (i - 3 * s .n) 0 ≤ p
+  by-triple : (level : ℕ → ℕ) (rest : List ℕ) (i : ℕ) → (i < groupCount (s .n) → level i ≤ p) → getD rest (i - lowTriple (s .n)) 0 ≤ p
       → byTriple (s .n) level rest i ≤ p
-  by-triple level rest i first later = go (ltb i (3 * s .n)) refl
+  by-triple level rest i first later = go (ltb i (lowTriple (s .n))) refl
     where
-      go : (t : Bool) → ltb i (3 * s .n) ≡ t → cond t (level i) (getD rest (i - 3 * s .n) 0) ≤ p
-      go true e = first (ltb-true i (3 * s .n) e)
+      go : (t : Bool) → ltb i (lowTriple (s .n)) ≡ t → cond t (level i) (getD rest (i - lowTriple (s .n)) 0) ≤ p
+      go true e = first (ltb-true i (lowTriple (s .n)) e)
       go false e = later
 
   one : {k : ℕ} → k ≤ 1 → k ≤ p
@@ -79,25 +69,29 @@ module _ (s : Shares) (l : listed (s .n) ≡ true) where
   pub left-most : (i : ℕ) → leftValue s i ≤ p
   unfolding leftValue
   left-most i =
+      let low = low-most (s .side) in
       by-triple (countOf s) (leftValues s) i (λ less. le-trans (count-high s i) room)
-      (eight _ _ _ _ _ _ _ _ (i - 3 * s .n) (low-most (s .side) 0) (low-most (s .side) 1) (low-most (s .side) 2)
-      (one (sum-most 0)) (one (sum-most 1)) (one (sum-most 2)) (one (half-most 0)) (one last-most))
+      (each-at (λ (v : ℕ). v ≤ p) (leftValues s) 0
+      (low 0, (low 1, (low 2, (one (sum-most 0), (one (sum-most 1), (one (sum-most 2), (one (half-most 0), (one last-most, tt))))))))
+      (omega arith) (i - lowTriple (s .n)))
 
-  pub right-most : (inverses : ℕ → ℕ) → ((g : ℕ) → g < 3 * s .n → inverses g ≤ p) → (i : ℕ) → rightValue s inverses i ≤ p
+  pub right-most : (inverses : ℕ → ℕ) → ((g : ℕ) → g < groupCount (s .n) → inverses g ≤ p) → (i : ℕ) → rightValue s inverses i ≤ p
   unfolding rightValue
   right-most inverses below i =
+      let low = low-most (other (s .side)) in
       by-triple inverses (rightValues s) i (below i)
-      (eight _ _ _ _ _ _ _ _ (i - 3 * s .n) (low-most (other (s .side)) 0) (low-most (other (s .side)) 1) (low-most (other (s .side)) 2)
-      (one (wrap-most 0)) (one (wrap-most 1)) (one (wrap-most 2)) (one (half-most 1)) (one other-most))
+      (each-at (λ (v : ℕ). v ≤ p) (rightValues s) 0
+      (low 0, (low 1, (low 2, (one (wrap-most 0), (one (wrap-most 1), (one (wrap-most 2), (one (half-most 1), (one other-most, tt))))))))
+      (omega arith) (i - lowTriple (s .n)))
 
 -- what stands on the tape for A · w may be written in another way
-by-triple-same : (n : ℕ) (f h : ℕ → ℕ) (rest : List ℕ) (i : ℕ) → ((g : ℕ) → g < 3 * n → f g ≡ h g) → byTriple n f rest i ≡ byTriple n h rest i
-by-triple-same n f h rest i same = go (ltb i (3 * n)) refl
+by-triple-same : (n : ℕ) (f h : ℕ → ℕ) (rest : List ℕ) (i : ℕ) → ((g : ℕ) → g < groupCount n → f g ≡ h g) → byTriple n f rest i ≡ byTriple n h rest i
+by-triple-same n f h rest i same = go (ltb i (lowTriple n)) refl
   where
-    go : (t : Bool) → ltb i (3 * n) ≡ t → cond t (f i) (getD rest (i - 3 * n) 0) ≡ cond t (h i) (getD rest (i - 3 * n) 0)
-    go true e = same i (ltb-true i (3 * n) e)
+    go : (t : Bool) → ltb i (lowTriple n) ≡ t → cond t (f i) (getD rest (i - lowTriple n) 0) ≡ cond t (h i) (getD rest (i - lowTriple n) 0)
+    go true e = same i (ltb-true i (lowTriple n) e)
     go false e = refl
 
-pub right-same : (s : Shares) (f h : ℕ → ℕ) → ((g : ℕ) → g < 3 * s .n → f g ≡ h g) → (i : ℕ) → rightValue s f i ≡ rightValue s h i
+pub right-same : (s : Shares) (f h : ℕ → ℕ) → ((g : ℕ) → g < groupCount (s .n) → f g ≡ h g) → (i : ℕ) → rightValue s f i ≡ rightValue s h i
 unfolding rightValue
 right-same s f h same i = by-triple-same (s .n) f h (rightValues s) i same

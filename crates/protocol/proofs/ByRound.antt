@@ -16,7 +16,7 @@ abbrev pub Each : {A : Type 0} → (A → Type 0) → List A → Type 0
 Each P [] = Unit {0}
 Each P (a ∷ us) = P a × Each P us
 
-each-at : {A : Type 0} (P : A → Type 0) (us : List A) (none : A) → Each P us → P none → (k : ℕ) → P (getD us k none)
+pub each-at : {A : Type 0} (P : A → Type 0) (us : List A) (none : A) → Each P us → P none → (k : ℕ) → P (getD us k none)
 each-at P [] none e n k = n
 each-at P (a ∷ us) none e n zero = e .0
 each-at P (a ∷ us) none e n (suc k) = each-at P us none (e .1) n k

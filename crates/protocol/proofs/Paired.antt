@@ -1,5 +1,5 @@
 -- The same messages: the exchange with s and a tape, and the exchange with s′ and the shifted tape, whatever work held at first.
-use Prim.Native.Nat.{ℕ, zero, suc, _+_, _-_, _*_, _%_, _<_}
+use Prim.Native.Nat.{ℕ, _+_, _-_, _*_, _%_, _<_}
 use mathlib.Core.Path.{_≡_, refl, sym, ap, ap₂, subst, _∙_}
 use mathlib.Core.Bool.{true}
 use mathlib.Core.List.{List, _++_}
@@ -19,8 +19,9 @@ use Rattle.tape.specs.Dealt.{Matched}
 use Rattle.tape.proofs.Letters.{square-mask-below, group-inverse-below, triple-left-below, triple-right-below}
 use Rattle.tape.proofs.Dealing.{own-readable}
 use Rattle.protocol.specs.Work.{sumSlot, wrapSlot, halfSlot, held}
-use Rattle.protocol.specs.Products.{Party, party, openLeft, openRight}
+use Rattle.protocol.specs.Products.{Party, party, lowTriple, wrapTriple, halfTriple, lastTriple, openLeft, openRight}
 use Rattle.protocol.specs.Rounds.{squareWord, lowProducts, levelProducts, wrapProducts, halfProduct, lastLeft, lastRight, lastProduct, message}
+use Rattle.protocol.proofs.ByRound.{by-round}
 use Rattle.protocol.proofs.Reading.{held-below}
 use Rattle.protocol.proofs.Live.{openings-same}
 use Rattle.protocol.proofs.Wraps.{inverseTotal}
@@ -32,6 +33,15 @@ use Rattle.protocol.proofs.Places.{left-level, left-later, right-level,
 use Rattle.protocol.proofs.Bounds.{square-share-most, left-most, right-most}
 use Rattle.protocol.proofs.Rules.{inverse-total, count-low, count-high, down}
 use Rattle.protocol.proofs.Units.{restored}
+
+-- what holds of each of the three tests
+each-test : (P : ℕ → Type 0) → P 0 → P 1 → P 2 → (k : ℕ) → k < 3 → P k
+each-test P first second third =
+    by-round 3 (λ k. k < 3 → P k) (λ _. first, (λ _. second, (λ _. third, λ k less. absurd (omega arith))))
+
+-- the only product of a round is opened by the round's first triple
+single : (P : ℕ → Type 0) (first i : ℕ) → i < 1 → P first → P (first + i)
+single P first i less h = subst P (omega arith) h
 
 module _ {n pair number side : ℕ} {own others : List ℕ} (m : Matched n pair number side own others) (x y x′ y′ xo yo : ℕ) where
   abbrev s : Shares
@@ -84,23 +94,15 @@ module _ {n pair number side : ℕ} {own others : List ℕ} (m : Matched n pair 
 
   -- ---- round 1
 
-  low-left : (q : Shares) (k : ℕ) → k < 3 → leftValue q (3 * q .n + k) ≡ constantShare (q .side) (lowOf q k)
-  low-left q k less = left-later q (3 * q .n + k) k refl ∙ go k less
-    where
-      go : (k : ℕ) → k < 3 → getD (leftValues q) k 0 ≡ constantShare (q .side) (lowOf q k)
-      go zero h = refl
-      go (suc zero) h = refl
-      go (suc (suc zero)) h = refl
-      go (suc (suc (suc k))) h = absurd (omega arith)
+  low-left : (q : Shares) (k : ℕ) → k < 3 → leftValue q (lowTriple (q .n) + k) ≡ constantShare (q .side) (lowOf q k)
+  low-left q k less =
+      left-later q (lowTriple (q .n) + k) k refl
+      ∙ each-test (λ k. getD (leftValues q) k 0 ≡ constantShare (q .side) (lowOf q k)) refl refl refl k less
 
-  low-right : (q : Shares) (f : ℕ → ℕ) (k : ℕ) → k < 3 → rightValue q f (3 * q .n + k) ≡ constantShare (other (q .side)) (lowOf q k)
-  low-right q f k less = right-later q f (3 * q .n + k) k refl ∙ go k less
-    where
-      go : (k : ℕ) → k < 3 → getD (rightValues q) k 0 ≡ constantShare (other (q .side)) (lowOf q k)
-      go zero h = refl
-      go (suc zero) h = refl
-      go (suc (suc zero)) h = refl
-      go (suc (suc (suc k))) h = absurd (omega arith)
+  low-right : (q : Shares) (f : ℕ → ℕ) (k : ℕ) → k < 3 → rightValue q f (lowTriple (q .n) + k) ≡ constantShare (other (q .side)) (lowOf q k)
+  low-right q f k less =
+      right-later q f (lowTriple (q .n) + k) k refl
+      ∙ each-test (λ k. getD (rightValues q) k 0 ≡ constantShare (other (q .side)) (lowOf q k)) refl refl refl k less
 
   pub round-1 : (v v′ : List ℕ) → message b v 1 ≡ message b′ v′ 1
   unfolding message squareWord newMask lowProducts openLeft openRight
@@ -112,10 +114,10 @@ module _ {n pair number side : ℕ} {own others : List ℕ} (m : Matched n pair 
       ∙ ap (λ (a : ℕ). masked n (squareShareOf s′ j) a) (sym (new-mask s s′ own others j less))))
       (openings-same b b′ (lowProducts b) (lowProducts b′) refl
       (λ k less.
-      left-word (3 * n + k) _ _ 0 (omega arith)
+      left-word (lowTriple n + k) _ _ 0 (omega arith)
       (alone _ _ (sym (low-left s k less))) (alone _ _ (sym (low-left s′ k less))))
       (λ k less.
-      right-word (3 * n + k) _ _ 0 (omega arith)
+      right-word (lowTriple n + k) _ _ 0 (omega arith)
       (alone _ _ (sym (low-right s old k less))) (alone _ _ (sym (low-right s′ (newInverse s s′ own others) k less)))))
 
   -- ---- the later rounds: v and v′ are the box's work in the two runs, u and u′ the other box's, which holds the same
@@ -182,31 +184,23 @@ module _ {n pair number side : ℕ} {own others : List ℕ} (m : Matched n pair 
     round-4 hs hs′ hw hw′ ks kw =
         openings-same b b′ (wrapProducts b v) (wrapProducts b′ v′) refl
         (λ k less.
-        left-word (3 * n + 3 + k) _ _ (held n u (sumSlot n k)) (omega arith)
+        left-word (wrapTriple n + k) _ _ (held n u (sumSlot n k)) (omega arith)
         (hs k less ⊙ cong-eq (sym (sum-left s k less)))
         (as-kept (sumSlot n k) _ _ (ks k less) (hs′ k less) (sym (sum-left s′ k less))))
         (λ k less.
-        right-word (3 * n + 3 + k) _ _ (held n u (wrapSlot n k)) (omega arith)
+        right-word (wrapTriple n + k) _ _ (held n u (wrapSlot n k)) (omega arith)
         (hw k less ⊙ cong-eq (sym (wrap-right s old k less)))
         (as-kept (wrapSlot n k) _ _ (kw k less) (hw′ k less) (sym (wrap-right s′ (newInverse s s′ own others) k less))))
       where
-        sum-left : (q : Shares) (k : ℕ) → k < 3 → leftValue q (3 * q .n + 3 + k) ≡ sumOf q k
-        sum-left q k less = left-later q (3 * q .n + 3 + k) (3 + k) (omega arith) ∙ go k less
-          where
-            go : (k : ℕ) → k < 3 → getD (leftValues q) (3 + k) 0 ≡ sumOf q k
-            go zero h = refl
-            go (suc zero) h = refl
-            go (suc (suc zero)) h = refl
-            go (suc (suc (suc k))) h = absurd (omega arith)
+        sum-left : (q : Shares) (k : ℕ) → k < 3 → leftValue q (wrapTriple (q .n) + k) ≡ sumOf q k
+        sum-left q k less =
+            left-later q (wrapTriple (q .n) + k) (3 + k) (omega arith)
+            ∙ each-test (λ k. getD (leftValues q) (3 + k) 0 ≡ sumOf q k) refl refl refl k less
 
-        wrap-right : (q : Shares) (f : ℕ → ℕ) (k : ℕ) → k < 3 → rightValue q f (3 * q .n + 3 + k) ≡ wrapsOf q k
-        wrap-right q f k less = right-later q f (3 * q .n + 3 + k) (3 + k) (omega arith) ∙ go k less
-          where
-            go : (k : ℕ) → k < 3 → getD (rightValues q) (3 + k) 0 ≡ wrapsOf q k
-            go zero h = refl
-            go (suc zero) h = refl
-            go (suc (suc zero)) h = refl
-            go (suc (suc (suc k))) h = absurd (omega arith)
+        wrap-right : (q : Shares) (f : ℕ → ℕ) (k : ℕ) → k < 3 → rightValue q f (wrapTriple (q .n) + k) ≡ wrapsOf q k
+        wrap-right q f k less =
+            right-later q f (wrapTriple (q .n) + k) (3 + k) (omega arith)
+            ∙ each-test (λ k. getD (rightValues q) (3 + k) 0 ≡ wrapsOf q k) refl refl refl k less
 
     pub round-5 : ((k : ℕ) → k < 3 → Old (halfSlot n k) (halvesOf s k)) → ((k : ℕ) → k < 3 → New (halfSlot n k) (halvesOf s′ k))
         → ((k : ℕ) → k < 3 → Kept (halfSlot n k))
@@ -214,19 +208,18 @@ module _ {n pair number side : ℕ} {own others : List ℕ} (m : Matched n pair 
     unfolding message halfProduct openLeft openRight
     round-5 h h′ kept =
         openings-same b b′ (halfProduct b v) (halfProduct b′ v′) refl
-        (λ i less. at i less
+        (λ i less. single
         (λ j. masked n (held n v (halfSlot n 0)) (tripleLeft (section n 2 own) j) ≡ masked n (held n v′ (halfSlot n 0)) (tripleLeft (section n 2 t) j))
-        (left-word (3 * n + 6) _ _ (held n u (halfSlot n 0)) (omega arith)
-        (h 0 (omega arith) ⊙ cong-eq (sym (left-later s (3 * n + 6) 6 refl)))
-        (as-kept (halfSlot n 0) _ _ (kept 0 (omega arith)) (h′ 0 (omega arith)) (sym (left-later s′ (3 * n + 6) 6 refl)))))
-        (λ i less. at i less
+        (halfTriple n) i less
+        (left-word (halfTriple n) _ _ (held n u (halfSlot n 0)) (omega arith)
+        (h 0 (omega arith) ⊙ cong-eq (sym (left-later s (halfTriple n) 6 refl)))
+        (as-kept (halfSlot n 0) _ _ (kept 0 (omega arith)) (h′ 0 (omega arith)) (sym (left-later s′ (halfTriple n) 6 refl)))))
+        (λ i less. single
         (λ j. masked n (held n v (halfSlot n 1)) (tripleRight (section n 2 own) j) ≡ masked n (held n v′ (halfSlot n 1)) (tripleRight (section n 2 t) j))
-        (right-word (3 * n + 6) _ _ (held n u (halfSlot n 1)) (omega arith)
-        (h 1 (omega arith) ⊙ cong-eq (sym (right-later s old (3 * n + 6) 6 refl)))
-        (as-kept (halfSlot n 1) _ _ (kept 1 (omega arith)) (h′ 1 (omega arith)) (sym (right-later s′ (newInverse s s′ own others) (3 * n + 6) 6 refl)))))
-      where
-        at : (i : ℕ) → i < 1 → (P : ℕ → Type 0) → P (3 * n + 6) → P (3 * n + 6 + i)
-        at i less P h = subst P (omega arith) h
+        (halfTriple n) i less
+        (right-word (halfTriple n) _ _ (held n u (halfSlot n 1)) (omega arith)
+        (h 1 (omega arith) ⊙ cong-eq (sym (right-later s old (halfTriple n) 6 refl)))
+        (as-kept (halfSlot n 1) _ _ (kept 1 (omega arith)) (h′ 1 (omega arith)) (sym (right-later s′ (newInverse s s′ own others) (halfTriple n) 6 refl)))))
 
     pub round-6 :
         Cong (modulus n) (lastLeft n side v + lastLeft n (other side) u) (1 - (halvesOf s 0 + halvesOf s 1) % 2)
@@ -239,16 +232,15 @@ module _ {n pair number side : ℕ} {own others : List ℕ} (m : Matched n pair 
     unfolding message lastProduct openLeft openRight
     round-6 hl hl′ hr hr′ kl kr =
         openings-same b b′ (lastProduct b v) (lastProduct b′ v′) refl
-        (λ i less. at i less
+        (λ i less. single
         (λ j. masked n (lastLeft n side v) (tripleLeft (section n 2 own) j) ≡ masked n (lastLeft n side v′) (tripleLeft (section n 2 t) j))
-        (left-word (3 * n + 7) _ _ (lastLeft n (other side) u) (omega arith)
-        (hl ⊙ cong-eq (sym (left-later s (3 * n + 7) 7 refl)))
-        (cong-eq (ap (λ (k : ℕ). lastLeft n side v′ + k) kl) ⊙ hl′ ⊙ cong-eq (sym (left-later s′ (3 * n + 7) 7 refl)))))
-        (λ i less. at i less
+        (lastTriple n) i less
+        (left-word (lastTriple n) _ _ (lastLeft n (other side) u) (omega arith)
+        (hl ⊙ cong-eq (sym (left-later s (lastTriple n) 7 refl)))
+        (cong-eq (ap (λ (k : ℕ). lastLeft n side v′ + k) kl) ⊙ hl′ ⊙ cong-eq (sym (left-later s′ (lastTriple n) 7 refl)))))
+        (λ i less. single
         (λ j. masked n (lastRight n side v) (tripleRight (section n 2 own) j) ≡ masked n (lastRight n side v′) (tripleRight (section n 2 t) j))
-        (right-word (3 * n + 7) _ _ (lastRight n (other side) u) (omega arith)
-        (hr ⊙ cong-eq (sym (right-later s old (3 * n + 7) 7 refl)))
-        (cong-eq (ap (λ (k : ℕ). lastRight n side v′ + k) kr) ⊙ hr′ ⊙ cong-eq (sym (right-later s′ (newInverse s s′ own others) (3 * n + 7) 7 refl)))))
-      where
-        at : (i : ℕ) → i < 1 → (P : ℕ → Type 0) → P (3 * n + 7) → P (3 * n + 7 + i)
-        at i less P h = subst P (omega arith) h
+        (lastTriple n) i less
+        (right-word (lastTriple n) _ _ (lastRight n (other side) u) (omega arith)
+        (hr ⊙ cong-eq (sym (right-later s old (lastTriple n) 7 refl)))
+        (cong-eq (ap (λ (k : ℕ). lastRight n side v′ + k) kr) ⊙ hr′ ⊙ cong-eq (sym (right-later s′ (newInverse s s′ own others) (lastTriple n) 7 refl)))))

@@ -1,5 +1,5 @@
 -- The shifted tape by its letters: each is the new word, and the trailer is the old one.
-use Prim.Native.Nat.{ℕ, zero, suc, _+_, _-_, _*_, _%_, _<_, _≤_}
+use Prim.Native.Nat.{ℕ, _+_, _-_, _*_, _/_, _%_, _<_, _≤_}
 use mathlib.Core.Path.{_≡_, sym, ap, ap₂, _∙_}
 use mathlib.Core.Bool.{Bool, true, false, cond}
 use mathlib.Core.List.{List, [], _∷_, _++_, append-assoc}
@@ -14,6 +14,7 @@ use Rattle.lists.specs.Tabulate.{tabulate}
 use Rattle.lists.proofs.Tabulate.{length-tabulate, getD-tabulate}
 use Rattle.field.proofs.Subtraction.{minus-below}
 use Rattle.field.specs.Width.{modulus, listed}
+use Rattle.field.proofs.Widths.{bounds}
 use Rattle.tape.specs.Layout.{section, sectionLength, sectionStart, bodyLength, tapeLength, squareCount, groupCount, tripleCount}
 use Rattle.tape.specs.Letters.{squareMask, squareValue, groupInverse, groupPower, tripleLeft, tripleRight, tripleProduct}
 use Rattle.tape.proofs.Letters.{square-place, group-place, triple-place}
@@ -21,6 +22,7 @@ use Rattle.encoding.specs.Matching.{indicator}
 use Rattle.protocol.proofs.Halves.{less-cases}
 use Rattle.protocol.specs.Change.{Shares}
 use Rattle.protocol.specs.Shift.{newMask, newValue, newInverse, newPower, newLeft, newRight, newProduct, byRow, squareRow, powerRow, tripleRow, shifted}
+use Rattle.protocol.proofs.ByRound.{each-at}
 use Rattle.protocol.proofs.Moves.{moved-below}
 
 module _ (s s′ : Shares) (own others : List ℕ) where
@@ -133,12 +135,6 @@ module _ (s s′ : Shares) (own others : List ℕ) where
     choice-below true la lb = la
     choice-below false la lb = lb
 
-    three-below : {a b c p : ℕ} (k : ℕ) → a < p → b < p → c < p → getD (a ∷ b ∷ c ∷ []) k 0 < p
-    three-below zero la lb lc = la
-    three-below (suc zero) la lb lc = lb
-    three-below (suc (suc zero)) la lb lc = lc
-    three-below (suc (suc (suc k))) la lb lc = omega arith
-
     squares-below : (j : ℕ) → byRow 2 (squareRow s s′ own others) j < modulus n
     unfolding newMask newValue
     squares-below j = choice-below (eqb (j % 2) 0) (moved-below n l _ _ _) (minus-below n _ _ l)
@@ -149,7 +145,10 @@ module _ (s s′ : Shares) (own others : List ℕ) where
 
     triples-below : (j : ℕ) → byRow 3 (tripleRow s s′ own others) j < modulus n
     unfolding newLeft newRight newProduct
-    triples-below j = three-below (j % 3) (moved-below n l _ _ _) (moved-below n l _ _ _) (minus-below n _ _ l)
+    triples-below j =
+        let i = j / 3 in
+        each-at (λ (word : ℕ). word < modulus n) (newLeft s s′ own others i ∷ newRight s s′ own others i ∷ newProduct s s′ own others i ∷ []) 0
+        (moved-below n l _ _ _, (moved-below n l _ _ _, (minus-below n _ _ l, tt))) (omega (arith, bounds l)) (j % 3)
 
     -- a word of a tabulated list, or of what stands behind it
     tabulated-below : (count : ℕ) (f : ℕ → ℕ) (rest : List ℕ) → ((i : ℕ) → f i < modulus n)

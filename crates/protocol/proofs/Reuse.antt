@@ -1,5 +1,5 @@
 -- One tape in two jobs gives it away: its masks cancel in the difference of the two first messages.
-use Prim.Native.Nat.{ℕ, _+_, _-_, _*_, _/_, _%_, _<_, _≤_}
+use Prim.Native.Nat.{ℕ, _+_, _-_, _/_, _%_, _<_, _≤_}
 use mathlib.Core.Path.{_≡_, refl, sym, ap, _∙_}
 use mathlib.Core.Bool.{Bool, true, false, cond}
 use mathlib.Core.List.{List, _++_}
@@ -21,7 +21,7 @@ use Rattle.shares.specs.Share.{constantShare, masked}
 use Rattle.tape.specs.Layout.{section, squareCount}
 use Rattle.tape.specs.Letters.{squareMask, tripleLeft, tripleRight}
 use Rattle.protocol.specs.Tests.{doubled, lowBit, complement}
-use Rattle.protocol.specs.Products.{Party, party, alternating, openLeft, openRight, openings}
+use Rattle.protocol.specs.Products.{Party, party, lowTriple, alternating, openLeft, openRight, openings}
 use Rattle.protocol.specs.Squares.{bitDifference}
 use Rattle.protocol.specs.Rounds.{squareWord, lowProducts, roundWords, message}
 use Rattle.protocol.specs.Reuse.{encoded, GivesAway}
@@ -69,7 +69,7 @@ module _ (n side : ℕ) (tape : List ℕ) where
 
   abbrev lowMasks : ℕ → ℕ
   lowMasks =
-      alternating (λ t. tripleLeft (section n 2 tape) (3 * n + t)) (λ t. tripleRight (section n 2 tape) (3 * n + t))
+      alternating (λ t. tripleLeft (section n 2 tape) (lowTriple n + t)) (λ t. tripleRight (section n 2 tape) (lowTriple n + t))
 
   abbrev masks : ℕ → ℕ
   masks j = cond (ltb j (squareCount n)) (squareMasks j) (lowMasks (j - squareCount n))

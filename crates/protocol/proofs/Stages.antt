@@ -30,7 +30,7 @@ use Rattle.encoding.proofs.Fits.{code-fits}
 use Rattle.encoding.proofs.Values.{level-match}
 use Rattle.protocol.specs.Tests.{doubled, lowBit}
 use Rattle.protocol.specs.Work.{sumSlot, wrapSlot, halfSlot, bothSlot, workLength, held}
-use Rattle.protocol.specs.Products.{Party, party, closing, openings}
+use Rattle.protocol.specs.Products.{Party, party, lowTriple, wrapTriple, halfTriple, lastTriple, closing, openings}
 use Rattle.protocol.specs.Squares.{bitDifference, squareOpening}
 use Rattle.protocol.specs.Levels.{levelMatch, levelOpened, wrapShare}
 use Rattle.protocol.specs.Rounds.{doubledOf, squaresOf, squareWord, lowProducts, lowSum, levelProducts, wrapProducts, halfShare, halfProduct, lastProduct, lastLeft, lastRight, answerShare, lastRound, message, afterHearing}
@@ -101,7 +101,7 @@ module _ {n pair number side : ℕ} {t1 t2 : List ℕ} (m : Matched n pair numbe
       (lowBit n x1 y1 t * lowBit n x2 y2 t)
   unfolding closing lowProducts
   low-total t less =
-      closed-total m (3 * n + t) (omega arith)
+      closed-total m (lowTriple n + t) (omega arith)
       (constantShare side (lowBit n x1 y1 t)) (constantShare (other side) (lowBit n x1 y1 t))
       (constantShare (other side) (lowBit n x2 y2 t)) (constantShare (other (other side)) (lowBit n x2 y2 t))
       (message c v2 1) (message b v1 1) (squareCount n + t * 2)
@@ -216,7 +216,7 @@ module _ {n pair number side : ℕ} {t1 t2 : List ℕ} (m : Matched n pair numbe
       (cong-add cong-mod cong-mod
       ⊙ cong-eq {b = (held n v1 (sumSlot n t) + held n v2 (sumSlot n t)) + (held n v1 (wrapSlot n t) + held n v2 (wrapSlot n t))} (omega arith)
       ⊙ cong-add hs ht)
-      (closed-total m (3 * n + 3 + t) (omega arith) (held n v1 (sumSlot n t)) (held n v1 (wrapSlot n t)) (held n v2 (sumSlot n t)) (held n v2 (wrapSlot n t))
+      (closed-total m (wrapTriple n + t) (omega arith) (held n v1 (sumSlot n t)) (held n v1 (wrapSlot n t)) (held n v2 (sumSlot n t)) (held n v2 (wrapSlot n t))
       (message c v2 4) (message b v1 4) (0 + t * 2)
       (openings-heard c (wrapProducts c v2) t less) (openings-heard b (wrapProducts b v1) t less)
       ⊙ cong-mul hs ht)
@@ -233,7 +233,7 @@ module _ {n pair number side : ℕ} {t1 t2 : List ℕ} (m : Matched n pair numbe
   unfolding closing halfProduct message
   both-total-5 h u hh hu =
       cong-add (cong-eq (both-5 b l v1 (message c v2 5) room1)) (cong-eq (both-5 c l v2 (message b v1 5) room2))
-      ⊙ closed-total m (3 * n + 6 + 0) (omega arith) (held n v1 (halfSlot n 0)) (held n v1 (halfSlot n 1)) (held n v2 (halfSlot n 0)) (held n v2 (halfSlot n 1))
+      ⊙ closed-total m (halfTriple n + 0) (omega arith) (held n v1 (halfSlot n 0)) (held n v1 (halfSlot n 1)) (held n v2 (halfSlot n 0)) (held n v2 (halfSlot n 1))
       (message c v2 5) (message b v1 5) (0 + 0 * 2)
       (openings-heard c (halfProduct c v2) 0 (omega arith)) (openings-heard b (halfProduct b v1) 0 (omega arith))
       ⊙ cong-mul hh hu
@@ -280,7 +280,7 @@ module _ {n pair number side : ℕ} {t1 t2 : List ℕ} (m : Matched n pair numbe
         (cong-eq {b = (masked n h1 m1 + masked n h2 m2 + (m1 + m2)) + (k1 + k2)} (omega arith)
         ⊙ cong-add
         (minus-total n h1 h2 m1 m2 (le-of-lt (held-below n v1 (bothSlot n) l)) (le-of-lt (held-below n v2 (bothSlot n) l)) ⊙ hh)
-        (closed-total m (3 * n + 7 + 0) (omega arith) (lastLeft n side v1) (lastRight n side v1) (lastLeft n (other side) v2) (lastRight n (other side) v2)
+        (closed-total m (lastTriple n + 0) (omega arith) (lastLeft n side v1) (lastRight n side v1) (lastLeft n (other side) v2) (lastRight n (other side) v2)
         (message c v2 lastRound) (message b v1 lastRound) (0 + 0 * 2)
         (openings-heard c (lastProduct c v2) 0 (omega arith)) (openings-heard b (lastProduct b v1) 0 (omega arith))
         ⊙ cong-mul left-total right-total))

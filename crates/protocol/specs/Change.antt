@@ -1,6 +1,6 @@
 -- A device of the proof that one exchange gives nothing away; it stands here so that a wrong map can be tried, and nobody need believe it: a
 -- box's shares, and the values in the clear that each product opens under them.
-use Prim.Native.Nat.{ℕ, _+_, _-_, _*_, _%_}
+use Prim.Native.Nat.{ℕ, _+_, _-_, _%_}
 use mathlib.Core.Bool.{cond}
 use mathlib.Core.List.{List, [], _∷_}
 use lib.Dec.{ltb}
@@ -8,6 +8,7 @@ use lib.ListN.{getD}
 use Rattle.shares.specs.Side.{other}
 use Rattle.shares.specs.Share.{constantShare}
 use Rattle.protocol.specs.Tests.{doubled, lowBit}
+use Rattle.protocol.specs.Products.{lowTriple}
 use Rattle.protocol.specs.Squares.{bitDifference}
 use Rattle.protocol.specs.Clear.{sharedBits, lowSumOf, wrapOf, halfOf}
 
@@ -45,7 +46,7 @@ halvesOf s t = halfOf (s .n) (s .x) (s .y) (s .xo) (s .yo) t
 
 -- by triple: the products A · w, then α · β of each test, S · T of each test, H · U and the last
 abbrev pub byTriple : ℕ → (ℕ → ℕ) → List ℕ → ℕ → ℕ
-byTriple n level rest i = cond (ltb i (3 * n)) (level i) (getD rest (i - 3 * n) 0)
+byTriple n level rest i = cond (ltb i (lowTriple n)) (level i) (getD rest (i - lowTriple n) 0)
 
 -- the values of the left factors behind A. Of α · β it is the box's own share: the other box's does not change
 abbrev pub leftValues : Shares → List ℕ
