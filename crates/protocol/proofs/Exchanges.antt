@@ -25,7 +25,7 @@ use Rattle.protocol.proofs.Live.{Live, message-live, after-live, answer
 use Rattle.protocol.specs.Change.{Shares, sharesOf, halvesOf}
 use Rattle.protocol.specs.Shift.{shifted}
 use Rattle.protocol.proofs.Rules.{matched-shifted}
-use Rattle.protocol.proofs.Paired.{round-1, round-2, round-3, round-4, round-5, round-6}
+use Rattle.protocol.proofs.Paired.{round-1, round-2, round-3, round-4, round-5, round-last}
 
 -- the last product's factors of one exchange
 module _ {n pair number side : ℕ} {own others : List ℕ} (m : Matched n pair number side own others) (x y xo yo : ℕ)
@@ -159,7 +159,7 @@ module _ {n pair number side : ℕ} {own others : List ℕ} (m : Matched n pair 
   unfolding lastLeft lastRight
   alike-5 =
       alike 5 live-5
-      (round-6 m x y x′ y′ xo yo (X 5 .own) (Y 5 .own) (X 5 .others) (Y 5 .others)
+      (round-last m x y x′ y′ xo yo (X 5 .own) (Y 5 .own) (X 5 .others) (Y 5 .others)
       (last-left m x y xo yo ly lyo w room room-o) (last-left m′ x′ y′ xo yo ly′ lyo w′ room′ room-o′)
       (last-right m x y xo yo ly lyo w room room-o) (last-right m′ x′ y′ xo yo ly′ lyo w′ room′ room-o′)
       (rw (live-5 .0 0 (omega arith), live-5 .0 1 (omega arith), live-5 .1 .0 0 (omega arith)))

@@ -85,9 +85,9 @@ module _ (q : Party) where
     message-5 h =
         openings-same q q (halfProduct q v) (halfProduct q v′) refl (λ i li. rw (h .0 0 (omega arith))) (λ i li. rw (h .0 1 (omega arith)))
 
-    message-6 : Live n 5 v v′ → message q v 6 ≡ message q v′ 6
+    message-last : Live n earlierRounds v v′ → message q v lastRound ≡ message q v′ lastRound
     unfolding message lastProduct lastLeft lastRight openLeft openRight
-    message-6 h =
+    message-last h =
         openings-same q q (lastProduct q v) (lastProduct q v′) refl
         (λ i li. rw (h .0 0 (omega arith), h .0 1 (omega arith), h .1 .0 0 (omega arith)))
         (λ i li. rw (h .0 2 (omega arith)))
@@ -96,7 +96,7 @@ module _ (q : Party) where
   unfolding message
   message-live r v v′ =
       by-round lastRound (λ r. Live n r v v′ → message q v (suc r) ≡ message q v′ (suc r))
-      (λ h. refl, (message-2 v v′, (message-3 v v′, (message-4 v v′, (message-5 v v′, (message-6 v v′, λ r h. refl)))))) r
+      (λ h. refl, (message-2 v v′, (message-3 v v′, (message-4 v v′, (message-5 v v′, (message-last v v′, λ r h. refl)))))) r
 
   pub answer-live : (v v′ incoming : List ℕ) → Live n earlierRounds v v′ → answerShare q v incoming ≡ answerShare q v′ incoming
   unfolding answerShare closing lastProduct lastLeft lastRight

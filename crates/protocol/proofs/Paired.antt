@@ -20,7 +20,7 @@ use Rattle.tape.proofs.Letters.{square-mask-below, group-inverse-below, triple-
 use Rattle.tape.proofs.Dealing.{own-readable}
 use Rattle.protocol.specs.Work.{sumSlot, wrapSlot, halfSlot, held}
 use Rattle.protocol.specs.Products.{Party, party, lowTriple, wrapTriple, halfTriple, lastTriple, openLeft, openRight}
-use Rattle.protocol.specs.Rounds.{squareWord, lowProducts, levelProducts, wrapProducts, halfProduct, lastLeft, lastRight, lastProduct, message}
+use Rattle.protocol.specs.Rounds.{squareWord, lowProducts, levelProducts, wrapProducts, halfProduct, lastLeft, lastRight, lastProduct, lastRound, message}
 use Rattle.protocol.proofs.ByRound.{by-round}
 use Rattle.protocol.proofs.Reading.{held-below}
 use Rattle.protocol.proofs.Live.{openings-same}
@@ -221,16 +221,16 @@ module _ {n pair number side : ℕ} {own others : List ℕ} (m : Matched n pair 
         (h 1 (omega arith) ⊙ cong-eq (sym (right-later s old (halfTriple n) 6 refl)))
         (as-kept (halfSlot n 1) _ _ (kept 1 (omega arith)) (h′ 1 (omega arith)) (sym (right-later s′ (newInverse s s′ own others) (halfTriple n) 6 refl)))))
 
-    pub round-6 :
+    pub round-last :
         Cong (modulus n) (lastLeft n side v + lastLeft n (other side) u) (1 - (halvesOf s 0 + halvesOf s 1) % 2)
         → Cong (modulus n) (lastLeft n side v′ + lastLeft n (other side) u′) (1 - (halvesOf s′ 0 + halvesOf s′ 1) % 2)
         → Cong (modulus n) (lastRight n side v + lastRight n (other side) u) (1 - halvesOf s 2)
         → Cong (modulus n) (lastRight n side v′ + lastRight n (other side) u′) (1 - halvesOf s′ 2)
         → lastLeft n (other side) u ≡ lastLeft n (other side) u′
         → lastRight n (other side) u ≡ lastRight n (other side) u′
-        → message b v 6 ≡ message b′ v′ 6
+        → message b v lastRound ≡ message b′ v′ lastRound
     unfolding message lastProduct openLeft openRight
-    round-6 hl hl′ hr hr′ kl kr =
+    round-last hl hl′ hr hr′ kl kr =
         openings-same b b′ (lastProduct b v) (lastProduct b′ v′) refl
         (λ i less. single
         (λ j. masked n (lastLeft n side v) (tripleLeft (section n 2 own) j) ≡ masked n (lastLeft n side v′) (tripleLeft (section n 2 t) j))
