@@ -11,7 +11,7 @@ use Rattle.lists.proofs.Tests.{and-left, and-right}
 use Rattle.field.specs.Subtraction.{minus}
 use Rattle.field.specs.Width.{listed, modulus}
 use Rattle.shares.specs.Side.{isSide, other as otherSide}
-use Rattle.shares.specs.Share.{constantShare, masked, opened, squareShare, productShare}
+use Rattle.shares.specs.Share.{constantShare, opened, squareShare, productShare}
 use Rattle.tape.specs.Layout.{section}
 use Rattle.tape.specs.Order.{trailerFits, bodyInRange, inOrder}
 use Rattle.tape.specs.Plain.{plainTape}

@@ -3,12 +3,16 @@ use Prim.Native.Nat.{ℕ, _+_, _-_, _*_, _%_, _<_, _≤_}
 use mathlib.Core.Path.{_≡_, refl, sym, ap, _∙_}
 use mathlib.Core.Bool.{Bool, true, false}
 use mathlib.Core.Logic.{_⊎_, inl, inr}
-use native.Mathlib.Nat.{add-zero, mod-eq-of-lt, mod-eq-sub-mod}
+use native.Mathlib.Nat.{le-of-lt, add-zero, mod-eq-of-lt, mod-eq-sub-mod}
 use native.Mathlib.Omega.{arith}
 use borrow.Author.Tests.{eqb-true, ltb-true, ltb-false, leb-true, leb-false}
 use lib.Dec.{eqb, leb, ltb}
 use Rattle.field.specs.Width.{modulus, listed}
+use Rattle.field.specs.Subtraction.{minus}
+use Rattle.field.specs.Congruence.{Cong}
 use Rattle.field.proofs.Widths.{each-listed}
+use Rattle.field.proofs.Congruences.{cong-eq, _⊙_, cong-multiple}
+use Rattle.field.proofs.Subtraction.{minus-unique}
 use Rattle.encoding.specs.Matching.{indicator}
 use Rattle.protocol.specs.Clear.{half}
 
@@ -81,50 +85,52 @@ half-bit p v odd l = go (sum-cases p v v l l) (less-cases (2 * v) p)
 
 -- ---- the comparison from the three half tests
 
--- x − y modulo p
-difference-cases : (p x y : ℕ) → x < p → y < p → ((x < y) × ((x + (p - y)) % p ≡ x + p - y)) ⊎ ((y ≤ x) × ((x + (p - y)) % p ≡ x - y))
-difference-cases p x y lx ly = go (less-cases x y)
+-- x − y
+difference-cases : (n x y : ℕ) → listed n ≡ true → x < modulus n → y < modulus n
+    → ((x < y) × (minus n x y ≡ x + modulus n - y)) ⊎ ((y ≤ x) × (minus n x y ≡ x - y))
+difference-cases n x y l lx ly = go (less-cases x y)
   where
     go : ((indicator (ltb x y) ≡ 1) × (x < y)) ⊎ ((indicator (ltb x y) ≡ 0) × (y ≤ x))
-        → ((x < y) × ((x + (p - y)) % p ≡ x + p - y)) ⊎ ((y ≤ x) × ((x + (p - y)) % p ≡ x - y))
+        → ((x < y) × (minus n x y ≡ x + modulus n - y)) ⊎ ((y ≤ x) × (minus n x y ≡ x - y))
     go (inl (one, less)) =
-        let few : x + (p - y) < p = omega arith in
-        inl (less, mod-eq-of-lt few ∙ omega arith)
-    go (inr (none, more)) =
-        let over : p ≤ x + (p - y) = omega arith in
-        let rest : x + (p - y) - p ≡ x - y = omega arith in
-        let few : x - y < p = omega arith in
-        inr (more, mod-eq-sub-mod over ∙ ap (λ (k : ℕ). k % p) rest ∙ mod-eq-of-lt few)
+        let once : Cong (modulus n) (x + modulus n - y + y) x = cong-eq {b = x + modulus n * 1} (omega arith) ⊙ cong-multiple 1 in
+        inl (less, minus-unique n x y _ l (le-of-lt ly) (omega arith) once)
+    go (inr (none, more)) = inr (more, minus-unique n x y _ l (le-of-lt ly) (omega arith) (cong-eq (omega arith)))
 
 -- the answer from the three half tests: with M = H · U, 1 if x < y is H − M + (1 − (H + U − 2M)) · (1 − Z)
-pub compared : (p x y : ℕ) → p % 2 ≡ 1 → x < p → y < p
-    → indicator (ltb x y) + half p x * half p y
-    ≡ half p x + (1 - (half p x + half p y) % 2) * (1 - half p ((x + (p - y)) % p))
-compared p x y odd lx ly =
-    go (difference-cases p x y lx ly) (less-cases x y) (less-cases (2 * x) p) (less-cases (2 * y) p) (less-cases (2 * ((x + (p - y)) % p)) p)
+pub compared : (n x y : ℕ) → listed n ≡ true → x < modulus n → y < modulus n
+    → let p = modulus n in
+    indicator (ltb x y) + half p x * half p y
+    ≡ half p x + (1 - (half p x + half p y) % 2) * (1 - half p (minus n x y))
+compared n x y l lx ly =
+    go (modulus-odd n l) (difference-cases n x y l lx ly) (less-cases x y) (less-cases (2 * x) p) (less-cases (2 * y) p) (less-cases (2 * minus n x y) p)
   where
-    z : ℕ
-    z = (x + (p - y)) % p
+    p : ℕ
+    p = modulus n
 
-    go : ((x < y) × (z ≡ x + p - y)) ⊎ ((y ≤ x) × (z ≡ x - y))
+    z : ℕ
+    z = minus n x y
+
+    go : p % 2 ≡ 1
+        → ((x < y) × (z ≡ x + p - y)) ⊎ ((y ≤ x) × (z ≡ x - y))
         → ((indicator (ltb x y) ≡ 1) × (x < y)) ⊎ ((indicator (ltb x y) ≡ 0) × (y ≤ x))
         → ((half p x ≡ 1) × (2 * x < p)) ⊎ ((half p x ≡ 0) × (p ≤ 2 * x))
         → ((half p y ≡ 1) × (2 * y < p)) ⊎ ((half p y ≡ 0) × (p ≤ 2 * y))
         → ((half p z ≡ 1) × (2 * z < p)) ⊎ ((half p z ≡ 0) × (p ≤ 2 * z))
         → indicator (ltb x y) + half p x * half p y ≡ half p x + (1 - (half p x + half p y) % 2) * (1 - half p z)
-    go (inl (d, e)) (inr (b, m)) h u w = absurd (omega arith)
-    go (inr (d, e)) (inl (b, m)) h u w = absurd (omega arith)
-    go (inl (d, e)) (inl (b, m)) (inl (h, lh)) (inl (u, lu)) (inl (w, lw)) = absurd (omega arith)
-    go (inl (d, e)) (inl (b, m)) (inl (h, lh)) (inl (u, lu)) (inr (w, lw)) = rw (b, h, u, w)
-    go (inl (d, e)) (inl (b, m)) (inl (h, lh)) (inr (u, lu)) (inl (w, lw)) = rw (b, h, u, w)
-    go (inl (d, e)) (inl (b, m)) (inl (h, lh)) (inr (u, lu)) (inr (w, lw)) = rw (b, h, u, w)
-    go (inl (d, e)) (inl (b, m)) (inr (h, lh)) (inl (u, lu)) w = absurd (omega arith)
-    go (inl (d, e)) (inl (b, m)) (inr (h, lh)) (inr (u, lu)) (inl (w, lw)) = absurd (omega arith)
-    go (inl (d, e)) (inl (b, m)) (inr (h, lh)) (inr (u, lu)) (inr (w, lw)) = rw (b, h, u, w)
-    go (inr (d, e)) (inr (b, m)) (inl (h, lh)) (inl (u, lu)) (inl (w, lw)) = rw (b, h, u, w)
-    go (inr (d, e)) (inr (b, m)) (inl (h, lh)) (inl (u, lu)) (inr (w, lw)) = absurd (omega arith)
-    go (inr (d, e)) (inr (b, m)) (inl (h, lh)) (inr (u, lu)) w = absurd (omega arith)
-    go (inr (d, e)) (inr (b, m)) (inr (h, lh)) (inl (u, lu)) (inl (w, lw)) = rw (b, h, u, w)
-    go (inr (d, e)) (inr (b, m)) (inr (h, lh)) (inl (u, lu)) (inr (w, lw)) = rw (b, h, u, w)
-    go (inr (d, e)) (inr (b, m)) (inr (h, lh)) (inr (u, lu)) (inl (w, lw)) = rw (b, h, u, w)
-    go (inr (d, e)) (inr (b, m)) (inr (h, lh)) (inr (u, lu)) (inr (w, lw)) = absurd (omega arith)
+    go odd (inl (d, e)) (inr (b, m)) h u w = absurd (omega arith)
+    go odd (inr (d, e)) (inl (b, m)) h u w = absurd (omega arith)
+    go odd (inl (d, e)) (inl (b, m)) (inl (h, lh)) (inl (u, lu)) (inl (w, lw)) = absurd (omega arith)
+    go odd (inl (d, e)) (inl (b, m)) (inl (h, lh)) (inl (u, lu)) (inr (w, lw)) = rw (b, h, u, w)
+    go odd (inl (d, e)) (inl (b, m)) (inl (h, lh)) (inr (u, lu)) (inl (w, lw)) = rw (b, h, u, w)
+    go odd (inl (d, e)) (inl (b, m)) (inl (h, lh)) (inr (u, lu)) (inr (w, lw)) = rw (b, h, u, w)
+    go odd (inl (d, e)) (inl (b, m)) (inr (h, lh)) (inl (u, lu)) w = absurd (omega arith)
+    go odd (inl (d, e)) (inl (b, m)) (inr (h, lh)) (inr (u, lu)) (inl (w, lw)) = absurd (omega arith)
+    go odd (inl (d, e)) (inl (b, m)) (inr (h, lh)) (inr (u, lu)) (inr (w, lw)) = rw (b, h, u, w)
+    go odd (inr (d, e)) (inr (b, m)) (inl (h, lh)) (inl (u, lu)) (inl (w, lw)) = rw (b, h, u, w)
+    go odd (inr (d, e)) (inr (b, m)) (inl (h, lh)) (inl (u, lu)) (inr (w, lw)) = absurd (omega arith)
+    go odd (inr (d, e)) (inr (b, m)) (inl (h, lh)) (inr (u, lu)) w = absurd (omega arith)
+    go odd (inr (d, e)) (inr (b, m)) (inr (h, lh)) (inl (u, lu)) (inl (w, lw)) = rw (b, h, u, w)
+    go odd (inr (d, e)) (inr (b, m)) (inr (h, lh)) (inl (u, lu)) (inr (w, lw)) = rw (b, h, u, w)
+    go odd (inr (d, e)) (inr (b, m)) (inr (h, lh)) (inr (u, lu)) (inl (w, lw)) = rw (b, h, u, w)
+    go odd (inr (d, e)) (inr (b, m)) (inr (h, lh)) (inr (u, lu)) (inr (w, lw)) = absurd (omega arith)

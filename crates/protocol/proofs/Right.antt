@@ -7,7 +7,6 @@ use native.Mathlib.Omega.{arith}
 use lib.Dec.{ltb}
 use lib.ListN.{length}
 use Rattle.field.specs.Width.{modulus, listed}
-use Rattle.field.specs.Subtraction.{minus}
 use Rattle.field.specs.Congruence.{Cong}
 use Rattle.field.proofs.Congruences.{cong-eq, _⊙_}
 use Rattle.shares.specs.Side.{other}
@@ -20,7 +19,7 @@ use Rattle.protocol.specs.Products.{Party, party}
 use Rattle.protocol.specs.Rounds.{earlierRounds, message}
 use Rattle.protocol.specs.Exchange.{Both, exchanged, sentOwn, sentOthers, answerOwn, answerOthers}
 use Rattle.protocol.specs.Clear.{valueOf, sharedBits, lowSumOf, wrapOf, half, halfOf}
-use Rattle.protocol.proofs.Halves.{compared, modulus-odd, indicator-bit}
+use Rattle.protocol.proofs.Halves.{compared, indicator-bit}
 use Rattle.protocol.proofs.Wraps.{inverseTotal}
 use Rattle.protocol.proofs.Values.{value-below}
 use Rattle.protocol.proofs.Lengths.{after-length}
@@ -103,7 +102,7 @@ module _ {n pair number side : ℕ} {t1 t2 : List ℕ} (m : Matched n pair numbe
       both-total-5 m x1 y1 x2 y2 (o 4) (t 4) (rooms 4 .own) (rooms 4 .other) _ _ (halves-4 0 (omega arith)) (halves-4 1 (omega arith))
 
   pub right : Cong (modulus n) (answerOwn b c w + answerOthers b c w) (indicator (ltb ((x1 + x2) % modulus n) ((y1 + y2) % modulus n)))
-  unfolding minus answerOwn answerOthers sentOwn sentOthers
+  unfolding answerOwn answerOthers sentOwn sentOthers
   right =
       let p = modulus n in
       let v = valueOf n x1 y1 x2 y2 in
@@ -112,4 +111,4 @@ module _ {n pair number side : ℕ} {t1 t2 : List ℕ} (m : Matched n pair numbe
       (half p (v 0)) (half p (v 1)) (half p (v 2)) (bit 0) (bit 1) (bit 2)
       (halves-5 0 (omega arith)) (halves-5 1 (omega arith)) (halves-5 2 (omega arith)) both
       (indicator (ltb (v 0) (v 1)))
-      (compared p (v 0) (v 1) (modulus-odd n l) (value-below n l x1 y1 x2 y2 0) (value-below n l x1 y1 x2 y2 1))
+      (compared n (v 0) (v 1) l (value-below n l x1 y1 x2 y2 0) (value-below n l x1 y1 x2 y2 1))

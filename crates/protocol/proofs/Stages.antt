@@ -12,13 +12,14 @@ use lib.ListN.{length, getD, List·getD-append}
 use Rattle.lists.specs.Tabulate.{tabulate}
 use Rattle.lists.proofs.Tabulate.{length-tabulate, getD-tabulate}
 use Rattle.lists.proofs.Sums.{sum-add}
+use Rattle.field.specs.Subtraction.{minus}
 use Rattle.field.proofs.Subtraction.{minus-total}
 use Rattle.field.specs.Width.{modulus, listed}
 use Rattle.field.specs.Congruence.{Cong}
 use Rattle.field.proofs.Congruences.{cong-refl, cong-eq, _⊙_, cong-mod, cong-add, cong-mul}
 use Rattle.field.proofs.Sums.{cong-sum}
 use Rattle.shares.specs.Side.{other}
-use Rattle.shares.specs.Share.{constantShare, masked, opened}
+use Rattle.shares.specs.Share.{constantShare, opened}
 use Rattle.shares.proofs.Products.{opened-both}
 use Rattle.tape.specs.Layout.{section, squareCount, groupCount}
 use Rattle.tape.specs.Dealt.{Matched}
@@ -276,8 +277,8 @@ module _ {n pair number side : ℕ} {t1 t2 : List ℕ} (m : Matched n pair numbe
         let k1 = closing b (lastProduct b v1) (message c v2 lastRound) 0 0 in
         let k2 = closing c (lastProduct c v2) (message b v1 lastRound) 0 0 in
         cong-add cong-mod cong-mod
-        ⊙ part n l (masked n h1 m1 + k1 + (masked n h2 m2 + k2)) (m1 + m2) (h + (1 - (h + u) % 2) * (1 - z)) (h * u)
-        (cong-eq {b = (masked n h1 m1 + masked n h2 m2 + (m1 + m2)) + (k1 + k2)} (omega arith)
+        ⊙ part n l (minus n h1 m1 + k1 + (minus n h2 m2 + k2)) (m1 + m2) (h + (1 - (h + u) % 2) * (1 - z)) (h * u)
+        (cong-eq {b = (minus n h1 m1 + minus n h2 m2 + (m1 + m2)) + (k1 + k2)} (omega arith)
         ⊙ cong-add
         (minus-total n h1 h2 m1 m2 (le-of-lt (held-below n v1 (bothSlot n) l)) (le-of-lt (held-below n v2 (bothSlot n) l)) ⊙ hh)
         (closed-total m (lastTriple n + 0) (omega arith) (lastLeft n side v1) (lastRight n side v1) (lastLeft n (other side) v2) (lastRight n (other side) v2)
