@@ -12,7 +12,7 @@ use Rattle.tape.proofs.Keys.{order-alike}
 use Rattle.rules.specs.Modes.{modeOf, isAsleep}
 use Rattle.rules.specs.Grounds.{startGround}
 use Rattle.guarantees.specs.Boxes.{Box, sideOf}
-use Rattle.guarantees.specs.Keys.{Key, keyAt}
+use Rattle.guarantees.specs.Keys.{Key, jobKey, keyAt}
 use Rattle.guarantees.specs.Entries.{Lent, dealt, loose, Incoming, Step, wake, start, speak, hear, drop, cut, cutStart}
 use Rattle.guarantees.specs.Run.{Setting, Memory, World, memoryOf, tapeWords}
 use Rattle.guarantees.specs.Premises.{TrueMessage, Keeps, InBoth, Compatible}
@@ -21,7 +21,7 @@ use Rattle.guarantees.proofs.Jobs.{InOrder}
 use Rattle.guarantees.proofs.LowEquivalence.{LowMemory, LowEquivalent}
 use Rattle.guarantees.proofs.LowModes.{asleep-same}
 use Rattle.guarantees.proofs.Refusals.{SharesAlike, start-same}
-use Rattle.guarantees.proofs.StepConsistency.{SameGround, keyAtWidth}
+use Rattle.guarantees.proofs.StepConsistency.{SameGround}
 use Rattle.guarantees.proofs.Outcomes.{uncover-message}
 
 -- ---- shares
@@ -90,7 +90,7 @@ module _ (g g′ : Setting) (pair : ℕ) (orders : InOrder g pair) (orders′ : 
 
 -- a call names the same job in both
 pub key-same : {w w′ : World} (k : LowEquivalent w w′) (c : Box) (number : ℕ) → keyAt (memoryOf w c .state) number ≡ keyAt (memoryOf w′ c .state) number
-key-same k c number = ap (keyAtWidth number) (k .memories c .state .n)
+key-same k c number = ap (jobKey number) (k .memories c .state .n)
 
 module _ (w w′ : World) (k : LowEquivalent w w′) where
   -- a message true in the first run is true in the second

@@ -10,7 +10,7 @@ use Rattle.protocol.specs.Shift.{shifted}
 use Rattle.protocol.specs.Pairing.{Moves}
 use Rattle.protocol.proofs.Secrecy.{moves}
 use Rattle.guarantees.specs.Boxes.{Box, box1, box2, sideOf, otherBox}
-use Rattle.guarantees.specs.Keys.{Key}
+use Rattle.guarantees.specs.Keys.{Key, jobKey}
 use Rattle.guarantees.specs.Entries.{Step, wake, start, speak, hear, drop, cut, cutStart, Entry}
 use Rattle.guarantees.specs.Run.{Lending, Setting, Event, World, stepped}
 use Rattle.guarantees.specs.Premises.{AtFirst, Meets, Compatible, AllCompatible}
@@ -36,7 +36,7 @@ matching-listed c b number n tape m = readable n (c .pair) (sideOf b) number tap
 
 -- one tape, moved by the shares that a log finds
 moves-at : (c : Common) (b : Box) (log : List Event) (shares shares′ : ℕ → Lending) (number n : ℕ) → listed n ≡ true
-    → let key : Key = record { number = number; width = n } in
+    → let key = jobKey number n in
     let v = jobShares c b log shares key in
     let v′ = jobShares c b log shares′ key in
     Moves n (c .pair) number (sideOf b) (v .x) (v .y) (v′ .x) (v′ .y) (v .xo) (v .yo) (c .others number n)
@@ -205,13 +205,13 @@ module _ (c : Common) (b : Box) (shares shares′ : ℕ → Lending) where
   same-move : (e e′ : Witness c b shares shares′) (number n : ℕ) (tape : List ℕ)
       → thereBy c b (logOf e) shares shares′ number n tape ≡ thereBy c b (logOf e′) shares shares′ number n tape
   same-move e e′ number n tape =
-      let key : Key = record { number = number; width = n } in
+      let key = jobKey number n in
       rw (same-logs e e′ b key, same-logs e e′ (otherBox b) key) refl
 
   same-move-back : (e e′ : Witness c b shares shares′) (number n : ℕ) (tape : List ℕ)
       → backBy c b (logOf e) shares shares′ number n tape ≡ backBy c b (logOf e′) shares shares′ number n tape
   same-move-back e e′ number n tape =
-      let key : Key = record { number = number; width = n } in
+      let key = jobKey number n in
       rw (same-logs e e′ b key, same-logs e e′ (otherBox b) key) refl
 
 pub secrecy : Secrecy

@@ -20,7 +20,7 @@ use Rattle.rules.specs.declared.state.Phase.{Phase}
 use Rattle.rules.specs.declared.state.Phase.the-variants.{Idle}
 use Rattle.rules.specs.declared.state.State.{State}
 use Rattle.guarantees.specs.Boxes.{Box, box1, box2}
-use Rattle.guarantees.specs.Keys.{Key, keyOf, openKey}
+use Rattle.guarantees.specs.Keys.{jobKey, keyOf, openKey}
 use Rattle.guarantees.specs.Entries.{Step, wake, start, speak, hear, drop, cut, cutStart}
 use Rattle.guarantees.specs.Run.{Setting, Memory, nothing, lost, replied, Event, World, memoryOf, after, tapeWords, incomingWords, spokenWords, afterCut, stepped}
 use Rattle.guarantees.specs.View.{covered}
@@ -188,9 +188,6 @@ after-low {w} {w′} {m} {m′} {e} {e′} b k t more =
     each box2 box1 = k .memories box1
     each box2 box2 = t
 
-abbrev pub keyAtWidth : ℕ → ℕ → Key
-keyAtWidth number n = record { number = number; width = n }
-
 -- low-equivalent states have the same job open
 open-key : {s s′ : State} → LowState s s′ → openKey s ≡ openKey s′
 open-key {s} {s′} t = phase-key (mode-low t) ∙ ap (λ (n : ℕ). keyOf n (modeOf s′)) (t .n)
@@ -216,14 +213,14 @@ step-consistent g g′ place w w′ b (start number lent) k same-ground =
     (t .tally) same-ground in
     after-low b k
     (record { state = r .state; tally = r .buffer; room = t .room })
-    (record { box = refl; key = ap (keyAtWidth number) (t .state .n); round = refl; said = r .reply; long = refl })
+    (record { box = refl; key = ap (jobKey number) (t .state .n); round = refl; said = r .reply; long = refl })
 step-consistent g g′ place w w′ b (speak number round lent out) k same-ground =
     let t = k .memories b in
     let r =
     speak-low (t .state) number round (tapeWords g lent) (tapeWords g′ lent) (memoryOf w b .work) (memoryOf w′ b .work) out same-ground in
     after-low b k
     (record { state = r .state; tally = t .tally; room = t .room })
-    (record { box = refl; key = ap (keyAtWidth number) (t .state .n); round = refl; said = r .reply; long = r .buffer })
+    (record { box = refl; key = ap (jobKey number) (t .state .n); round = refl; said = r .reply; long = r .buffer })
 step-consistent g g′ place w w′ b (hear number round lent incoming) k same-ground =
     let t = k .memories b in
     let r =
@@ -231,7 +228,7 @@ step-consistent g g′ place w w′ b (hear number round lent incoming) k same-g
     (incomingWords (w .log) incoming) (incomingWords (w′ .log) incoming) (t .room) same-ground in
     after-low b k
     (record { state = r .state; tally = t .tally; room = r .buffer })
-    (record { box = refl; key = ap (keyAtWidth number) (t .state .n); round = refl; said = r .reply; long = refl })
+    (record { box = refl; key = ap (jobKey number) (t .state .n); round = refl; said = r .reply; long = refl })
 step-consistent g g′ place w w′ b drop k same-ground =
     let t = k .memories b in
     let r = drop-low (t .state) in

@@ -8,7 +8,7 @@ use Rattle.field.specs.Width.{modulus}
 use Rattle.protocol.specs.Change.{Shares, sharesOf}
 use Rattle.protocol.specs.Shift.{shifted}
 use Rattle.guarantees.specs.Boxes.{Box, box1, box2, sideOf, otherBox}
-use Rattle.guarantees.specs.Keys.{Key}
+use Rattle.guarantees.specs.Keys.{Key, jobKey}
 use Rattle.guarantees.specs.Run.{Lending, Event}
 use Rattle.guarantees.specs.Outcomes.{kindOf, isOpening}
 use Rattle.guarantees.specs.Comparison.{Common, TapeMap}
@@ -48,7 +48,7 @@ jobShares c b log shares key =
 
 abbrev pub moved : Common → Box → List Event → (ℕ → Lending) → (ℕ → Lending) → TapeMap
 moved c b log shares shares′ number n tape =
-    let key : Key = record { number = number; width = n } in
+    let key = jobKey number n in
     shifted (jobShares c b log shares key) (jobShares c b log shares′ key) tape (c .others number n)
 
 -- from the first shares to the second, and from the second to the first

@@ -13,7 +13,7 @@ use Rattle.rules.specs.Answers.{share}
 use Rattle.rules.specs.Grounds.{startGround}
 use Rattle.rules.specs.declared.state.Phase.the-variants.{Asleep}
 use Rattle.guarantees.specs.Boxes.{Box, box1, box2, sideOf, otherBox}
-use Rattle.guarantees.specs.Keys.{Key}
+use Rattle.guarantees.specs.Keys.{Key, jobKey}
 use Rattle.guarantees.specs.Entries.{dealt, spokenAt, Step, wake, start, speak, hear, cutStart, Entry}
 use Rattle.guarantees.specs.Run.{Lending, replied, Event, eventAt, tapeWords, run}
 use Rattle.guarantees.specs.Comparison.{TapeSet, Valid, Common, Loose, worldOf, settingOf, events, Premises}
@@ -55,7 +55,7 @@ b does s = record { box = b; step = s }
 
 -- the job on tape 0
 abbrev pub tape0 : Key
-tape0 = record { number = 0; width = 3 }
+tape0 = jobKey 0 3
 
 abbrev pub wakes : Box → Entry
 wakes b = b does wake 3 (sideOf b) pairNumber

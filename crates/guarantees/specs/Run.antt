@@ -13,7 +13,7 @@ use Rattle.rules.specs.Grounds.{startGround}
 use Rattle.rules.specs.Calls.{Result, wakeRule, startRule, speakRule, hearRule, dropRule}
 use Rattle.rules.specs.declared.state.State.{State}
 use Rattle.guarantees.specs.Boxes.{Box, box1, box2}
-use Rattle.guarantees.specs.Keys.{Key, keyAt, openKey}
+use Rattle.guarantees.specs.Keys.{Key, jobKey, keyAt, openKey}
 use Rattle.guarantees.specs.Entries.{Lent, dealt, loose, Incoming, spokenAt, other, Step, wake, start, speak, hear, drop, cut, cutStart, Entry}
 
 -- the two shares lent at a start
@@ -64,7 +64,7 @@ after w box1 m e = record { memory1 = m; memory2 = w .memory2; log = w .log ++ (
 after w box2 m e = record { memory1 = w .memory1; memory2 = m; log = w .log ++ (e ∷ []) }
 
 abbrev pub quiet : Event
-quiet = record { box = box1; key = record { number = 0; width = 0 }; round = 0; said = nothing; spoken = []; incoming = [] }
+quiet = record { box = box1; key = jobKey 0 0; round = 0; said = nothing; spoken = []; incoming = [] }
 
 -- the place k of the log
 abbrev pub eventAt : List Event → ℕ → Event
@@ -110,7 +110,7 @@ stepped g place w b (wake n side pair) =
     let m = memoryOf w b in
     let r = wakeRule (m .state) n side pair (m .tally) in
     after w b (record { state = r .state; work = m .work; tally = m .tally })
-    (record { box = b; key = record { number = 0; width = n }; round = 0; said = replied (r .reply); spoken = []; incoming = [] })
+    (record { box = b; key = jobKey 0 n; round = 0; said = replied (r .reply); spoken = []; incoming = [] })
 stepped g place w b (start number lent) =
     let m = memoryOf w b in
     let r = startRule (m .state) number (g .shares b place .x) (g .shares b place .y) (tapeWords g lent) (m .work) (m .tally) in
