@@ -261,13 +261,13 @@ module _ (g : Setting) (book : Box → Key → Lending) where
     pub holds : Holds b (record { state = r .state; work = r .buffer; tally = m .tally })
     pub answer : Conforms (record { box = b; key = keyAt (m .state) number; round = round; said = replied (r .reply); spoken = []; incoming = incoming }) (kindOf (replied (r .reply)))
 
-  module _ (b : Box) (m : Memory) (number round : ℕ) (tape words : List ℕ) (j : Going b m number round (Hear round) tape)
-      (true-words : words ≡ sentBy (g .tapes) book (otherBox b) (keyAt (m .state) number) round) where
+  module _ (b : Box) (m : Memory) (number round : ℕ) (tape incoming : List ℕ) (j : Going b m number round (Hear round) tape)
+      (true-words : incoming ≡ sentBy (g .tapes) book (otherBox b) (keyAt (m .state) number) round) where
     n : ℕ
     n = m .state .n
 
     -- what is held after the round is what the exchange gives
-    live-next : Live (m .state .n) (suc (j .inside .heard)) (afterHearing (partyOf (m .state) tape) (m .work) round words)
+    live-next : Live (m .state .n) (suc (j .inside .heard)) (afterHearing (partyOf (m .state) tape) (m .work) round incoming)
         (holding (g .tapes) book b (keyAt (m .state) number) (suc (j .inside .heard)))
     live-next =
         let i = j .inside in
@@ -276,38 +276,38 @@ module _ (g : Setting) (book : Box → Key → Lending) where
         (sentBy (g .tapes) book (otherBox b) (keyAt (m .state) number) (suc (i .heard))) (i .room) (holding-room (g .tapes) book b (keyAt (m .state) number) (i .heard)) (i .heard) (i .live))
 
     -- the answer share of the last round
-    answer-last : round ≡ lastRound → answerShare (partyOf (m .state) tape) (m .work) words ≡ answerBy (g .tapes) book b (keyAt (m .state) number)
+    answer-last : round ≡ lastRound → answerShare (partyOf (m .state) tape) (m .work) incoming ≡ answerBy (g .tapes) book b (keyAt (m .state) number)
     answer-last e =
         let i = j .inside in
-        let five : i .heard ≡ earlierRounds = omega (arith, i .count) in
+        let all-earlier : i .heard ≡ earlierRounds = omega (arith, i .count) in
         let live : Live (m .state .n) earlierRounds (m .work) (holding (g .tapes) book b (keyAt (m .state) number) earlierRounds) =
-        subst (λ (k : ℕ). Live (m .state .n) k (m .work) (holding (g .tapes) book b (keyAt (m .state) number) k)) five (i .live) in
+        subst (λ (k : ℕ). Live (m .state .n) k (m .work) (holding (g .tapes) book b (keyAt (m .state) number) k)) all-earlier (i .live) in
         rw (j .party-is, true-words, e)
         (answer-live (partyAt (g .tapes) book b (keyAt (m .state) number)) (m .work) (holding (g .tapes) book b (keyAt (m .state) number) earlierRounds)
         (sentBy (g .tapes) book (otherBox b) (keyAt (m .state) number) lastRound) live
         ∙ sym (answer-is (g .tapes) book b (keyAt (m .state) number)))
 
-    hear-goes : Heard b m number round words
+    hear-goes : Heard b m number round incoming
         (cond (eqb round lastRound)
         (record {
-          reply = share (answerShare (partyOf (m .state) tape) (m .work) words);
+          reply = share (answerShare (partyOf (m .state) tape) (m .work) incoming);
           state = inPhase (m .state) Idle;
-          buffer = afterHearing (partyOf (m .state) tape) (m .work) round words;
+          buffer = afterHearing (partyOf (m .state) tape) (m .work) round incoming;
         })
         (record {
           reply = heard;
           state = inPhase (m .state) (turned (m .state .phase) (Speak (round + 1)));
-          buffer = afterHearing (partyOf (m .state) tape) (m .work) round words;
+          buffer = afterHearing (partyOf (m .state) tape) (m .work) round incoming;
         }))
     hear-goes = go (eqb round lastRound) refl
       where
         work′ : List ℕ
-        work′ = afterHearing (partyOf (m .state) tape) (m .work) round words
+        work′ = afterHearing (partyOf (m .state) tape) (m .work) round incoming
 
         go : (t : Bool) → eqb round lastRound ≡ t
-            → Heard b m number round words
+            → Heard b m number round incoming
             (cond t
-            (record { reply = share (answerShare (partyOf (m .state) tape) (m .work) words); state = inPhase (m .state) Idle; buffer = work′ })
+            (record { reply = share (answerShare (partyOf (m .state) tape) (m .work) incoming); state = inPhase (m .state) Idle; buffer = work′ })
             (record { reply = heard; state = inPhase (m .state) (turned (m .state .phase) (Speak (round + 1))); buffer = work′ }))
         go true e =
             record {
@@ -324,7 +324,7 @@ module _ (g : Setting) (book : Box → Key → Lending) where
                     (record {
                       x-is = j .inside .x-is;
                       y-is = j .inside .y-is;
-                      room = rw (after-length (partyOf (m .state) tape) (m .work) words round) (j .inside .room);
+                      room = rw (after-length (partyOf (m .state) tape) (m .work) incoming round) (j .inside .room);
                       heard = suc (j .inside .heard);
                       count = omega (arith, j .inside .count);
                       live = live-next;
@@ -333,17 +333,17 @@ module _ (g : Setting) (book : Box → Key → Lending) where
               answer = refl;
             }
 
-  hear-holds : (pair : ℕ) (orders : InOrder g pair) (b : Box) (m : Memory) (number round : ℕ) (lent : Lent) (words : List ℕ) → Holds b m
-      → (hearGround (m .state) number round (tapeWords g lent) (m .work) words ≡ 0
-      → (lent ≡ dealt b number (m .state .n)) × (words ≡ sentBy (g .tapes) book (otherBox b) (keyAt (m .state) number) round))
-      → Heard b m number round words (hearRule (m .state) number round (tapeWords g lent) (m .work) words)
+  hear-holds : (pair : ℕ) (orders : InOrder g pair) (b : Box) (m : Memory) (number round : ℕ) (lent : Lent) (incoming : List ℕ) → Holds b m
+      → (hearGround (m .state) number round (tapeWords g lent) (m .work) incoming ≡ 0
+      → (lent ≡ dealt b number (m .state .n)) × (incoming ≡ sentBy (g .tapes) book (otherBox b) (keyAt (m .state) number) round))
+      → Heard b m number round incoming (hearRule (m .state) number round (tapeWords g lent) (m .work) incoming)
   unfolding hearRule
-  hear-holds pair orders b m number round lent words h keeps =
-      decide (Heard b m number round words) (hearGround (m .state) number round (tapeWords g lent) (m .work) words) (m .state) (m .work) _
+  hear-holds pair orders b m number round lent incoming h keeps =
+      decide (Heard b m number round incoming) (hearGround (m .state) number round (tapeWords g lent) (m .work) incoming) (m .state) (m .work) _
       (λ zero-ground.
-      let p = hear-passed (m .state) number round (tapeWords g lent) (m .work) words zero-ground in
+      let p = hear-passed (m .state) number round (tapeWords g lent) (m .work) incoming zero-ground in
       let k = keeps zero-ground in
-      hear-goes b m number round (tapeWords g lent) words
+      hear-goes b m number round (tapeWords g lent) incoming
       (going pair orders b m number round (Hear round) lent h (p .turn .awake) (p .turn .due) (p .turn .ordered) (k .0)) (k .1))
       (record { holds = kept b m (m .tally) h; answer = refl })
 

@@ -54,8 +54,8 @@ pub record Grown (log log′ : List Event) : Type 0 where
 -- ---- the marks over one entry
 
 -- an event of the other box opens nothing here
-elsewhere : (b c : Box) (number : ℕ) (e : Event) → sameBox b c ≡ false → e .box ≡ c → opens b number e ≡ false
-elsewhere b c number e differ at = ap (λ (d : Box). sameBox b d && eqb number (e .key .number) && isOpening (kindOf (e .said))) at ∙ rw differ
+elsewhere : (own other : Box) (number : ℕ) (e : Event) → sameBox own other ≡ false → e .box ≡ other → opens own number e ≡ false
+elsewhere own other number e differ at = ap (λ (box : Box). sameBox own box && eqb number (e .key .number) && isOpening (kindOf (e .said))) at ∙ rw differ
 
 -- an entry at box c that leaves a tally there, with an event of that box
 marked-after : (w : World) (c : Box) (m : Memory) (e : Event) → Marked w → e .box ≡ c
@@ -86,11 +86,11 @@ unfolding speakRule
 speak-opens s number round tape work out =
     decide (λ r. isOpening (kindOf (replied (r .reply))) ≡ false) (speakGround s number round tape work out) s out _ (λ z. refl) refl
 
-hear-opens : (s : State) (number round : ℕ) (tape work words : List ℕ) → isOpening (kindOf (replied (hearRule s number round tape work words .reply))) ≡ false
+hear-opens : (s : State) (number round : ℕ) (tape work incoming : List ℕ) → isOpening (kindOf (replied (hearRule s number round tape work incoming .reply))) ≡ false
 unfolding hearRule
-hear-opens s number round tape work words =
-    decide (λ r. isOpening (kindOf (replied (r .reply))) ≡ false) (hearGround s number round tape work words) s work _
-    (λ z. last (eqb round lastRound) (answerShare (partyOf s tape) work words) _ _ _) refl
+hear-opens s number round tape work incoming =
+    decide (λ r. isOpening (kindOf (replied (r .reply))) ≡ false) (hearGround s number round tape work incoming) s work _
+    (λ z. last (eqb round lastRound) (answerShare (partyOf s tape) work incoming) _ _ _) refl
   where
     last : (t : Bool) (v : ℕ) (s1 s2 : State) (buffer : List ℕ)
         → isOpening
@@ -204,7 +204,7 @@ dull-more w b m e dull =
       fresh = λ c number opening. absurd (false≢true (sym (not-opening c number e dull) ∙ opening));
     }
 
-pub same-box : (b c : Box) → sameBox b c ≡ true → b ≡ c
+pub same-box : (own other : Box) → sameBox own other ≡ true → own ≡ other
 same-box box1 box1 e = refl
 same-box box1 box2 e = absurd (false≢true e)
 same-box box2 box1 e = absurd (false≢true e)
@@ -218,12 +218,12 @@ start-fresh s number x y tape work tally =
     (λ zero-ground h. start-passed s number x y tape work tally zero-ground .fresh) (λ h. absurd (false≢true h))
 
 -- an opening is of its own box and number
-opening-fresh : (w : World) (b c : Box) (number k : ℕ) (t : Bool) → (t ≡ true → isFresh (memoryOf w b .tally) number ≡ true)
-    → sameBox c b && eqb k number && t ≡ true → isFresh (memoryOf w c .tally) k ≡ true
-opening-fresh w b c number k t fresh-there e =
-    let both = and-left (sameBox c b && eqb k number) t e in
-    rw (same-box c b (and-left (sameBox c b) (eqb k number) both), eqb-true k number (and-right (sameBox c b) (eqb k number) both))
-    (fresh-there (and-right (sameBox c b && eqb k number) t e))
+opening-fresh : (w : World) (own other : Box) (number k : ℕ) (t : Bool) → (t ≡ true → isFresh (memoryOf w own .tally) number ≡ true)
+    → sameBox other own && eqb k number && t ≡ true → isFresh (memoryOf w other .tally) k ≡ true
+opening-fresh w own other number k t fresh-there e =
+    let both = and-left (sameBox other own && eqb k number) t e in
+    rw (same-box other own (and-left (sameBox other own) (eqb k number) both), eqb-true k number (and-right (sameBox other own) (eqb k number) both))
+    (fresh-there (and-right (sameBox other own && eqb k number) t e))
 
 pub one-more : (g : Setting) (place : ℕ) (w : World) (b : Box) (step : Step) → OneMore w (stepped g place w b step .log)
 unfolding stepped

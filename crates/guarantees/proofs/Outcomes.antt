@@ -129,13 +129,13 @@ pub uncover-message : (s : Said) (k : ℕ) → covered s ≡ replied (spoke k) �
 uncover-message s k e = sym (known s .shown (ap isAnswer (sym (known s .kept) ∙ ap kindOf e))) ∙ e
 
 -- covered at a box or not, it is of the same kind
-pub kind-at : (b c : Box) (s : Said) → kindOf (saidAt b c s) ≡ kindOf s
+pub kind-at : (hidden own : Box) (s : Said) → kindOf (saidAt hidden own s) ≡ kindOf s
 kind-at box1 box1 s = known s .kept
 kind-at box1 box2 s = refl
 kind-at box2 box1 s = refl
 kind-at box2 box2 s = known s .kept
 
-pub said-at : (b c : Box) (s s′ : Said) → covered s ≡ covered s′ → (c ≡ otherBox b → s ≡ s′) → saidAt b c s ≡ saidAt b c s′
+pub said-at : (hidden own : Box) (s s′ : Said) → covered s ≡ covered s′ → (own ≡ otherBox hidden → s ≡ s′) → saidAt hidden own s ≡ saidAt hidden own s′
 said-at box1 box1 s s′ e whole = e
 said-at box1 box2 s s′ e whole = whole refl
 said-at box2 box1 s s′ e whole = whole refl

@@ -20,22 +20,22 @@ use Rattle.guarantees.specs.Jobs.{blank, partyAt, sentBy, answerBy}
 abbrev swap : Both → Both
 swap w = record { own = w .others; others = w .own }
 
-exchanged-swap : (p q : Party) (w : Both) (r : ℕ) → exchanged q p (swap w) r ≡ swap (exchanged p q w r)
+exchanged-swap : (own others : Party) (w : Both) (r : ℕ) → exchanged others own (swap w) r ≡ swap (exchanged own others w r)
 unfolding exchanged
-exchanged-swap p q w zero = refl
-exchanged-swap p q w (suc r) = rw (exchanged-swap p q w r)
+exchanged-swap own others w zero = refl
+exchanged-swap own others w (suc r) = rw (exchanged-swap own others w r)
 
-own-swap : (p q : Party) (w : Both) (r : ℕ) → sentOwn q p (swap w) (suc r) ≡ sentOthers p q w (suc r)
+own-swap : (own others : Party) (w : Both) (r : ℕ) → sentOwn others own (swap w) (suc r) ≡ sentOthers own others w (suc r)
 unfolding sentOwn sentOthers
-own-swap p q w r = rw (exchanged-swap p q w r)
+own-swap own others w r = rw (exchanged-swap own others w r)
 
-others-swap : (p q : Party) (w : Both) (r : ℕ) → sentOthers q p (swap w) (suc r) ≡ sentOwn p q w (suc r)
+others-swap : (own others : Party) (w : Both) (r : ℕ) → sentOthers others own (swap w) (suc r) ≡ sentOwn own others w (suc r)
 unfolding sentOwn sentOthers
-others-swap p q w r = rw (exchanged-swap p q w r)
+others-swap own others w r = rw (exchanged-swap own others w r)
 
-answer-swap : (p q : Party) (w : Both) → answerOthers q p (swap w) ≡ answerOwn p q w
+answer-swap : (own others : Party) (w : Both) → answerOthers others own (swap w) ≡ answerOwn own others w
 unfolding answerOwn answerOthers
-answer-swap p q w = rw (exchanged-swap p q w earlierRounds, own-swap p q w earlierRounds)
+answer-swap own others w = rw (exchanged-swap own others w earlierRounds, own-swap own others w earlierRounds)
 
 -- ---- alike under two tapes and two pairs of shares of box b
 

@@ -191,23 +191,23 @@ module _ (g g′ : Setting) (pair : ℕ) (orders : InOrder g pair) (orders′ : 
   narrow-below w w′ c (wake n side p) j narrow = tt
   narrow-below w w′ c (start number lent) j narrow = tt
   narrow-below w w′ c (speak number round lent out) j narrow = tt
-  narrow-below w w′ c (hear number round lent (spokenAt place)) j narrow = λ taken. go (wordsFit (m .state .n) words) refl taken
+  narrow-below w w′ c (hear number round lent (spokenAt place)) j narrow = λ taken. go (wordsFit (m .state .n) incoming) refl taken
     where
       m : Memory
       m = memoryOf w c
 
-      words : List ℕ
-      words = eventAt (w .log) place .spoken
+      incoming : List ℕ
+      incoming = eventAt (w .log) place .spoken
 
-      go : (b : Bool) → wordsFit (m .state .n) words ≡ b
+      go : (b : Bool) → wordsFit (m .state .n) incoming ≡ b
           → hearGround (memoryOf w′ c .state) number round (tapeWords g′ lent) (memoryOf w′ c .work) (eventAt (w′ .log) place .spoken) ≡ 0
-          → wordsFit (m .state .n) words ≡ true
+          → wordsFit (m .state .n) incoming ≡ true
       go true fits taken = fits
       go false unfit taken =
           let t = j .low .memories c in
           narrow-fits (w .log) (j .fits) (m .state .n) place
           (narrow
-          (hear-thirteen number round _ _ _ _ words _ (t .state) (t .room)
+          (hear-thirteen number round _ _ _ _ incoming _ (t .state) (t .room)
           (order-same g g′ pair orders orders′ (m .state .n) (m .state .pair) (m .state .side) number lent)
           (j .low .events place .long) taken unfit))
   narrow-below w w′ c (hear number round lent (other words)) j narrow =

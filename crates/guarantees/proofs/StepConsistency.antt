@@ -182,7 +182,7 @@ after-low {w} {w′} {m} {m′} {e} {e′} b k t more =
       events = λ i. rw (after-log w b m e, after-log w′ b m′ e′) (events-more (w .log) (w′ .log) (k .places) (k .events) more i);
     }
   where
-    each : (b c : Box) → LowMemory (memoryOf (after w b m e) c) (memoryOf (after w′ b m′ e′) c)
+    each : (own other : Box) → LowMemory (memoryOf (after w own m e) other) (memoryOf (after w′ own m′ e′) other)
     each box1 box1 = t
     each box1 box2 = k .memories box2
     each box2 box1 = k .memories box1

@@ -128,12 +128,12 @@ stepped g place w b (speak number round lent out) =
       spoken = spokenWords (r .reply) (r .buffer);
       incoming = [];
     })
-stepped g place w b (hear number round lent incoming) =
+stepped g place w b (hear number round lent named) =
     let m = memoryOf w b in
-    let words = incomingWords (w .log) incoming in
-    let r = hearRule (m .state) number round (tapeWords g lent) (m .work) words in
+    let incoming = incomingWords (w .log) named in
+    let r = hearRule (m .state) number round (tapeWords g lent) (m .work) incoming in
     after w b (record { state = r .state; work = r .buffer; tally = m .tally })
-    (record { box = b; key = keyAt (m .state) number; round = round; said = replied (r .reply); spoken = []; incoming = words })
+    (record { box = b; key = keyAt (m .state) number; round = round; said = replied (r .reply); spoken = []; incoming = incoming })
 stepped g place w b drop =
     let m = memoryOf w b in
     let r = dropRule (m .state) in

@@ -70,40 +70,40 @@ module _ {n pair number side : ℕ} {own others : List ℕ} (m : Matched n pair 
   m′ : Matched n pair number side t others
   m′ = matched-shifted m x y x′ y′ xo yo
 
-  abbrev pub b : Party
-  b = party n side x y own
+  abbrev pub ownBox : Party
+  ownBox = party n side x y own
 
-  abbrev pub b′ : Party
-  b′ = party n side x′ y′ t
+  abbrev pub ownBox′ : Party
+  ownBox′ = party n side x′ y′ t
 
-  abbrev pub c : Party
-  c = party n (other side) xo yo others
+  abbrev pub otherBox : Party
+  otherBox = party n (other side) xo yo others
 
   l : listed n ≡ true
   l = own-readable m .width
 
   -- the two boxes' work, in the first exchange and in the second
   abbrev X : ℕ → Both
-  X r = exchanged b c w r
+  X r = exchanged ownBox otherBox w r
 
   abbrev Y : ℕ → Both
-  Y r = exchanged b′ c w′ r
+  Y r = exchanged ownBox′ otherBox w′ r
 
   -- after r rounds: the other box goes on with the same, and the next messages are the same
   pub record Alike (r : ℕ) : Type 0 where
     pub live : Live n r (X r .others) (Y r .others)
-    pub own-same : message b (X r .own) (suc r) ≡ message b′ (Y r .own) (suc r)
-    pub other-same : message c (X r .others) (suc r) ≡ message c (Y r .others) (suc r)
+    pub own-same : message ownBox (X r .own) (suc r) ≡ message ownBox′ (Y r .own) (suc r)
+    pub other-same : message otherBox (X r .others) (suc r) ≡ message otherBox (Y r .others) (suc r)
 
   -- what the other box holds after the next round
   next-live : (r : ℕ) → workLength n ≤ length (X r .others) → workLength n ≤ length (Y r .others) → Alike r → Live n (suc r) (X (suc r) .others) (Y (suc r) .others)
   unfolding exchanged
   next-live r room room′ h =
-      rw (h .own-same) (after-live c l (X r .others) (Y r .others) (message b′ (Y r .own) (suc r)) room room′ r (h .live))
+      rw (h .own-same) (after-live otherBox l (X r .others) (Y r .others) (message ownBox′ (Y r .own) (suc r)) room room′ r (h .live))
 
   -- a round's record, from the box's own message
-  alike : (r : ℕ) → Live n r (X r .others) (Y r .others) → message b (X r .own) (suc r) ≡ message b′ (Y r .own) (suc r) → Alike r
-  alike r live same = record { live = live; own-same = same; other-same = message-live c r (X r .others) (Y r .others) live }
+  alike : (r : ℕ) → Live n r (X r .others) (Y r .others) → message ownBox (X r .own) (suc r) ≡ message ownBox′ (Y r .own) (suc r) → Alike r
+  alike r live same = record { live = live; own-same = same; other-same = message-live otherBox r (X r .others) (Y r .others) live }
 
   pub alike-0 : Alike 0
   unfolding exchanged
@@ -172,16 +172,16 @@ module _ {n pair number side : ℕ} {own others : List ℕ} (m : Matched n pair 
       by-round lastRound (λ r. r < lastRound → Alike r)
       (λ _. alike-0, (λ _. alike-1, (λ _. alike-2, (λ _. alike-3, (λ _. alike-4, (λ _. alike-5, λ r less. absurd (omega arith)))))))
 
-  pub same-own : (r : ℕ) → r < lastRound → sentOwn b c w (suc r) ≡ sentOwn b′ c w′ (suc r)
+  pub same-own : (r : ℕ) → r < lastRound → sentOwn ownBox otherBox w (suc r) ≡ sentOwn ownBox′ otherBox w′ (suc r)
   unfolding sentOwn
   same-own r less = all-alike r less .own-same
 
-  pub same-others : (r : ℕ) → r < lastRound → sentOthers b c w (suc r) ≡ sentOthers b′ c w′ (suc r)
+  pub same-others : (r : ℕ) → r < lastRound → sentOthers ownBox otherBox w (suc r) ≡ sentOthers ownBox′ otherBox w′ (suc r)
   unfolding sentOthers
   same-others r less = all-alike r less .other-same
 
-  pub same-answer : answerOthers b c w ≡ answerOthers b′ c w′
+  pub same-answer : answerOthers ownBox otherBox w ≡ answerOthers ownBox′ otherBox w′
   unfolding answerOthers
   same-answer =
       rw (same-own earlierRounds (omega arith))
-      (answer-live c (X earlierRounds .others) (Y earlierRounds .others) (sentOwn b′ c w′ lastRound) (all-alike earlierRounds (omega arith) .live))
+      (answer-live otherBox (X earlierRounds .others) (Y earlierRounds .others) (sentOwn ownBox′ otherBox w′ lastRound) (all-alike earlierRounds (omega arith) .live))

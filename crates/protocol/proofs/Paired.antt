@@ -53,14 +53,14 @@ module _ {n pair number side : ℕ} {own others : List ℕ} (m : Matched n pair 
   abbrev t : List ℕ
   t = shifted s s′ own others
 
-  abbrev b : Party
-  b = party n side x y own
+  abbrev ownBox : Party
+  ownBox = party n side x y own
 
-  abbrev b′ : Party
-  b′ = party n side x′ y′ t
+  abbrev ownBox′ : Party
+  ownBox′ = party n side x′ y′ t
 
-  abbrev c : Party
-  c = party n (other side) xo yo others
+  abbrev otherBox : Party
+  otherBox = party n (other side) xo yo others
 
   l : listed n ≡ true
   l = own-readable m .width
@@ -104,15 +104,15 @@ module _ {n pair number side : ℕ} {own others : List ℕ} (m : Matched n pair 
       right-later q f (lowTriple (q .n) + k) k refl
       ∙ each-test (λ k. getD (rightValues q) k 0 ≡ constantShare (other (q .side)) (lowOf q k)) refl refl refl k less
 
-  pub round-1 : (v v′ : List ℕ) → message b v 1 ≡ message b′ v′ 1
+  pub round-1 : (v v′ : List ℕ) → message ownBox v 1 ≡ message ownBox′ v′ 1
   unfolding message squareWord newMask lowProducts openLeft openRight
   round-1 v v′ =
       ap₂ _++_
-      (tabulate-same (squareCount n) (squareWord b) (squareWord b′)
+      (tabulate-same (squareCount n) (squareWord ownBox) (squareWord ownBox′)
       (λ j less.
       sym (moved-own n l (squareShareOf s j) (squareShareOf s′ j) (squareMask (section n 0 own) j) (square-share-most s l j) (square-mask-below (own-readable m) j less))
       ∙ ap (λ (a : ℕ). masked n (squareShareOf s′ j) a) (sym (new-mask s s′ own others j less))))
-      (openings-same b b′ (lowProducts b) (lowProducts b′) refl
+      (openings-same ownBox ownBox′ (lowProducts ownBox) (lowProducts ownBox′) refl
       (λ k less.
       left-word (lowTriple n + k) _ _ 0 (omega arith)
       (alone _ _ (sym (low-left s k less))) (alone _ _ (sym (low-left s′ k less))))
@@ -138,10 +138,10 @@ module _ {n pair number side : ℕ} {own others : List ℕ} (m : Matched n pair 
 
     pub round-2 : ((g : ℕ) → g < groupCount n → Old g (countOf s g)) → ((g : ℕ) → g < groupCount n → New g (countOf s′ g))
         → ((g : ℕ) → g < groupCount n → Kept g)
-        → message b v 2 ≡ message b′ v′ 2
+        → message ownBox v 2 ≡ message ownBox′ v′ 2
     unfolding message levelProducts openLeft openRight
     round-2 h h′ kept =
-        openings-same b b′ (levelProducts b v) (levelProducts b′ v′) refl
+        openings-same ownBox ownBox′ (levelProducts ownBox v) (levelProducts ownBox′ v′) refl
         (λ g less.
         let place : 0 + g ≡ g = omega arith in
         rw place
@@ -159,7 +159,7 @@ module _ {n pair number side : ℕ} {own others : List ℕ} (m : Matched n pair 
     pub round-3 : ((g : ℕ) → g < groupCount n → Old g (countOf s g * inverseTotal n own others g))
         → ((g : ℕ) → g < groupCount n → New g (countOf s′ g * inverseTotal n t others g))
         → ((g : ℕ) → g < groupCount n → Kept g)
-        → message b v 3 ≡ message b′ v′ 3
+        → message ownBox v 3 ≡ message ownBox′ v′ 3
     unfolding message
     round-3 h h′ kept = tabulate-same (groupCount n) (λ g. held n v g) (λ g. held n v′ g) same
       where
@@ -179,10 +179,10 @@ module _ {n pair number side : ℕ} {own others : List ℕ} (m : Matched n pair 
     pub round-4 : ((k : ℕ) → k < 3 → Old (sumSlot n k) (sumOf s k)) → ((k : ℕ) → k < 3 → New (sumSlot n k) (sumOf s′ k))
         → ((k : ℕ) → k < 3 → Old (wrapSlot n k) (wrapsOf s k)) → ((k : ℕ) → k < 3 → New (wrapSlot n k) (wrapsOf s′ k))
         → ((k : ℕ) → k < 3 → Kept (sumSlot n k)) → ((k : ℕ) → k < 3 → Kept (wrapSlot n k))
-        → message b v 4 ≡ message b′ v′ 4
+        → message ownBox v 4 ≡ message ownBox′ v′ 4
     unfolding message wrapProducts openLeft openRight
     round-4 hs hs′ hw hw′ ks kw =
-        openings-same b b′ (wrapProducts b v) (wrapProducts b′ v′) refl
+        openings-same ownBox ownBox′ (wrapProducts ownBox v) (wrapProducts ownBox′ v′) refl
         (λ k less.
         left-word (wrapTriple n + k) _ _ (held n u (sumSlot n k)) (omega arith)
         (hs k less ⊙ cong-eq (sym (sum-left s k less)))
@@ -204,10 +204,10 @@ module _ {n pair number side : ℕ} {own others : List ℕ} (m : Matched n pair 
 
     pub round-5 : ((k : ℕ) → k < 3 → Old (halfSlot n k) (halvesOf s k)) → ((k : ℕ) → k < 3 → New (halfSlot n k) (halvesOf s′ k))
         → ((k : ℕ) → k < 3 → Kept (halfSlot n k))
-        → message b v 5 ≡ message b′ v′ 5
+        → message ownBox v 5 ≡ message ownBox′ v′ 5
     unfolding message halfProduct openLeft openRight
     round-5 h h′ kept =
-        openings-same b b′ (halfProduct b v) (halfProduct b′ v′) refl
+        openings-same ownBox ownBox′ (halfProduct ownBox v) (halfProduct ownBox′ v′) refl
         (λ i less. single
         (λ j. masked n (held n v (halfSlot n 0)) (tripleLeft (section n 2 own) j) ≡ masked n (held n v′ (halfSlot n 0)) (tripleLeft (section n 2 t) j))
         (halfTriple n) i less
@@ -228,10 +228,10 @@ module _ {n pair number side : ℕ} {own others : List ℕ} (m : Matched n pair 
         → Cong (modulus n) (lastRight n side v′ + lastRight n (other side) u′) (1 - halvesOf s′ 2)
         → lastLeft n (other side) u ≡ lastLeft n (other side) u′
         → lastRight n (other side) u ≡ lastRight n (other side) u′
-        → message b v lastRound ≡ message b′ v′ lastRound
+        → message ownBox v lastRound ≡ message ownBox′ v′ lastRound
     unfolding message lastProduct openLeft openRight
     round-last hl hl′ hr hr′ kl kr =
-        openings-same b b′ (lastProduct b v) (lastProduct b′ v′) refl
+        openings-same ownBox ownBox′ (lastProduct ownBox v) (lastProduct ownBox′ v′) refl
         (λ i less. single
         (λ j. masked n (lastLeft n side v) (tripleLeft (section n 2 own) j) ≡ masked n (lastLeft n side v′) (tripleLeft (section n 2 t) j))
         (lastTriple n) i less

@@ -28,39 +28,39 @@ use Rattle.protocol.proofs.Stages.{count-total-1, sum-total-1, level-to
 module _ {n pair number side : ℕ} {t1 t2 : List ℕ} (m : Matched n pair number side t1 t2) (x1 y1 x2 y2 : ℕ)
     (ly1 : y1 < modulus n) (ly2 : y2 < modulus n) (w : Both)
     (room1 : workLength n ≤ length (w .own)) (room2 : workLength n ≤ length (w .others)) where
-  abbrev pub b : Party
-  b = party n side x1 y1 t1
+  abbrev pub ownBox : Party
+  ownBox = party n side x1 y1 t1
 
-  abbrev pub c : Party
-  c = party n (other side) x2 y2 t2
+  abbrev pub otherBox : Party
+  otherBox = party n (other side) x2 y2 t2
 
   l : listed n ≡ true
   l = own-readable m .width
 
   -- work before each round
-  abbrev pub o : ℕ → List ℕ
-  o r = exchanged b c w r .own
+  abbrev pub ownWork : ℕ → List ℕ
+  ownWork r = exchanged ownBox otherBox w r .own
 
-  abbrev pub t : ℕ → List ℕ
-  t r = exchanged b c w r .others
+  abbrev pub otherWork : ℕ → List ℕ
+  otherWork r = exchanged ownBox otherBox w r .others
 
   -- work keeps its length over the rounds
   pub record Rooms (r : ℕ) : Type 0 where
-    pub own : workLength n ≤ length (o r)
-    pub other : workLength n ≤ length (t r)
+    pub own : workLength n ≤ length (ownWork r)
+    pub other : workLength n ≤ length (otherWork r)
 
   pub rooms : (r : ℕ) → Rooms r
   unfolding exchanged
   rooms zero = record { own = room1; other = room2 }
   rooms (suc r) =
       record {
-        own = rw (after-length b (o r) (message c (t r) (suc r)) (suc r)) (rooms r .own);
-        other = rw (after-length c (t r) (message b (o r) (suc r)) (suc r)) (rooms r .other);
+        own = rw (after-length ownBox (ownWork r) (message otherBox (otherWork r) (suc r)) (suc r)) (rooms r .own);
+        other = rw (after-length otherBox (otherWork r) (message ownBox (ownWork r) (suc r)) (suc r)) (rooms r .other);
       }
 
   -- what both hold in a slot adds up to
   abbrev pub Adds : ℕ → ℕ → ℕ → Type 0
-  Adds r slot v = Cong (modulus n) (held n (o r) slot + held n (t r) slot) v
+  Adds r slot v = Cong (modulus n) (held n (ownWork r) slot + held n (otherWork r) slot) v
 
   -- A, after round 1, and A · w after round 2
   pub counts : (g : ℕ) → g < groupCount n → Adds 1 g (1 + sharedBits n side x1 y1 x2 y2 g)
@@ -69,45 +69,45 @@ module _ {n pair number side : ℕ} {t1 t2 : List ℕ} (m : Matched n pair numbe
 
   pub levels : (g : ℕ) → g < groupCount n → Adds 2 g ((1 + sharedBits n side x1 y1 x2 y2 g) * inverseTotal n t1 t2 g)
   unfolding exchanged
-  levels g less = level-total-2 m x1 y1 x2 y2 (o 1) (t 1) (rooms 1 .own) (rooms 1 .other) g _ less (counts g less)
+  levels g less = level-total-2 m x1 y1 x2 y2 (ownWork 1) (otherWork 1) (rooms 1 .own) (rooms 1 .other) g _ less (counts g less)
 
   -- S, up to round 3
   pub sums : (k : ℕ) → k < 3 → Adds 3 (sumSlot n k) (lowSumOf n x1 y1 x2 y2 k)
   unfolding exchanged
   sums k less =
-      cong-eq (sum-total-3 m x1 y1 x2 y2 (o 2) (t 2) (rooms 2 .own) (rooms 2 .other) k less)
-      ⊙ cong-eq (sum-total-2 m x1 y1 x2 y2 (o 1) (t 1) (rooms 1 .own) (rooms 1 .other) k)
+      cong-eq (sum-total-3 m x1 y1 x2 y2 (ownWork 2) (otherWork 2) (rooms 2 .own) (rooms 2 .other) k less)
+      ⊙ cong-eq (sum-total-2 m x1 y1 x2 y2 (ownWork 1) (otherWork 1) (rooms 1 .own) (rooms 1 .other) k)
       ⊙ sum-total-1 m x1 y1 x2 y2 (w .own) (w .others) room1 room2 k less
 
   -- the wraps, after round 3
   pub wraps : (k : ℕ) → k < 3 → Adds 3 (wrapSlot n k) (wrapOf n x1 y1 x2 y2 k)
   unfolding exchanged
   wraps k less =
-      wrap-total-3 m x1 y1 x2 y2 (o 2) (t 2) (rooms 2 .own) (rooms 2 .other) k less
+      wrap-total-3 m x1 y1 x2 y2 (ownWork 2) (otherWork 2) (rooms 2 .own) (rooms 2 .other) k less
       levels
 
   -- the half tests, after round 4 and kept by round 5
   pub halves-4 : (k : ℕ) → k < 3 → Adds 4 (halfSlot n k) (halfOf n x1 y1 x2 y2 k)
   unfolding exchanged
   halves-4 k less =
-      half-total-4 m x1 y1 x2 y2 (o 3) (t 3) (rooms 3 .own) (rooms 3 .other) k less ly1 ly2 (sums k less) (wraps k less)
+      half-total-4 m x1 y1 x2 y2 (ownWork 3) (otherWork 3) (rooms 3 .own) (rooms 3 .other) k less ly1 ly2 (sums k less) (wraps k less)
 
   pub halves-5 : (k : ℕ) → k < 3 → Adds 5 (halfSlot n k) (halfOf n x1 y1 x2 y2 k)
   unfolding exchanged
-  halves-5 k less = cong-eq (half-total-5 m x1 y1 x2 y2 (o 4) (t 4) (rooms 4 .own) (rooms 4 .other) k less) ⊙ halves-4 k less
+  halves-5 k less = cong-eq (half-total-5 m x1 y1 x2 y2 (ownWork 4) (otherWork 4) (rooms 4 .own) (rooms 4 .other) k less) ⊙ halves-4 k less
 
   pub both : Adds 5 (bothSlot n) (halfOf n x1 y1 x2 y2 0 * halfOf n x1 y1 x2 y2 1)
   unfolding exchanged
   both =
-      both-total-5 m x1 y1 x2 y2 (o 4) (t 4) (rooms 4 .own) (rooms 4 .other) _ _ (halves-4 0 (omega arith)) (halves-4 1 (omega arith))
+      both-total-5 m x1 y1 x2 y2 (ownWork 4) (otherWork 4) (rooms 4 .own) (rooms 4 .other) _ _ (halves-4 0 (omega arith)) (halves-4 1 (omega arith))
 
-  pub right : Cong (modulus n) (answerOwn b c w + answerOthers b c w) (indicator (ltb ((x1 + x2) % modulus n) ((y1 + y2) % modulus n)))
+  pub right : Cong (modulus n) (answerOwn ownBox otherBox w + answerOthers ownBox otherBox w) (indicator (ltb ((x1 + x2) % modulus n) ((y1 + y2) % modulus n)))
   unfolding answerOwn answerOthers sentOwn sentOthers
   right =
       let p = modulus n in
       let v = valueOf n x1 y1 x2 y2 in
       let bit : (k : ℕ) → half p (v k) ≤ 1 = λ k. indicator-bit (ltb (2 * v k) p) in
-      answer-total m x1 y1 x2 y2 (o earlierRounds) (t earlierRounds) (rooms earlierRounds .own) (rooms earlierRounds .other)
+      answer-total m x1 y1 x2 y2 (ownWork earlierRounds) (otherWork earlierRounds) (rooms earlierRounds .own) (rooms earlierRounds .other)
       (half p (v 0)) (half p (v 1)) (half p (v 2)) (bit 0) (bit 1) (bit 2)
       (halves-5 0 (omega arith)) (halves-5 1 (omega arith)) (halves-5 2 (omega arith)) both
       (indicator (ltb (v 0) (v 1)))

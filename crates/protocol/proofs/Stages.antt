@@ -67,11 +67,11 @@ low-heard q work t less =
 
 module _ {n pair number side : ℕ} {t1 t2 : List ℕ} (m : Matched n pair number side t1 t2) (x1 y1 x2 y2 : ℕ) (v1 v2 : List ℕ)
     (room1 : workLength n ≤ length v1) (room2 : workLength n ≤ length v2) where
-  abbrev b : Party
-  b = party n side x1 y1 t1
+  abbrev ownBox : Party
+  ownBox = party n side x1 y1 t1
 
-  abbrev c : Party
-  c = party n (other side) x2 y2 t2
+  abbrev otherBox : Party
+  otherBox = party n (other side) x2 y2 t2
 
   l : listed n ≡ true
   l = own-readable m .width
@@ -79,7 +79,7 @@ module _ {n pair number side : ℕ} {t1 t2 : List ℕ} (m : Matched n pair numbe
   -- what the two boxes' words of a slot add up to, after the round
   abbrev pub total : ℕ → ℕ → ℕ
   total round slot =
-      held n (afterHearing b v1 round (message c v2 round)) slot + held n (afterHearing c v2 round (message b v1 round)) slot
+      held n (afterHearing ownBox v1 round (message otherBox v2 round)) slot + held n (afterHearing otherBox v2 round (message ownBox v1 round)) slot
 
   -- ---- round 1
 
@@ -88,9 +88,9 @@ module _ {n pair number side : ℕ} {t1 t2 : List ℕ} (m : Matched n pair numbe
 
   pub count-total-1 : (g : ℕ) → g < groupCount n → Cong (modulus n) (total 1 g) (1 + shared g)
   count-total-1 g less =
-      cong-add (cong-eq (count-1 b l v1 (message c v2 1) room1 g less)) (cong-eq (count-1 c l v2 (message b v1 1) room2 g less))
-      ⊙ count-total m (doubled n x1 y1) (doubled n x2 y2) g less (message c v2 1) (message b v1 1)
-      (first-words c v2) (first-words b v1)
+      cong-add (cong-eq (count-1 ownBox l v1 (message otherBox v2 1) room1 g less)) (cong-eq (count-1 otherBox l v2 (message ownBox v1 1) room2 g less))
+      ⊙ count-total m (doubled n x1 y1) (doubled n x2 y2) g less (message otherBox v2 1) (message ownBox v1 1)
+      (first-words otherBox v2) (first-words ownBox v1)
 
   bit : (x y t : ℕ) → lowBit n x y t ≤ 1
   bit x y t = omega arith
@@ -98,24 +98,24 @@ module _ {n pair number side : ℕ} {t1 t2 : List ℕ} (m : Matched n pair numbe
   -- α · β
   low-total : (t : ℕ) → t < 3
       → Cong (modulus n)
-      (closing b (lowProducts b) (message c v2 1) (squareCount n) t + closing c (lowProducts c) (message b v1 1) (squareCount n) t)
+      (closing ownBox (lowProducts ownBox) (message otherBox v2 1) (squareCount n) t + closing otherBox (lowProducts otherBox) (message ownBox v1 1) (squareCount n) t)
       (lowBit n x1 y1 t * lowBit n x2 y2 t)
   unfolding closing lowProducts
   low-total t less =
       closed-total m (lowTriple n + t) (omega arith)
       (constantShare side (lowBit n x1 y1 t)) (constantShare (other side) (lowBit n x1 y1 t))
       (constantShare (other side) (lowBit n x2 y2 t)) (constantShare (other (other side)) (lowBit n x2 y2 t))
-      (message c v2 1) (message b v1 1) (squareCount n + t * 2)
-      (low-heard c v2 t less) (low-heard b v1 t less)
+      (message otherBox v2 1) (message ownBox v1 1) (squareCount n + t * 2)
+      (low-heard otherBox v2 t less) (low-heard ownBox v1 t less)
       ⊙ cong-eq (low-product side (lowBit n x1 y1 t) (lowBit n x2 y2 t) (own-side m))
 
   -- S
   pub sum-total-1 : (t : ℕ) → t < 3 → Cong (modulus n) (total 1 (sumSlot n t)) (lowSumOf n x1 y1 x2 y2 t)
   unfolding lowSum
   sum-total-1 t less =
-      cong-add (cong-eq (sum-1 b l v1 (message c v2 1) room1 t less)) (cong-eq (sum-1 c l v2 (message b v1 1) room2 t less))
+      cong-add (cong-eq (sum-1 ownBox l v1 (message otherBox v2 1) room1 t less)) (cong-eq (sum-1 otherBox l v2 (message ownBox v1 1) room2 t less))
       ⊙ exclusive-total n l (lowBit n x1 y1 t) (lowBit n x2 y2 t)
-      (closing b (lowProducts b) (message c v2 1) (squareCount n) t) (closing c (lowProducts c) (message b v1 1) (squareCount n) t)
+      (closing ownBox (lowProducts ownBox) (message otherBox v2 1) (squareCount n) t) (closing otherBox (lowProducts otherBox) (message ownBox v1 1) (squareCount n) t)
       (lowBit n x1 y1 t + lowBit n x2 y2 t) (lowBit n x1 y1 t * lowBit n x2 y2 t) ((lowBit n x1 y1 t + lowBit n x2 y2 t) % 2)
       cong-refl (low-total t less) (bit-sum (lowBit n x1 y1 t) (lowBit n x2 y2 t) (bit x1 y1 t) (bit x2 y2 t))
 
@@ -125,13 +125,13 @@ module _ {n pair number side : ℕ} {t1 t2 : List ℕ} (m : Matched n pair numbe
       → Cong (modulus n) (total 2 g) (a * inverseTotal n t1 t2 g)
   unfolding closing levelProducts message
   level-total-2 g a less same =
-      cong-add (cong-eq (level-2 b l v1 (message c v2 2) room1 g less)) (cong-eq (level-2 c l v2 (message b v1 2) room2 g less))
-      ⊙ closed-total m (0 + g) (omega arith) (held n v1 g) _ (held n v2 g) _ (message c v2 2) (message b v1 2) (0 + g * 2)
-      (openings-heard c (levelProducts c v2) g less) (openings-heard b (levelProducts b v1) g less)
+      cong-add (cong-eq (level-2 ownBox l v1 (message otherBox v2 2) room1 g less)) (cong-eq (level-2 otherBox l v2 (message ownBox v1 2) room2 g less))
+      ⊙ closed-total m (0 + g) (omega arith) (held n v1 g) _ (held n v2 g) _ (message otherBox v2 2) (message ownBox v1 2) (0 + g * 2)
+      (openings-heard otherBox (levelProducts otherBox v2) g less) (openings-heard ownBox (levelProducts ownBox v1) g less)
       ⊙ cong-mul same cong-refl
 
   pub sum-total-2 : (t : ℕ) → total 2 (sumSlot n t) ≡ held n v1 (sumSlot n t) + held n v2 (sumSlot n t)
-  sum-total-2 t = rw (sum-2 b l v1 (message c v2 2) room1 t, sum-2 c l v2 (message b v1 2) room2 t)
+  sum-total-2 t = rw (sum-2 ownBox l v1 (message otherBox v2 2) room1 t, sum-2 otherBox l v2 (message ownBox v1 2) room2 t)
 
   -- ---- round 3: the wraps
 
@@ -144,8 +144,8 @@ module _ {n pair number side : ℕ} {t1 t2 : List ℕ} (m : Matched n pair numbe
   level-total-3 : (t i : ℕ) → t < 3 → i < n
       → Cong (modulus n) (held n v1 (t * n + i) + held n v2 (t * n + i)) ((1 + shared (t * n + i)) * inverseTotal n t1 t2 (t * n + i))
       → Cong (modulus n)
-      (levelMatch n side (levelOpened n v1 (message c v2 3) (t * n + i)) (section n 1 t1) (t * n + i)
-      + levelMatch n (other side) (levelOpened n v2 (message b v1 3) (t * n + i)) (section n 1 t2) (t * n + i))
+      (levelMatch n side (levelOpened n v1 (message otherBox v2 3) (t * n + i)) (section n 1 t1) (t * n + i)
+      + levelMatch n (other side) (levelOpened n v2 (message ownBox v1 3) (t * n + i)) (section n 1 t2) (t * n + i))
       (indicator (eqb (levelCode n side (doubled n x1 y1 t) i) (levelCode n (other side) (doubled n x2 y2 t) i)))
   unfolding opened
   level-total-3 t i lt li same =
@@ -154,7 +154,7 @@ module _ {n pair number side : ℕ} {t1 t2 : List ℕ} (m : Matched n pair numbe
       let d = opened n (held n v1 g) (held n v2 g) in
       let c1 = levelCode n side (doubled n x1 y1 t) i in
       let c2 = levelCode n (other side) (doubled n x2 y2 t) i in
-      rw (levels-heard c v2 g less, levels-heard b v1 g less, opened-both n (held n v2 g) (held n v1 g))
+      rw (levels-heard otherBox v2 g less, levels-heard ownBox v1 g less, opened-both n (held n v2 g) (held n v1 g))
       (level-total m g d (1 + shared g) less (cong-mod ⊙ same)
       ⊙ cong-eq (rw (digits-div t li, digits-mod t li) refl)
       ⊙ level-match n c1 c2 l
@@ -166,9 +166,9 @@ module _ {n pair number side : ℕ} {t1 t2 : List ℕ} (m : Matched n pair numbe
       → Cong (modulus n) (total 3 (wrapSlot n t)) (wrapOf n x1 y1 x2 y2 t)
   unfolding wrapShare
   wrap-total-3 t less same =
-      let f1 : ℕ → ℕ = λ i. levelMatch n side (levelOpened n v1 (message c v2 3) (t * n + i)) (section n 1 t1) (t * n + i) in
-      let f2 : ℕ → ℕ = λ i. levelMatch n (other side) (levelOpened n v2 (message b v1 3) (t * n + i)) (section n 1 t2) (t * n + i) in
-      cong-add (cong-eq (wrap-3 b l v1 (message c v2 3) room1 t less)) (cong-eq (wrap-3 c l v2 (message b v1 3) room2 t less))
+      let f1 : ℕ → ℕ = λ i. levelMatch n side (levelOpened n v1 (message otherBox v2 3) (t * n + i)) (section n 1 t1) (t * n + i) in
+      let f2 : ℕ → ℕ = λ i. levelMatch n (other side) (levelOpened n v2 (message ownBox v1 3) (t * n + i)) (section n 1 t2) (t * n + i) in
+      cong-add (cong-eq (wrap-3 ownBox l v1 (message otherBox v2 3) room1 t less)) (cong-eq (wrap-3 otherBox l v2 (message ownBox v1 3) room2 t less))
       ⊙ cong-add cong-mod cong-mod
       ⊙ cong-eq (sym (sum-add n f1 f2))
       ⊙ cong-sum n (λ i. f1 i + f2 i)
@@ -178,7 +178,7 @@ module _ {n pair number side : ℕ} {t1 t2 : List ℕ} (m : Matched n pair numbe
       (codes-wrap n side (doubled n x1 y1 t) (doubled n x2 y2 t) (own-side m) (doubled-below n l x1 y1 t) (doubled-below n l x2 y2 t))
 
   pub sum-total-3 : (t : ℕ) → t < 3 → total 3 (sumSlot n t) ≡ held n v1 (sumSlot n t) + held n v2 (sumSlot n t)
-  sum-total-3 t less = rw (sum-3 b l v1 (message c v2 3) room1 t less, sum-3 c l v2 (message b v1 3) room2 t less)
+  sum-total-3 t less = rw (sum-3 ownBox l v1 (message otherBox v2 3) room1 t less, sum-3 otherBox l v2 (message ownBox v1 3) room2 t less)
 
   -- ---- round 4: the half tests
 
@@ -208,18 +208,18 @@ module _ {n pair number side : ℕ} {t1 t2 : List ℕ} (m : Matched n pair numbe
       let w = indicator (leb p (doubled n x1 y1 t + doubled n x2 y2 t)) in
       let ls : s ≤ 1 = omega arith in
       let lw : w ≤ 1 = indicator-bit (leb p (doubled n x1 y1 t + doubled n x2 y2 t)) in
-      cong-add (cong-eq (half-4 b l v1 (message c v2 4) room1 t less)) (cong-eq (half-4 c l v2 (message b v1 4) room2 t less))
+      cong-add (cong-eq (half-4 ownBox l v1 (message otherBox v2 4) room1 t less)) (cong-eq (half-4 otherBox l v2 (message ownBox v1 4) room2 t less))
       ⊙ complement-total n l side (own-side m) _ _ ((s + w) % 2)
       (exclusive-below n l _ _) (exclusive-below n l _ _)
       (exclusive-total n l _ _
-      (closing b (wrapProducts b v1) (message c v2 4) 0 t) (closing c (wrapProducts c v2) (message b v1 4) 0 t)
+      (closing ownBox (wrapProducts ownBox v1) (message otherBox v2 4) 0 t) (closing otherBox (wrapProducts otherBox v2) (message ownBox v1 4) 0 t)
       (s + w) (s * w) ((s + w) % 2)
       (cong-add cong-mod cong-mod
       ⊙ cong-eq {b = (held n v1 (sumSlot n t) + held n v2 (sumSlot n t)) + (held n v1 (wrapSlot n t) + held n v2 (wrapSlot n t))} (omega arith)
       ⊙ cong-add hs ht)
       (closed-total m (wrapTriple n + t) (omega arith) (held n v1 (sumSlot n t)) (held n v1 (wrapSlot n t)) (held n v2 (sumSlot n t)) (held n v2 (wrapSlot n t))
-      (message c v2 4) (message b v1 4) (0 + t * 2)
-      (openings-heard c (wrapProducts c v2) t less) (openings-heard b (wrapProducts b v1) t less)
+      (message otherBox v2 4) (message ownBox v1 4) (0 + t * 2)
+      (openings-heard otherBox (wrapProducts otherBox v2) t less) (openings-heard ownBox (wrapProducts ownBox v1) t less)
       ⊙ cong-mul hs ht)
       (bit-sum s w ls lw))
       (omega arith)
@@ -233,14 +233,14 @@ module _ {n pair number side : ℕ} {t1 t2 : List ℕ} (m : Matched n pair numbe
       → Cong (modulus n) (total 5 (bothSlot n)) (h * u)
   unfolding closing halfProduct message
   both-total-5 h u hh hu =
-      cong-add (cong-eq (both-5 b l v1 (message c v2 5) room1)) (cong-eq (both-5 c l v2 (message b v1 5) room2))
+      cong-add (cong-eq (both-5 ownBox l v1 (message otherBox v2 5) room1)) (cong-eq (both-5 otherBox l v2 (message ownBox v1 5) room2))
       ⊙ closed-total m (halfTriple n + 0) (omega arith) (held n v1 (halfSlot n 0)) (held n v1 (halfSlot n 1)) (held n v2 (halfSlot n 0)) (held n v2 (halfSlot n 1))
-      (message c v2 5) (message b v1 5) (0 + 0 * 2)
-      (openings-heard c (halfProduct c v2) 0 (omega arith)) (openings-heard b (halfProduct b v1) 0 (omega arith))
+      (message otherBox v2 5) (message ownBox v1 5) (0 + 0 * 2)
+      (openings-heard otherBox (halfProduct otherBox v2) 0 (omega arith)) (openings-heard ownBox (halfProduct ownBox v1) 0 (omega arith))
       ⊙ cong-mul hh hu
 
   pub half-total-5 : (t : ℕ) → t < 3 → total 5 (halfSlot n t) ≡ held n v1 (halfSlot n t) + held n v2 (halfSlot n t)
-  half-total-5 t less = rw (half-5 b l v1 (message c v2 5) room1 t less, half-5 c l v2 (message b v1 5) room2 t less)
+  half-total-5 t less = rw (half-5 ownBox l v1 (message otherBox v2 5) room1 t less, half-5 otherBox l v2 (message ownBox v1 5) room2 t less)
 
   -- ---- the last round: the answer
 
@@ -267,22 +267,22 @@ module _ {n pair number side : ℕ} {t1 t2 : List ℕ} (m : Matched n pair numbe
         (held-below n v1 (halfSlot n 2) l) (held-below n v2 (halfSlot n 2) l) hz lz
 
     pub answer-total : (e : ℕ) → e + h * u ≡ h + (1 - (h + u) % 2) * (1 - z)
-        → Cong (modulus n) (answerShare b v1 (message c v2 lastRound) + answerShare c v2 (message b v1 lastRound)) e
+        → Cong (modulus n) (answerShare ownBox v1 (message otherBox v2 lastRound) + answerShare otherBox v2 (message ownBox v1 lastRound)) e
     unfolding answerShare closing lastProduct message
     answer-total e same =
         let h1 = held n v1 (halfSlot n 0) in
         let h2 = held n v2 (halfSlot n 0) in
         let m1 = held n v1 (bothSlot n) in
         let m2 = held n v2 (bothSlot n) in
-        let k1 = closing b (lastProduct b v1) (message c v2 lastRound) 0 0 in
-        let k2 = closing c (lastProduct c v2) (message b v1 lastRound) 0 0 in
+        let k1 = closing ownBox (lastProduct ownBox v1) (message otherBox v2 lastRound) 0 0 in
+        let k2 = closing otherBox (lastProduct otherBox v2) (message ownBox v1 lastRound) 0 0 in
         cong-add cong-mod cong-mod
         ⊙ part n l (minus n h1 m1 + k1 + (minus n h2 m2 + k2)) (m1 + m2) (h + (1 - (h + u) % 2) * (1 - z)) (h * u)
         (cong-eq {b = (minus n h1 m1 + minus n h2 m2 + (m1 + m2)) + (k1 + k2)} (omega arith)
         ⊙ cong-add
         (minus-total n h1 h2 m1 m2 (le-of-lt (held-below n v1 (bothSlot n) l)) (le-of-lt (held-below n v2 (bothSlot n) l)) ⊙ hh)
         (closed-total m (lastTriple n + 0) (omega arith) (lastLeft n side v1) (lastRight n side v1) (lastLeft n (other side) v2) (lastRight n (other side) v2)
-        (message c v2 lastRound) (message b v1 lastRound) (0 + 0 * 2)
-        (openings-heard c (lastProduct c v2) 0 (omega arith)) (openings-heard b (lastProduct b v1) 0 (omega arith))
+        (message otherBox v2 lastRound) (message ownBox v1 lastRound) (0 + 0 * 2)
+        (openings-heard otherBox (lastProduct otherBox v2) 0 (omega arith)) (openings-heard ownBox (lastProduct ownBox v1) 0 (omega arith))
         ⊙ cong-mul left-total right-total))
         hm e same

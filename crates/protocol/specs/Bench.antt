@@ -35,10 +35,10 @@ halfAt n v1 v2 = complement n 1 (lowAt n (doubled n v1 0 0) (doubled n v2 0 0))
 -- The numbers stand as on plainrun's line: n x1 x2 y1 y2
 unfoldable pub lessAt : ℕ → ℕ → ℕ → ℕ → ℕ → ℕ
 lessAt n x1 x2 y1 y2 =
-    let b : Party = party n 1 x1 y1 (plainTape n 0 1 0) in
-    let c : Party = party n 2 x2 y2 (plainTape n 0 2 0) in
+    let box1 : Party = party n 1 x1 y1 (plainTape n 0 1 0) in
+    let box2 : Party = party n 2 x2 y2 (plainTape n 0 2 0) in
     let w : Both = record { own = replicate (workLength n) 0; others = replicate (workLength n) 0 } in
-    (answerOwn b c w + answerOthers b c w) % modulus n
+    (answerOwn box1 box2 w + answerOthers box1 box2 w) % modulus n
 
 -- B1 to B12 by the definitions; each number to test or compare is given by two shares
 unfoldable pub given : List (List ℕ)

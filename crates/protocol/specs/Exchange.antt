@@ -11,26 +11,26 @@ pub record Both : Type 0 where
 
 -- after so many rounds, from any work
 unfoldable pub exchanged : Party → Party → Both → ℕ → Both
-exchanged b c w zero = w
-exchanged b c w (suc r) =
-    let v = exchanged b c w r in
+exchanged own others w zero = w
+exchanged own others w (suc r) =
+    let v = exchanged own others w r in
     record {
-      own = afterHearing b (v .own) (suc r) (message c (v .others) (suc r));
-      others = afterHearing c (v .others) (suc r) (message b (v .own) (suc r));
+      own = afterHearing own (v .own) (suc r) (message others (v .others) (suc r));
+      others = afterHearing others (v .others) (suc r) (message own (v .own) (suc r));
     }
 
--- what b sends in a round, and what c sends
+-- what the box sends in a round, and what the other sends
 unfoldable pub sentOwn : Party → Party → Both → ℕ → List ℕ
-sentOwn b c w zero = message b (w .own) zero
-sentOwn b c w (suc r) = message b (exchanged b c w r .own) (suc r)
+sentOwn own others w zero = message own (w .own) zero
+sentOwn own others w (suc r) = message own (exchanged own others w r .own) (suc r)
 
 unfoldable pub sentOthers : Party → Party → Both → ℕ → List ℕ
-sentOthers b c w zero = message c (w .others) zero
-sentOthers b c w (suc r) = message c (exchanged b c w r .others) (suc r)
+sentOthers own others w zero = message others (w .others) zero
+sentOthers own others w (suc r) = message others (exchanged own others w r .others) (suc r)
 
 -- the two answer shares, after the last round was heard
 unfoldable pub answerOwn : Party → Party → Both → ℕ
-answerOwn b c w = answerShare b (exchanged b c w earlierRounds .own) (sentOthers b c w lastRound)
+answerOwn own others w = answerShare own (exchanged own others w earlierRounds .own) (sentOthers own others w lastRound)
 
 unfoldable pub answerOthers : Party → Party → Both → ℕ
-answerOthers b c w = answerShare c (exchanged b c w earlierRounds .others) (sentOwn b c w lastRound)
+answerOthers own others w = answerShare others (exchanged own others w earlierRounds .others) (sentOwn own others w lastRound)
