@@ -21,7 +21,7 @@ pub mod Units
 pub mod Rules
 pub mod Bounds
 pub mod Undo
-pub mod Places
+pub mod TripleValues
 pub mod Paired
 pub mod Exchanges
 pub mod Secrecy

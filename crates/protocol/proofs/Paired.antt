@@ -29,7 +29,7 @@ use Rattle.protocol.specs.Change.{Shares, sharesOf, squareShareOf, count
 use Rattle.protocol.specs.Shift.{newMask, newInverse, newLeft, newRight, shifted}
 use Rattle.protocol.proofs.Moves.{moved-same, moved-own}
 use Rattle.protocol.proofs.Pieces.{new-mask, new-inverse, new-left, new-right}
-use Rattle.protocol.proofs.Places.{left-level, left-later, right-level, right-later}
+use Rattle.protocol.proofs.TripleValues.{left-level, left-later, right-level, right-later}
 use Rattle.protocol.proofs.Bounds.{square-share-most, left-most, right-most}
 use Rattle.protocol.proofs.Rules.{inverse-total, count-low, count-high, down}
 use Rattle.protocol.proofs.Units.{restored}

@@ -19,7 +19,7 @@ use Rattle.rules.specs.AnyCall.{Call, wake, start, speak, hear, drop, gr
 use Rattle.rules.specs.Answering.{Opens, TakesJob, Answering}
 use Rattle.rules.specs.declared.state.Phase.the-variants.{Asleep}
 use Rattle.rules.specs.declared.state.State.{State}
-use Rattle.rules.proofs.Refusals.{tells, asleep-refuses, awake-refuses}
+use Rattle.rules.proofs.Refusals.{call-by-ground, asleep-refuses, awake-refuses}
 use Rattle.rules.proofs.Chains.{first-most}
 use Rattle.rules.proofs.Marks.{marked-spent, marked-length}
 use Rattle.rules.proofs.Passed.{start-passed}
@@ -29,7 +29,7 @@ use Rattle.rules.proofs.Moves.{woken, started-job, moves, keeps}
 
 -- a refused call's outcome is in the mode that the state was in
 same-mode : (s : State) (call : Call) → (groundOf s call ≡ 0 → ⊥) → modeOf (resultOf s call .state) ≡ modeOf s
-same-mode s call z = ap modeOf (tells s call .same-state z)
+same-mode s call z = ap modeOf (call-by-ground s call .same-state z)
 
 only-wake : (s : State) (call : Call) → isAsleep (modeOf s) ≡ true → isAsleep (modeOf (resultOf s call .state)) ≡ false → isWake call ≡ true
 only-wake s call asleep awake = go (isWake call) refl
@@ -182,8 +182,8 @@ asleep-ground s r drop a b = both-one s r drop a b refl
 
 -- ---- all of it
 
-told-refused : (s : State) (call : Call) → isRefused (resultOf s call .reply) ≡ true → groundOf s call ≡ 0 → ⊥
-told-refused s call e z = true≢false (sym e ∙ tells s call .answers z)
+refused-ground : (s : State) (call : Call) → isRefused (resultOf s call .reply) ≡ true → groundOf s call ≡ 0 → ⊥
+refused-ground s call e z = true≢false (sym e ∙ call-by-ground s call .answers z)
 
 pub answering : Answering
 answering =
@@ -193,13 +193,13 @@ answering =
             first = first-is s call;
             order = order-is s call;
             numbered = rw (first-is s call) (first-most (groundsOf s call));
-            answers = tells s call .answers;
-            refuses = tells s call .refuses;
+            answers = call-by-ground s call .answers;
+            refuses = call-by-ground s call .refuses;
           };
       unchanged =
           λ s call. record {
-            same-state = λ e. tells s call .same-state (told-refused s call e);
-            same-buffer = λ e. tells s call .same-buffer (told-refused s call e);
+            same-state = λ e. call-by-ground s call .same-state (refused-ground s call e);
+            same-buffer = λ e. call-by-ground s call .same-buffer (refused-ground s call e);
           };
       waking =
           λ s call. record { asleep-refuses = asleep-refuses s call; only-wake = only-wake s call; awake-refuses = awake-refuses s call };

@@ -17,14 +17,14 @@ use Rattle.rules.specs.declared.state.State.{State}
 -- ---- refused, or not
 
 -- what holds of a call's result by its ground
-pub record Told (k : ℕ) (s : State) (buffer : List ℕ) (r : Result) : Type 0 where
+pub record ByGround (k : ℕ) (s : State) (buffer : List ℕ) (r : Result) : Type 0 where
   pub answers : k ≡ 0 → isRefused (r .reply) ≡ false
   pub refuses : (k ≡ 0 → ⊥) → r .reply ≡ refused k
   pub same-state : (k ≡ 0 → ⊥) → r .state ≡ s
   pub same-buffer : (k ≡ 0 → ⊥) → r .buffer ≡ buffer
 
-told : (k : ℕ) (s : State) (buffer : List ℕ) (ok : Result) → isRefused (ok .reply) ≡ false → Told k s buffer (unless k s buffer ok)
-told k s buffer ok e =
+by-ground : (k : ℕ) (s : State) (buffer : List ℕ) (ok : Result) → isRefused (ok .reply) ≡ false → ByGround k s buffer (unless k s buffer ok)
+by-ground k s buffer ok e =
     record {
       answers = λ z. rw (eq-eqb k 0 z) e;
       refuses = λ z. rw (ne-eqb k 0 z);
@@ -37,14 +37,14 @@ hear-answers : (t : Bool) (a b : Result) → isRefused (a .reply) ≡ false → 
 hear-answers true a b ea eb = ea
 hear-answers false a b ea eb = eb
 
-pub tells : (s : State) (call : Call) → Told (groundOf s call) s (bufferOf call) (resultOf s call)
+pub call-by-ground : (s : State) (call : Call) → ByGround (groundOf s call) s (bufferOf call) (resultOf s call)
 unfolding wakeRule startRule speakRule hearRule dropRule
-tells s (wake n side pair tally) = told (wakeGround s n side tally) s tally _ refl
-tells s (start number x y tape work tally) = told (startGround s number x y tape work tally) s tally _ refl
-tells s (speak number round tape work out) = told (speakGround s number round tape work out) s out _ refl
-tells s (hear number round tape work incoming) =
-    told (hearGround s number round tape work incoming) s work _ (hear-answers (eqb round lastRound) _ _ refl refl)
-tells s drop = told (dropGround s) s [] _ refl
+call-by-ground s (wake n side pair tally) = by-ground (wakeGround s n side tally) s tally _ refl
+call-by-ground s (start number x y tape work tally) = by-ground (startGround s number x y tape work tally) s tally _ refl
+call-by-ground s (speak number round tape work out) = by-ground (speakGround s number round tape work out) s out _ refl
+call-by-ground s (hear number round tape work incoming) =
+    by-ground (hearGround s number round tape work incoming) s work _ (hear-answers (eqb round lastRound) _ _ refl refl)
+call-by-ground s drop = by-ground (dropGround s) s [] _ refl
 
 -- ---- asleep, and awake
 
