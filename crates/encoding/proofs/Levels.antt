@@ -1,17 +1,17 @@
--- X < v just when some level has equal codes, and then one level has; and a pair of shares wraps just when X < v, for X = p − 1 − v1.
-use Prim.Native.Nat.{ℕ, zero, suc, _+_, _/_, _%_, _^_, _<_, _≤_}
+-- One level has equal codes if X < v, and none otherwise; and a pair of shares wraps just when X < v, for X = p − 1 − v1.
+use Prim.Native.Nat.{ℕ, zero, suc, _+_, _/_, _%_, _^_, _<_}
 use mathlib.Core.Path.{_≡_, refl, sym, _∙_}
 use mathlib.Core.Bool.{Bool, true, false, cond}
 use native.Mathlib.Nat.{div-one}
 use native.Mathlib.Omega.{arith}
-use borrow.Author.Tests.{ltb-true, leb-true, eqb-true, eqb-false, lt-ltb, le-ltb, le-leb, eq-eqb, ne-eqb}
+use borrow.Author.Tests.{ltb-true, leb-true, eqb-true, eqb-false, lt-ltb, le-ltb, le-leb, ne-eqb}
 use lib.Dec.{eqb, ltb, leb}
 use Rattle.lists.proofs.Sums.{sum-first}
 use Rattle.field.specs.Width.{modulus}
 use Rattle.encoding.specs.Codes.{bitOf, rangeCode, pointCode, wrapBound}
 use Rattle.encoding.specs.Matching.{indicator, matchingLevels}
 use Rattle.encoding.proofs.Halves.{shifted, half-below}
-use Rattle.encoding.proofs.Counts.{count, indicator-most, indicator-true, count-one, count-two, count-some}
+use Rattle.encoding.proofs.Counts.{count}
 
 same-truth : (s t : Bool) → (s ≡ true → t ≡ true) → (t ≡ true → s ≡ true) → s ≡ t
 same-truth true t to from = sym (to refl)
@@ -57,34 +57,6 @@ equal-levels (suc k) filler X v hX hv above =
 pub matching : (n X v : ℕ) → X < modulus n → v < modulus n → matchingLevels n X v ≡ indicator (ltb X v)
 unfolding matchingLevels rangeCode pointCode modulus
 matching n X v hX hv = equal-levels n _ X v (omega arith) (omega arith) (omega arith)
-
-module _ (n X v : ℕ) (hX : X < modulus n) (hv : v < modulus n) where
-  match-at : ℕ → Bool
-  match-at i = eqb (rangeCode n X i) (pointCode v i)
-
-  counted : count n match-at ≡ indicator (ltb X v)
-  unfolding match-at matchingLevels
-  counted = matching n X v hX hv
-
-  matches : (i : ℕ) → rangeCode n X i ≡ pointCode v i → match-at i ≡ true
-  unfolding match-at
-  matches i e = eq-eqb (rangeCode n X i) (pointCode v i) e
-
-  pub level-less : {i : ℕ} → i < n → rangeCode n X i ≡ pointCode v i → X < v
-  level-less {i} l e = ltb-true X v (indicator-true (ltb X v) (rw counted at (count-one n match-at l (matches i e))))
-
-  pub some-level : X < v → (i : ℕ) × (i < n) × (rangeCode n X i ≡ pointCode v i)
-  unfolding match-at
-  some-level less =
-      let found = count-some n match-at (rw (counted, lt-ltb X v less) (omega arith)) in
-      (found .0, found .1, eqb-true (rangeCode n X (found .0)) (pointCode v (found .0)) (found .2))
-
-  pub at-most-one : {i j : ℕ} → i < n → j < n → rangeCode n X i ≡ pointCode v i → rangeCode n X j ≡ pointCode v j → i ≡ j
-  at-most-one {i} {j} li lj ei ej =
-      let most : count n match-at ≤ 1 = rw counted (indicator-most (ltb X v)) in
-      let not-before : i < j → ⊥ = λ b. omega (arith, count-two n match-at b lj (matches i ei) (matches j ej)) in
-      let not-after : j < i → ⊥ = λ b. omega (arith, count-two n match-at b li (matches j ej) (matches i ei)) in
-      omega arith
 
 -- ---- the wrap
 

@@ -1,5 +1,5 @@
 -- How codes are compared: bit by bit at a level, and level by level.
-use Prim.Native.Nat.{ℕ, _+_}
+use Prim.Native.Nat.{ℕ}
 use mathlib.Core.Bool.{Bool, cond}
 use lib.Dec.{eqb}
 use Rattle.lists.specs.Tabulate.{sum}

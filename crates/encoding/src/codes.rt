@@ -3,7 +3,7 @@ ghost use mathlib.Core.Path.{_≡_};
 ghost use mathlib.Core.Bool.{true};
 ghost use Prim.Native.Nat.{_<_};
 ghost use Rattle.field.specs.Width.{listed, modulus};
-ghost use Rattle.encoding.specs.Codes.{bitOf, rangeCode, pointCode, levelCode};
+ghost use Rattle.encoding.specs.Codes.{bitOf, rangeCode, levelCode};
 
 pub fn bit(v: u32, k: u32) -> u32
     requires { ⌜ k < 32 ⌝ }

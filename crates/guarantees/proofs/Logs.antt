@@ -1,5 +1,5 @@
 -- The log by its places, one event longer at the end.
-use Prim.Native.Nat.{ℕ, zero, suc, _<_, _≤_}
+use Prim.Native.Nat.{ℕ, zero, suc, _<_}
 use mathlib.Core.Path.{_≡_, refl}
 use mathlib.Core.List.{List, [], _∷_, _++_}
 use native.Mathlib.Omega.{arith}
@@ -12,12 +12,6 @@ pub after-log : (w : World) (b : Box) (m : Memory) (e : Event) → after w b m e
 after-log w box1 m e = refl
 after-log w box2 m e = refl
 
--- nothing is written there
-pub event-none : (log : List Event) (k : ℕ) → length log ≤ k → eventAt log k ≡ quiet
-event-none [] k h = refl
-event-none (a ∷ log) zero h = absurd (omega arith)
-event-none (a ∷ log) (suc k) h = event-none log k (omega arith)
-
 pub event-before : (log : List Event) (e : Event) (k : ℕ) → k < length log → eventAt (log ++ (e ∷ [])) k ≡ eventAt log k
 event-before [] e k h = absurd (omega arith)
 event-before (a ∷ log) e zero h = refl
@@ -26,9 +20,6 @@ event-before (a ∷ log) e (suc k) h = event-before log e k (omega arith)
 pub event-end : (log : List Event) (e : Event) → eventAt (log ++ (e ∷ [])) (length log) ≡ e
 event-end [] e = refl
 event-end (a ∷ log) e = event-end log e
-
-pub event-past : (log : List Event) (e : Event) (k : ℕ) → length log < k → eventAt (log ++ (e ∷ [])) k ≡ quiet
-event-past log e k h = event-none (log ++ (e ∷ [])) k (simp length-append (omega arith))
 
 pub log-length : (log : List Event) (e : Event) → length (log ++ (e ∷ [])) ≡ suc (length log)
 log-length log e = simp length-append (omega arith)

@@ -54,9 +54,6 @@ ranged s e =
 pub awake-listed : (s : State) → isAsleep (modeOf s) ≡ false → listed (s .n) ≡ true
 awake-listed s e = ranged s (awake-range s e) .width
 
-pub awake-side : (s : State) → isAsleep (modeOf s) ≡ false → isSide (s .side) ≡ true
-awake-side s e = ranged s (awake-range s e) .sided
-
 -- ---- a turn that is due: the phase is a job with that turn and number
 
 pub record Due (s : State) (number : ℕ) (turn : Turn) : Type 0 where

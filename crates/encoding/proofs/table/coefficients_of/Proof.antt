@@ -1,5 +1,4 @@
 -- `encoding::table::coefficients_of` meets its contract: the rows stand in the widths' order, and the table is that of specs/, filled up.
-use mathlib.Core.Path.{_≡_}
 use native.Mathlib.Omega.{arith}
 use borrow.Author.Needs.{needs}
 use Rattle.encoding.proofs.Rows.{entry-right, row-length, place-below}
