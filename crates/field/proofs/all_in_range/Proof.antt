@@ -1,6 +1,7 @@
 -- `field::all_in_range` meets its contract: what is kept is the test of the words read so far.
 use Prim.Native.Nat.{_-_, _≤_}
-use mathlib.Core.Path.{_≡_, refl, _∙_}
+use mathlib.Core.Path.{_≡_, refl, ap, _∙_}
+use mathlib.Core.Bool.{Bool, _&&_}
 use native.Mathlib.Numerals.{add-one}
 use native.Mathlib.Omega.{arith}
 use borrow.Author.Needs.{needs}
@@ -39,8 +40,10 @@ loop-less c = omega arith
 
 loop-again : tie.Need-loop-again Inv-loop μ-loop
 loop-again c =
-    let i = c .before .before .before .loop in
-    (omega arith, rw add-one (c .both .ensures ∙ rw (i .inv .1) refl))
+    let l = c .before .before .before in
+    let word = getD (l .before .before .before .args .words .now) (l .loop .i) 0 in
+    let p = l .before .modulus-of .result in
+    (omega arith, rw add-one (c .both .ensures ∙ ap (λ (b : Bool). b && ltb word p) (l .loop .inv .1)))
 
 returns : tie.Need-returns Inv-loop μ-loop
 returns c =
