@@ -13,19 +13,11 @@ ghost use Rattle.protocol.specs.Rounds.{roundWords};
 ghost use Rattle.rules.specs.Calls.{startRule, speakRule, hearRule};
 ghost use Rattle.walk.specs.Walk.{boxTape, filler, Answered};
 
-// The words of a round at width 3, as the paper's table has them.
+// The words of a round at width 3: no more than the first has.
 pub fn words(round: u32) -> usize
     ensures { λ r. ⌜ (r ≤ 33) × (r ≡ roundWords 3 round) ⌝ }
 {
-    match round {
-        1 => 33,
-        2 => 18,
-        3 => 9,
-        4 => 6,
-        5 => 2,
-        6 => 2,
-        _ => 0,
-    }
+    compare::words::words_of(3, round)
 }
 
 // A start on a tape that is lent with it.
