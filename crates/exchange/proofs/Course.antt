@@ -5,7 +5,7 @@ use mathlib.Core.List.{List}
 use native.Mathlib.Omega.{arith}
 use lib.ListN.{length}
 use Rattle.protocol.specs.Products.{Party}
-use Rattle.protocol.specs.Rounds.{roundWords, message, afterHearing, answerShare}
+use Rattle.protocol.specs.Rounds.{earlierRounds, roundWords, message, afterHearing, answerShare}
 use Rattle.protocol.proofs.Lengths.{most-words}
 use Rattle.rules.specs.Answers.{share, replyOf}
 use Rattle.rules.specs.Calls.{outcome, partyOf}
@@ -42,7 +42,7 @@ module _ {first : State} {number : ℕ} {tape : List ℕ} {k : ℕ} {held : List
 
   module _ (words sent : List ℕ) (told : words ≡ sent) (r : Outcome) (work′ : List ℕ) where
     -- one round more
-    pub course-next : k < 5 → outcome r work′ ≡ heardAfter s tape work (k + 1) words → (held′ : List ℕ)
+    pub course-next : k < earlierRounds → outcome r work′ ≡ heardAfter s tape work (k + 1) words → (held′ : List ℕ)
         → held′ ≡ afterHearing (partyOf first tape) held (k + 1) sent
         → Course first number tape (k + 1) held′ (r .state) work′
     course-next more e held′ next =
@@ -50,7 +50,7 @@ module _ {first : State} {number : ℕ} {tape : List ℕ} {k : ℕ} {held : List
         record { due = n .ready; same = n .same ∙ c .same; so-far = n .after ∙ rw (c .same, c .so-far, told, next) }
 
     -- the last one
-    pub course-last : k ≡ 5 → outcome r work′ ≡ heardAfter s tape work (k + 1) words
+    pub course-last : k ≡ earlierRounds → outcome r work′ ≡ heardAfter s tape work (k + 1) words
         → replyOf (r .answer) ≡ share (answerShare (partyOf first tape) held sent)
-    course-last five e =
-        heard-last s number (k + 1) tape work (c .due) words r work′ (omega (arith, five)) e ∙ rw (c .same, c .so-far, told)
+    course-last all e =
+        heard-last s number (k + 1) tape work (c .due) words r work′ (omega (arith, all)) e ∙ rw (c .same, c .so-far, told)

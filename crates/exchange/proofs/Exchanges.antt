@@ -5,7 +5,7 @@ use mathlib.Core.Bool.{true}
 use native.Mathlib.Numerals.{add-one}
 use Rattle.field.specs.Width.{modulus, listed}
 use Rattle.protocol.specs.Products.{Party}
-use Rattle.protocol.specs.Rounds.{message, afterHearing, answerShare}
+use Rattle.protocol.specs.Rounds.{earlierRounds, lastRound, message, afterHearing, answerShare}
 use Rattle.protocol.specs.Exchange.{Both, exchanged, sentOwn, sentOthers, answerOwn, answerOthers}
 use Rattle.protocol.proofs.Below.{answer-below}
 
@@ -20,17 +20,17 @@ module _ (own other : Party) (w : Both) where
   more-others r = rw (add-one r)
 
   -- the last one
-  pub last-own : answerOwn own other w ≡ answerShare own (exchanged own other w 5 .own) (message other (exchanged own other w 5 .others) 6)
+  pub last-own : answerOwn own other w ≡ answerShare own (exchanged own other w earlierRounds .own) (message other (exchanged own other w earlierRounds .others) lastRound)
   unfolding answerOwn sentOthers
   last-own = refl
 
-  pub last-others : answerOthers own other w ≡ answerShare other (exchanged own other w 5 .others) (message own (exchanged own other w 5 .own) 6)
+  pub last-others : answerOthers own other w ≡ answerShare other (exchanged own other w earlierRounds .others) (message own (exchanged own other w earlierRounds .own) lastRound)
   unfolding answerOthers sentOwn
   last-others = refl
 
   -- the answer shares are below p
   pub own-below : listed (own .n) ≡ true → answerOwn own other w < modulus (own .n)
-  own-below l = rw last-own (answer-below own l (exchanged own other w 5 .own) (message other (exchanged own other w 5 .others) 6))
+  own-below l = rw last-own (answer-below own l (exchanged own other w earlierRounds .own) (message other (exchanged own other w earlierRounds .others) lastRound))
 
   pub others-below : listed (other .n) ≡ true → answerOthers own other w < modulus (other .n)
-  others-below l = rw last-others (answer-below other l (exchanged own other w 5 .others) (message own (exchanged own other w 5 .own) 6))
+  others-below l = rw last-others (answer-below other l (exchanged own other w earlierRounds .others) (message own (exchanged own other w earlierRounds .own) lastRound))

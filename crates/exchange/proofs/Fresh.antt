@@ -107,11 +107,15 @@ module _ (n pair : ℕ) (box1 box2 : Shares) (t1 t2 w1 w2 o1 o2 : List ℕ) wher
 
 work-room : (n : ℕ) → listed n ≡ true → workLength n ≤ length blankWork
 unfolding blankWork
-work-room n width = omega (arith, bounds width, length-replicate {A = ℕ} 436 0)
+work-room n width = omega (arith, bounds width, length-replicate {A = ℕ} (workLength 31) 0)
+
+widest : roundWords 31 1 ≡ 2889
+unfolding roundWords
+widest = refl
 
 words-room : (n : ℕ) → listed n ≡ true → roundWords n 1 ≤ length blankWords
 unfolding blankWords
-words-room n width = omega (arith, words-most n 1 width, length-replicate {A = ℕ} 2889 0)
+words-room n width = omega (arith, words-most n 1 width, widest, length-replicate {A = ℕ} (roundWords 31 1) 0)
 
 module _ (n pair : ℕ) (box1 box2 : Shares) (t1 t2 : List ℕ) where
   pub fresh-width-refusal : listed n ≡ false → freshJob n pair 0 box1 box2 t1 t2 .refusal ≡ 2

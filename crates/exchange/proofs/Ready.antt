@@ -33,7 +33,7 @@ module _ {s : State} {number : ℕ} {turn : Turn} {tape work : List ℕ} (r : Re
   ready-awake : isAsleep (modeOf s) ≡ false
   ready-awake = ap isAsleep (range-mode s (r .ranged) ∙ r .job)
 
-  -- its turn is of one of the six rounds
+  -- its turn is of one of the rounds
   ready-round : roundFits (roundOf turn) ≡ true
   ready-round = job-range s (xOf (s .phase)) (yOf (s .phase)) ready-awake (r .job) .round-fits
 
@@ -79,8 +79,8 @@ pub record Next (s : State) (number round : ℕ) (tape work words : List ℕ) (s
   pub same : partyOf s′ tape ≡ partyOf s tape
   pub after : work′ ≡ afterHearing (partyOf s tape) work round words
 
-next-fits : (k : ℕ) → k < 6 → roundFits (k + 1) ≡ true
-next-fits k less = rw (le-leb 1 (k + 1) (omega arith), le-leb (k + 1) 6 (omega arith))
+next-fits : (k : ℕ) → k < lastRound → roundFits (k + 1) ≡ true
+next-fits k less = rw (le-leb 1 (k + 1) (omega arith), le-leb (k + 1) lastRound (omega arith))
 
 module _ (s : State) (number round : ℕ) (tape work : List ℕ) (r : Ready s number (Speak round) tape work) where
   pub speak-ready : (out : List ℕ) → roundWords (s .n) round ≤ length out

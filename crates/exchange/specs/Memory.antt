@@ -2,15 +2,17 @@
 use Prim.Native.Nat.{ℕ}
 use mathlib.Core.List.{List}
 use lib.ListN.{replicate}
+use Rattle.protocol.specs.Work.{workLength}
+use Rattle.protocol.specs.Rounds.{roundWords}
 use Rattle.exchange.specs.declared.Shares.{Shares}
 use Rattle.exchange.specs.Jobs.{Lent, lent, Ended, jobOf}
 
--- zeros to work in, and for the longest message
+-- zeros to work in, and for the longest message, at the largest width
 unfoldable pub blankWork : List ℕ
-blankWork = replicate 436 0
+blankWork = replicate (workLength 31) 0
 
 unfoldable pub blankWords : List ℕ
-blankWords = replicate 2889 0
+blankWords = replicate (roundWords 31 1) 0
 
 -- the tally of one fresh tape
 abbrev pub oneFresh : List ℕ

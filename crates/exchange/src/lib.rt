@@ -23,6 +23,9 @@ ghost use Rattle.exchange.specs.Jobs.{lent, roomy, answerSum, ended, job
 
 pub mod memory;
 
+// How many rounds come before the last one.
+pub const EARLIER_ROUNDS: u32 = compare::words::LAST_ROUND - 1;
+
 // A box's shares of x and y.
 pub struct Shares {
     pub x: u32,
@@ -141,7 +144,7 @@ pub fn round(
     Heard { box1, box2 }
 }
 
-// All six rounds, from whatever work holds: what the last two hears gave.
+// Every round, from whatever work holds: what the last two hears gave.
 fn answers(
     number: u32,
     boxes: Boxes,
@@ -162,7 +165,7 @@ fn answers(
 {
     let mut due = boxes;
     let mut heard: u32 = 0;
-    while heard < 5 {
+    while heard < EARLIER_ROUNDS {
         let r = round(
             number,
             heard + 1,
@@ -181,7 +184,17 @@ fn answers(
         due = Boxes { box1, box2 };
         heard += 1;
     }
-    round(number, 6, due, t1, t2, w1, w2, o1, o2)
+    round(
+        number,
+        compare::words::LAST_ROUND,
+        due,
+        t1,
+        t2,
+        w1,
+        w2,
+        o1,
+        o2,
+    )
 }
 
 // The number of the first refusal, or 0 and the opened answer.

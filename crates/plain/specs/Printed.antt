@@ -34,7 +34,7 @@ unfoldable pub counts : ℕ → ℕ → List ℕ
 counts n zero = []
 counts n (suc r) = counts n r ++ (32 ∷ []) ++ decimal (roundWords n (suc r))
 
--- `rounds`, the counts of the six, a newline; `less `, the answer, a newline
+-- `rounds`, the counts of all rounds, a newline; `less `, the answer, a newline
 unfoldable pub answerText : ℕ → ℕ → List ℕ
 answerText n less =
     (114 ∷ 111 ∷ 117 ∷ 110 ∷ 100 ∷ 115 ∷ [])

@@ -5,6 +5,7 @@ ghost use Prim.Native.Nat.{_+_, _*_, _≤_};
 ghost use lib.ListN.{length};
 ghost use lib.Seq.{sets};
 ghost use Rattle.field.specs.Width.{listed};
+ghost use Rattle.protocol.specs.Rounds.{lastRound};
 ghost use Rattle.plain.specs.Printed.{refusedText, counts, answerText};
 
 pub fn put_refused(number: u32, out: &mut [u8]) -> usize
@@ -17,15 +18,15 @@ pub fn put_refused(number: u32, out: &mut [u8]) -> usize
     lines::writing::put_bytes(out, at, b"\n")
 }
 
-// A space and the words of a round, for each of the six.
+// A space and the words of a round, for every round.
 fn put_counts(n: u32, out: &mut [u8], from: usize) -> usize
-    requires { ⌜ (listed n ≡ true) × (from + 66 ≤ length (now out)) ⌝ }
-    ensures { λ r. ⌜ (now (out .exit) ≡ sets (now (out .entry)) from (counts n 6)) × (r ≡ from + length (counts n 6)) ⌝ }
-    ensures most { λ r. ⌜ r ≤ from + 66 ⌝ }
+    requires { ⌜ (listed n ≡ true) × (from + 11 * lastRound ≤ length (now out)) ⌝ }
+    ensures { λ r. ⌜ (now (out .exit) ≡ sets (now (out .entry)) from (counts n lastRound)) × (r ≡ from + length (counts n lastRound)) ⌝ }
+    ensures most { λ r. ⌜ r ≤ from + 11 * lastRound ⌝ }
 {
     let mut at = from;
     let mut round: u32 = 0;
-    while round < 6 {
+    while round < compare::words::LAST_ROUND {
         let space = lines::writing::put_bytes(&mut *out, at, b" ");
         let words = compare::words::words_of(n, round + 1) as u32;
         at = lines::writing::put_decimal(&mut *out, space, words);

@@ -10,6 +10,7 @@ use borrow.Author.Tests.{leb-true, leb-false}
 use lib.Dec.{leb}
 use Rattle.lines.proofs.Places.{cases}
 use Rattle.protocol.specs.Products.{Party}
+use Rattle.protocol.specs.Rounds.{lastRound}
 use Rattle.protocol.specs.Exchange.{Both, exchanged, answerOwn, answerOthers}
 use Rattle.vectors.specs.declared.numbers.Cursor.{Cursor}
 use Rattle.vectors.specs.Numbers.{spelled}
@@ -48,11 +49,11 @@ module _ (text : List ℕ) (from : ℕ) (box1 box2 : Party) (w : Both) where
     told-more =
         is ∙ rw (add-one k) (sym (spelled-both text from (messagesTo box1 box2 w k) (messages box1 box2 (exchanged box1 box2 w k) (suc k)) (upTo at) so-far refl))
 
-    pub told-fails : k < 6 → d .ok ≡ false → false ≡ spelled text from (transcript box1 box2 w) .ok
+    pub told-fails : k < lastRound → d .ok ≡ false → false ≡ spelled text from (transcript box1 box2 w) .ok
     told-fails less none =
-        let fails = fails-to 6 (k + 1) (omega (arith, less)) (ap (λ (e : Cursor). e .ok) (sym told-more) ∙ none) in
-        sym (ap (λ (e : Cursor). e .ok) (spelled-first text from (messagesTo box1 box2 w 6) answers (read 6) refl fails) ∙ fails)
+        let fails = fails-to lastRound (k + 1) (omega (arith, less)) (ap (λ (e : Cursor). e .ok) (sym told-more) ∙ none) in
+        sym (ap (λ (e : Cursor). e .ok) (spelled-first text from (messagesTo box1 box2 w lastRound) answers (read lastRound) refl fails) ∙ fails)
 
   -- after the last, the answer shares decide
-  pub told-last : (at : ℕ) → upTo at ≡ read 6 → spelled text at answers ≡ spelled text from (transcript box1 box2 w)
-  told-last at so-far = sym (spelled-both text from (messagesTo box1 box2 w 6) answers (upTo at) so-far refl)
+  pub told-last : (at : ℕ) → upTo at ≡ read lastRound → spelled text at answers ≡ spelled text from (transcript box1 box2 w)
+  told-last at so-far = sym (spelled-both text from (messagesTo box1 box2 w lastRound) answers (upTo at) so-far refl)

@@ -24,7 +24,7 @@ unfoldable pub messagesTo : Party → Party → Both → ℕ → List ℕ
 messagesTo box1 box2 w zero = []
 messagesTo box1 box2 w (suc r) = messagesTo box1 box2 w r ++ messages box1 box2 (exchanged box1 box2 w r) (suc r)
 
--- all six rounds, then both answer shares
+-- every round, then both answer shares
 abbrev pub transcript : Party → Party → Both → List ℕ
 transcript box1 box2 w = messagesTo box1 box2 w lastRound ++ (answerOwn box1 box2 w ∷ answerOthers box1 box2 w ∷ [])
 

@@ -174,7 +174,7 @@ fn opened(
     exchanged(text, from, number, boxes, t1, t2, &mut w1, &mut w2)
 }
 
-// All six rounds, each message against the text, then the answer shares, which the last round gives.
+// Every round, each message against the text, then the answer shares, which the last round gives.
 fn exchanged(
     text: &[u8],
     from: usize,
@@ -193,7 +193,7 @@ fn exchanged(
     let mut due = boxes;
     let mut at = from;
     let mut heard: u32 = 0;
-    while heard < 5 {
+    while heard < exchange::EARLIER_ROUNDS {
         let r = compared(text, at, number, heard + 1, due, t1, t2, &mut *w1, &mut *w2);
         let c = r.read;
         if !c.ok {
@@ -208,7 +208,17 @@ fn exchanged(
         due = Boxes { box1, box2 };
         heard += 1;
     }
-    let last = compared(text, at, number, 6, due, t1, t2, w1, w2);
+    let last = compared(
+        text,
+        at,
+        number,
+        compare::words::LAST_ROUND,
+        due,
+        t1,
+        t2,
+        w1,
+        w2,
+    );
     let c = last.read;
     if !c.ok {
         return false;

@@ -10,7 +10,7 @@ use Rattle.lists.specs.Tabulate.{sum}
 use Rattle.lists.proofs.Tests.{and-false}
 use Rattle.lists.proofs.Sums.{sum-more}
 use Rattle.encoding.specs.Matching.{indicator}
-use Rattle.protocol.specs.Rounds.{afterHearing, answerShare}
+use Rattle.protocol.specs.Rounds.{lastRound, afterHearing, answerShare}
 use Rattle.rules.specs.Answers.{replyOf, started, heard, share}
 use Rattle.rules.specs.Tally.{marked}
 use Rattle.rules.specs.Grounds.{startGround, hearGround}
@@ -38,9 +38,9 @@ start-keeps s number x y tape work tally k some =
     let taken : Result = record { reply = started; state = inPhase s (Job (Speak 1) number x y); buffer = marked tally number } in
     unless-keeps s tally k (startRule s number x y tape work tally) (startGround s number x y tape work tally) taken refl refl some
 
-not-six : (t : Bool) (a b : Result) → refusalOf (a .reply) ≡ 0 → refusalOf (b .reply) ≡ 0 → refusalOf (cond t a b .reply) ≡ 0
-not-six true a b e f = e
-not-six false a b e f = f
+either-taken : (t : Bool) (a b : Result) → refusalOf (a .reply) ≡ 0 → refusalOf (b .reply) ≡ 0 → refusalOf (cond t a b .reply) ≡ 0
+either-taken true a b e f = e
+either-taken false a b e f = f
 
 hear-keeps : (s : State) (number round : ℕ) (tape work incoming : List ℕ) (k : ℕ) → 0 < k → let r = hearRule s number round tape work incoming in
     refusalOf (r .reply) ≡ k → (s ≡ r .state) × (work ≡ r .buffer)
@@ -49,8 +49,8 @@ hear-keeps s number round tape work incoming k some =
     let left = afterHearing (partyOf s tape) work round incoming in
     let last : Result = record { reply = share (answerShare (partyOf s tape) work incoming); state = inPhase s Idle; buffer = left } in
     let next : Result = record { reply = heard; state = inPhase s (turned (s .phase) (Speak (round + 1))); buffer = left } in
-    unless-keeps s work k (hearRule s number round tape work incoming) (hearGround s number round tape work incoming) (cond (eqb round 6) last next)
-    refl (not-six (eqb round 6) last next refl refl) some
+    unless-keeps s work k (hearRule s number round tape work incoming) (hearGround s number round tape work incoming) (cond (eqb round lastRound) last next)
+    refl (either-taken (eqb round lastRound) last next refl refl) some
 
 -- refused with that number, and nothing changed, is refused with that number
 both-tests : (t : Bool) (kept : Bool) → (t ≡ true → kept ≡ true) → kept && t ≡ t

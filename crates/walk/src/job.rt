@@ -5,7 +5,8 @@ use crate::say::number;
 use crate::say::text;
 use rules::state::Answer;
 ghost use mathlib.Core.Path.{_≡_};
-ghost use Prim.Native.Nat.{_+_, _%_, _<_};
+ghost use Prim.Native.Nat.{_+_, _%_, _≤_};
+ghost use Rattle.protocol.specs.Rounds.{lastRound};
 
 // What that box answered last.
 fn answer_of(pair: Pair, side: u32) -> Answer
@@ -41,7 +42,7 @@ fn opened(share1: u32, share2: u32) -> u32
 
 // The words that both boxes' messages of a round open. The plain tapes' masks are 0, so these are the factors of its products.
 fn openings(round: u32)
-    requires { ⌜ round < 7 ⌝ }
+    requires { ⌜ round ≤ lastRound ⌝ }
 {
     let pair = progress::reached(2 * round);
     let box1 = pair.box1;

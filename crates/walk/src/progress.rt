@@ -24,8 +24,8 @@ pub struct Pair {
     pub box2: BoxMemory,
 }
 
-// The last step of a job: hear 6.
-pub const LAST: u32 = 13;
+// The last step of a job: the hear of the last round.
+pub const LAST: u32 = 2 * compare::words::LAST_ROUND + 1;
 
 // A box that has woken. The words in its buffers are of no account.
 pub fn woken(side: u32) -> BoxMemory

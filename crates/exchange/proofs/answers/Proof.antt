@@ -6,7 +6,7 @@ use borrow.Author.Needs.{needs}
 use lib.ListN.{length}
 use Rattle.protocol.specs.Products.{Party}
 use Rattle.protocol.specs.Exchange.{Both, exchanged}
-use Rattle.protocol.specs.Rounds.{roundWords}
+use Rattle.protocol.specs.Rounds.{earlierRounds, lastRound, roundWords}
 use Rattle.rules.specs.Answers.{share}
 use Rattle.rules.specs.Calls.{partyOf}
 use Rattle.exchange.specs.Boxes.{works, after}
@@ -17,7 +17,7 @@ use Rattle.exchange.proofs.answers.Tie as tie
 
 abbrev Inv-loop : tie.InvT-loop
 Inv-loop number t1 t2 w1₀ w2₀ o1₀ o2₀ due₀ heard₀ w1 w2 o1 o2 due heard =
-    (heard ≤ 5)
+    (heard ≤ earlierRounds)
     × Course (due₀ .box1) number t1 heard (after (due₀ .box1) (due₀ .box2) t1 t2 w1₀ w2₀ heard .own) (due .box1) w1
     × Course (due₀ .box2) number t2 heard (after (due₀ .box1) (due₀ .box2) t1 t2 w1₀ w2₀ heard .others) (due .box2) w2
     × (length w1 ≡ length w1₀)
@@ -26,7 +26,7 @@ Inv-loop number t1 t2 w1₀ w2₀ o1₀ o2₀ due₀ heard₀ w1 w2 o1 o2 due he
     × (length o2 ≡ length o2₀)
 
 abbrev μ-loop : tie.MeasureT-loop
-μ-loop number t1 t2 w1₀ w2₀ o1₀ o2₀ due₀ heard₀ w1 w2 o1 o2 due heard = 5 - heard
+μ-loop number t1 t2 w1₀ w2₀ o1₀ o2₀ due₀ heard₀ w1 w2 o1 o2 due heard = earlierRounds - heard
 
 abbrev start : tie.At-loop Inv-loop μ-loop → tie.Start Inv-loop μ-loop
 start l = l .before .before .before .before .before .before .before
@@ -71,14 +71,14 @@ Course2 l k =
     Course (v .boxes .box2) (v .number) (v .t2 .now) k (exchanged (box1 s) (box2 s) (first s) k .others) (l .loop .due .box2) (l .loop .w2)
 
 -- where the loop ends, all rounds but the last are heard
-five : (a : tie.After-loop Inv-loop μ-loop) → a .before .loop .heard ≡ 5
-five a = omega (arith, a .loop-test .left, a .before .loop .inv .0)
+all-heard : (a : tie.After-loop Inv-loop μ-loop) → a .before .loop .heard ≡ earlierRounds
+all-heard a = omega (arith, a .loop-test .left, a .before .loop .inv .0)
 
-ended1 : (a : tie.After-loop Inv-loop μ-loop) → Course1 (a .before) 5
-ended1 a = subst (λ (k : ℕ). Course1 (a .before) k) (five a) (a .before .loop .inv .1)
+ended1 : (a : tie.After-loop Inv-loop μ-loop) → Course1 (a .before) earlierRounds
+ended1 a = subst (λ (k : ℕ). Course1 (a .before) k) (all-heard a) (a .before .loop .inv .1)
 
-ended2 : (a : tie.After-loop Inv-loop μ-loop) → Course2 (a .before) 5
-ended2 a = subst (λ (k : ℕ). Course2 (a .before) k) (five a) (a .before .loop .inv .2)
+ended2 : (a : tie.After-loop Inv-loop μ-loop) → Course2 (a .before) earlierRounds
+ended2 a = subst (λ (k : ℕ). Course2 (a .before) k) (all-heard a) (a .before .loop .inv .2)
 
 loop-holds : tie.Need-loop-holds Inv-loop μ-loop
 unfolding exchanged
@@ -130,7 +130,7 @@ loop-again c =
 round-requires-2 : tie.Need-round-requires-2 Inv-loop μ-loop
 round-requires-2 c κs =
     let a = c .before .before .before .before in
-    let f = fits (a .before) 6 in
+    let f = fits (a .before) lastRound in
     ((ended1 a .due, f .out1), ((ended2 a .due, f .out2), f .width))
 
 same-length : tie.Need-same-length Inv-loop μ-loop
@@ -150,8 +150,8 @@ returns c =
     let r = c .before .before .before .before .before .before .before .before in
     let a = r .before .before .before .before .before in
     let s = start (a .before) in (
-      course-last (ended1 a) _ _ (course-sends (ended2 a) 6) (r .round2 .result .box1) _ refl (r .round2 .ensures .0 .1) ∙ ap share (sym (last-own (box1 s) (box2 s) (first s))),
-      course-last (ended2 a) _ _ (course-sends (ended1 a) 6) (r .round2 .result .box2) _ refl (r .round2 .ensures .1 .1) ∙ ap share (sym (last-others (box1 s) (box2 s) (first s))),
+      course-last (ended1 a) _ _ (course-sends (ended2 a) lastRound) (r .round2 .result .box1) _ refl (r .round2 .ensures .0 .1) ∙ ap share (sym (last-own (box1 s) (box2 s) (first s))),
+      course-last (ended2 a) _ _ (course-sends (ended1 a) lastRound) (r .round2 .result .box2) _ refl (r .round2 .ensures .1 .1) ∙ ap share (sym (last-others (box1 s) (box2 s) (first s))),
     )
 
 pub answers-spec : {M : Type 1} → statement M

@@ -6,6 +6,7 @@ use native.Mathlib.Nat.{zero-add}
 use native.Mathlib.Omega.{arith}
 use borrow.Author.Needs.{needs}
 use lib.ListN.{length}
+use Rattle.protocol.specs.Rounds.{lastRound}
 use Rattle.lines.specs.Writing.{decimal}
 use Rattle.plain.specs.Printed.{counts, answerText}
 use Rattle.plain.proofs.Joins.{Put, more}
@@ -51,16 +52,16 @@ returns c =
     let out = s .args .out .now in
     let word : List ℕ = 114 ∷ 111 ∷ 117 ∷ 110 ∷ 100 ∷ 115 ∷ [] in
     let next : List ℕ = 10 ∷ 108 ∷ 101 ∷ 115 ∷ 115 ∷ 32 ∷ [] in
-    let six = counts (s .args .n) 6 in
+    let rows = counts (s .args .n) lastRound in
     let answer = decimal (s .args .less) in
     let p1 : Put out (name .put-bytes .last .0) 0 (name .put-bytes .result) word = record { run = name .put-bytes .ensures .0; place = name .put-bytes .ensures .1 } in
-    let p2 = more out (name .put-bytes .last .0) (rounds .put-counts .last .1 .0) 0 (name .put-bytes .result) (rounds .put-counts .result) word six
+    let p2 = more out (name .put-bytes .last .0) (rounds .put-counts .last .1 .0) 0 (name .put-bytes .result) (rounds .put-counts .result) word rows
     p1 (rounds .put-counts .ensures .0 .0) (rounds .put-counts .ensures .0 .1) in
-    let p3 = more out (rounds .put-counts .last .1 .0) (line .put-bytes2 .last .0) 0 (rounds .put-counts .result) (line .put-bytes2 .result) (word ++ six) next
+    let p3 = more out (rounds .put-counts .last .1 .0) (line .put-bytes2 .last .0) 0 (rounds .put-counts .result) (line .put-bytes2 .result) (word ++ rows) next
     p2 (line .put-bytes2 .ensures .0) (line .put-bytes2 .ensures .1) in
-    let p4 = more out (line .put-bytes2 .last .0) (digits .put-decimal .last .0) 0 (line .put-bytes2 .result) (digits .put-decimal .result) (word ++ six ++ next) answer
+    let p4 = more out (line .put-bytes2 .last .0) (digits .put-decimal .last .0) 0 (line .put-bytes2 .result) (digits .put-decimal .result) (word ++ rows ++ next) answer
     p3 (digits .put-decimal .ensures .0 .0) (digits .put-decimal .ensures .0 .1) in
-    let p5 = more out (digits .put-decimal .last .0) (last .put-bytes3 .last .0) 0 (digits .put-decimal .result) (last .put-bytes3 .result) (word ++ six ++ next ++ answer) (10 ∷ [])
+    let p5 = more out (digits .put-decimal .last .0) (last .put-bytes3 .last .0) 0 (digits .put-decimal .result) (last .put-bytes3 .result) (word ++ rows ++ next ++ answer) (10 ∷ [])
     p4 (last .put-bytes3 .ensures .0) (last .put-bytes3 .ensures .1) in (
       (p5 .run, p5 .place ∙ zero-add (length (answerText (s .args .n) (s .args .less)))),
       omega (

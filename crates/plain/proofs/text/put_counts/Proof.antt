@@ -6,7 +6,7 @@ use native.Mathlib.Omega.{arith}
 use borrow.Author.Needs.{needs}
 use lib.ListN.{length}
 use lib.Seq.{sets}
-use Rattle.protocol.specs.Rounds.{roundWords}
+use Rattle.protocol.specs.Rounds.{lastRound, roundWords}
 use Rattle.protocol.proofs.Lengths.{words-most}
 use Rattle.lines.specs.Writing.{decimal}
 use Rattle.plain.specs.Printed.{counts}
@@ -16,10 +16,10 @@ use Rattle.plain.proofs.text.put_counts.Tie as tie
 
 abbrev Inv-loop : tie.InvT-loop
 Inv-loop n out₀ from at₀ round₀ t8 out at round =
-    (length out ≡ length out₀) × (round ≤ 6) × Put out₀ out from at (counts n round) × (at ≤ from + 11 * round)
+    (length out ≡ length out₀) × (round ≤ lastRound) × Put out₀ out from at (counts n round) × (at ≤ from + 11 * round)
 
 abbrev μ-loop : tie.MeasureT-loop
-μ-loop n out₀ from at₀ round₀ t8 out at round = 6 - round
+μ-loop n out₀ from at₀ round₀ t8 out at round = lastRound - round
 
 loop-holds : tie.Need-loop-holds Inv-loop μ-loop
 unfolding counts
@@ -84,7 +84,7 @@ returns : tie.Need-returns Inv-loop μ-loop
 returns c =
     let l = c .before in
     let s = l .before .before in
-    let all : l .loop .round ≡ 6 = omega (arith, l .loop .inv .1) in
+    let all : l .loop .round ≡ lastRound = omega (arith, l .loop .inv .1) in
     let put = l .loop .inv .2 in (
       (put .run ∙ ap (λ (r : ℕ). sets (s .args .out .now) (s .args .from) (counts (s .args .n) r)) all, put .place ∙ ap (λ (r : ℕ). s .args .from + length (counts (s .args .n) r)) all),
       omega (arith, l .loop .inv .3, all),

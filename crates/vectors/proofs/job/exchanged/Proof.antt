@@ -9,6 +9,7 @@ use borrow.Author.Tests.{not-true, not-false}
 use lib.ListN.{length}
 use Rattle.protocol.specs.Products.{Party}
 use Rattle.protocol.specs.Exchange.{Both, exchanged}
+use Rattle.protocol.specs.Rounds.{earlierRounds, lastRound}
 use Rattle.rules.specs.Answers.{share}
 use Rattle.rules.specs.Calls.{partyOf}
 use Rattle.exchange.specs.Opening.{shareOf}
@@ -24,7 +25,7 @@ use Rattle.vectors.proofs.job.exchanged.Tie as tie
 
 abbrev Inv-loop : tie.InvT-loop
 Inv-loop text from number t1 t2 w1₀ w2₀ due₀ at₀ heard₀ w1 w2 due at heard =
-    (heard ≤ 5)
+    (heard ≤ earlierRounds)
     × Course (due₀ .box1) number t1 heard (after (due₀ .box1) (due₀ .box2) t1 t2 w1₀ w2₀ heard .own) (due .box1) w1
     × Course (due₀ .box2) number t2 heard (after (due₀ .box1) (due₀ .box2) t1 t2 w1₀ w2₀ heard .others) (due .box2) w2
     × (length w1 ≡ length w1₀)
@@ -32,7 +33,7 @@ Inv-loop text from number t1 t2 w1₀ w2₀ due₀ at₀ heard₀ w1 w2 due at h
     × (upTo at ≡ read text from (partyOf (due₀ .box1) t1) (partyOf (due₀ .box2) t2) (works w1₀ w2₀) heard)
 
 abbrev μ-loop : tie.MeasureT-loop
-μ-loop text from number t1 t2 w1₀ w2₀ due₀ at₀ heard₀ w1 w2 due at heard = 5 - heard
+μ-loop text from number t1 t2 w1₀ w2₀ due₀ at₀ heard₀ w1 w2 due at heard = earlierRounds - heard
 
 abbrev start : tie.At-loop Inv-loop μ-loop → tie.Start Inv-loop μ-loop
 start l = l .before .before .before .before .before .before
@@ -66,21 +67,21 @@ ToldAt l k =
     upTo (l .loop .at) ≡ read (s .args .text .now) (s .args .from) (box1 s) (box2 s) (first s) k
 
 -- where the loop ends, all rounds but the last are heard
-five : (a : tie.After-loop Inv-loop μ-loop) → a .before .loop .heard ≡ 5
-five a = omega (arith, a .loop-test .left, a .before .loop .inv .0)
+all-heard : (a : tie.After-loop Inv-loop μ-loop) → a .before .loop .heard ≡ earlierRounds
+all-heard a = omega (arith, a .loop-test .left, a .before .loop .inv .0)
 
-ended1 : (a : tie.After-loop Inv-loop μ-loop) → Course1 (a .before) 5
-ended1 a = subst (Course1 (a .before)) (five a) (a .before .loop .inv .1)
+ended1 : (a : tie.After-loop Inv-loop μ-loop) → Course1 (a .before) earlierRounds
+ended1 a = subst (Course1 (a .before)) (all-heard a) (a .before .loop .inv .1)
 
-ended2 : (a : tie.After-loop Inv-loop μ-loop) → Course2 (a .before) 5
-ended2 a = subst (Course2 (a .before)) (five a) (a .before .loop .inv .2)
+ended2 : (a : tie.After-loop Inv-loop μ-loop) → Course2 (a .before) earlierRounds
+ended2 a = subst (Course2 (a .before)) (all-heard a) (a .before .loop .inv .2)
 
 -- the two have one width
 one-width : (l : tie.At-loop Inv-loop μ-loop) → l .loop .due .box1 .n ≡ l .loop .due .box2 .n
 one-width l = let inv = l .loop .inv in course-width (inv .1) ∙ start l .pre .width ∙ sym (course-width (inv .2))
 
-told : (a : tie.After-loop Inv-loop μ-loop) → ToldAt (a .before) 5
-told a = subst (ToldAt (a .before)) (five a) (a .before .loop .inv .5)
+told : (a : tie.After-loop Inv-loop μ-loop) → ToldAt (a .before) earlierRounds
+told a = subst (ToldAt (a .before)) (all-heard a) (a .before .loop .inv .5)
 
 -- a cursor that read all it was asked
 reached : (d : Cursor) → d .ok ≡ true → upTo (d .at) ≡ d
@@ -96,10 +97,10 @@ round-read r =
 
 last-read : (r : tie.After-compared2 Inv-loop μ-loop) → let l = r .before .before .before .before in
     let s = start l in
-    r .compared2 .result .read ≡ spelled (s .args .text .now) (l .loop .at) (messages (box1 s) (box2 s) (exchanged (box1 s) (box2 s) (first s) 5) 6)
+    r .compared2 .result .read ≡ spelled (s .args .text .now) (l .loop .at) (messages (box1 s) (box2 s) (exchanged (box1 s) (box2 s) (first s) earlierRounds) lastRound)
 last-read r =
     let a = r .before .before .before in
-    r .compared2 .ensures .0 ∙ ap (spelled (start (a .before) .args .text .now) (a .before .loop .at)) (ap₂ _++_ (course-sends (ended1 a) 6) (course-sends (ended2 a) 6))
+    r .compared2 .ensures .0 ∙ ap (spelled (start (a .before) .args .text .now) (a .before .loop .at)) (ap₂ _++_ (course-sends (ended1 a) lastRound) (course-sends (ended2 a) lastRound))
 
 loop-holds : tie.Need-loop-holds Inv-loop μ-loop
 unfolding messagesTo spelled exchanged
@@ -180,7 +181,7 @@ returns-2 c =
     let a = r .before .before .before in
     let l = a .before in
     let s = start l in
-    told-fails (s .args .text .now) (s .args .from) (box1 s) (box2 s) (first s) 5 (l .loop .at) (told a) (r .compared2 .result .read) (last-read r)
+    told-fails (s .args .text .now) (s .args .from) (box1 s) (box2 s) (first s) earlierRounds (l .loop .at) (told a) (r .compared2 .result .read) (last-read r)
     (omega arith) (not-true _ (c .if2 .taken))
 
 answers-same-requires : tie.Need-answers-same-requires Inv-loop μ-loop
@@ -201,9 +202,9 @@ returns-3 c =
     let s = start l in
     let v = s .args in
     let ok = not-false (r .compared2 .result .read .ok) (e .if2 .left) in
-    let more = told-more (v .text .now) (v .from) (box1 s) (box2 s) (first s) 5 (l .loop .at) (told a) (r .compared2 .result .read) (last-read r) in
-    let share1 = course-last (ended1 a) _ _ (course-sends (ended2 a) 6) (r .compared2 .result .heard .box1) _ refl (r .compared2 .ensures .1 .0) ∙ ap share (sym (last-own (box1 s) (box2 s) (first s))) in
-    let share2 = course-last (ended2 a) _ _ (course-sends (ended1 a) 6) (r .compared2 .result .heard .box2) _ refl (r .compared2 .ensures .1 .1) ∙ ap share (sym (last-others (box1 s) (box2 s) (first s))) in
+    let more = told-more (v .text .now) (v .from) (box1 s) (box2 s) (first s) earlierRounds (l .loop .at) (told a) (r .compared2 .result .read) (last-read r) in
+    let share1 = course-last (ended1 a) _ _ (course-sends (ended2 a) lastRound) (r .compared2 .result .heard .box1) _ refl (r .compared2 .ensures .1 .0) ∙ ap share (sym (last-own (box1 s) (box2 s) (first s))) in
+    let share2 = course-last (ended2 a) _ _ (course-sends (ended1 a) lastRound) (r .compared2 .result .heard .box2) _ refl (r .compared2 .ensures .1 .1) ∙ ap share (sym (last-others (box1 s) (box2 s) (first s))) in
     let shares = ap₂ (λ (x y : ℕ). spelled (v .text .now) (r .compared2 .result .read .at) (x ∷ y ∷ []) .ok) (ap shareOf share1) (ap shareOf share2) in
     let all = told-last (v .text .now) (v .from) (box1 s) (box2 s) (first s) (r .compared2 .result .read .at) (reached (r .compared2 .result .read) ok ∙ more) in
     c .answers-same .ensures ∙ shares ∙ ap (λ (d : Cursor). d .ok) all

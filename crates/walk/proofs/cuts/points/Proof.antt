@@ -1,14 +1,15 @@
 -- `walk::cuts::points` ends: the steps run to the last.
-use Prim.Native.Nat.{_≤_, _-_}
+use Prim.Native.Nat.{_≤_, _+_, _-_, _*_}
 use borrow.Author.Needs.{needs}
+use Rattle.protocol.specs.Rounds.{lastRound}
 use Rattle.walk.proofs.cuts.points.Statement.{statement}
 use Rattle.walk.proofs.cuts.points.Tie as tie
 
 abbrev Inv-loop : tie.InvT-loop
-Inv-loop step₀ step = step ≤ 14
+Inv-loop step₀ step = step ≤ 2 * lastRound + 2
 
 abbrev μ-loop : tie.MeasureT-loop
-μ-loop step₀ step = 14 - step
+μ-loop step₀ step = 2 * lastRound + 2 - step
 
 loop-holds : tie.Need-loop-holds Inv-loop μ-loop
 loop-holds c = search needs

@@ -1,14 +1,15 @@
 -- `walk::job::answers` ends: the steps run to the last.
-use Prim.Native.Nat.{_≤_, _-_}
+use Prim.Native.Nat.{_≤_, _+_, _-_, _*_}
 use borrow.Author.Needs.{needs}
+use Rattle.protocol.specs.Rounds.{lastRound}
 use Rattle.walk.proofs.job.answers.Statement.{statement}
 use Rattle.walk.proofs.job.answers.Tie as tie
 
 abbrev Inv-loop : tie.InvT-loop
-Inv-loop side step₀ t5 t6 step = step ≤ 14
+Inv-loop side step₀ t5 t6 step = step ≤ 2 * lastRound + 2
 
 abbrev μ-loop : tie.MeasureT-loop
-μ-loop side step₀ t5 t6 step = 14 - step
+μ-loop side step₀ t5 t6 step = 2 * lastRound + 2 - step
 
 slice-aggregate-number : tie.Need-slice-aggregate-number Inv-loop μ-loop
 slice-aggregate-number c = search needs
