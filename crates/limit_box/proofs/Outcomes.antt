@@ -43,9 +43,9 @@ module _ (s : State) (number round : ℕ) (tape work incoming : List ℕ) (goes 
       → next ≡ inPhase s Idle → after ≡ afterHearing (partyOf s tape) work round incoming
       → outcome (record { answer = ShareOf v; state = next }) after ≡ hearRule s number round tape work incoming
   unfolding hearRule replyTo
-  last-outcome v next after six reply closed heard =
-      let share : v ≡ answerShare (partyOf s tape) work incoming = rw six at reply in
-      rw (goes, eq-eqb round lastRound six, share, closed, heard) refl
+  last-outcome v next after last reply closed heard =
+      let share : v ≡ answerShare (partyOf s tape) work incoming = rw last at reply in
+      rw (goes, eq-eqb round lastRound last, share, closed, heard) refl
 
   pub more-outcome : (next : State) (after : List ℕ) → (round ≡ lastRound → ⊥) → next ≡ inPhase s (turned (s .phase) (Speak (round + 1)))
       → after ≡ afterHearing (partyOf s tape) work round incoming

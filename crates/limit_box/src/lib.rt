@@ -8,7 +8,7 @@ use rules::state::State;
 use rules::state::Turn;
 ghost use mathlib.Core.Path.{_≡_};
 ghost use mathlib.Core.List.{[]};
-ghost use Rattle.rules.specs.Calls.{outcome, inPhase, xOf, yOf, wakeRule, startRule, speakRule, hearRule, dropRule};
+ghost use Rattle.rules.specs.Calls.{outcome, inPhase, xOf, yOf, turned, wakeRule, startRule, speakRule, hearRule, dropRule};
 ghost use Rattle.rules.specs.declared.state.Answer.the-variants.{Refused};
 
 mod checks;
@@ -84,12 +84,7 @@ pub fn speak(
             let own = shares_in(phase);
             compare::speaking::speak(state.n, state.side, round, own.x, own.y, tape, work, out);
             let turn = Turn::Hear(round);
-            let next = Phase::Job {
-                turn,
-                number,
-                x: own.x,
-                y: own.y,
-            };
+            let next = with_turn(phase, turn);
             Outcome {
                 answer: Answer::Spoke(compare::words::words_of(state.n, round) as u32),
                 state: in_phase(state, next),
@@ -133,12 +128,7 @@ pub fn hear(
                 };
             }
             let turn = Turn::Speak(round + 1);
-            let next = Phase::Job {
-                turn,
-                number,
-                x: own.x,
-                y: own.y,
-            };
+            let next = with_turn(phase, turn);
             Outcome {
                 answer: Answer::Heard,
                 state: in_phase(state, next),
@@ -181,6 +171,22 @@ fn in_phase(state: State, phase: Phase) -> State
         pair: state.pair,
         tally: state.tally,
         phase,
+    }
+}
+
+// The same job with another turn due.
+fn with_turn(phase: Phase, turn: Turn) -> Phase
+    ensures { λ r. ⌜ r ≡ turned phase turn ⌝ }
+{
+    match phase {
+        Phase::Asleep => Phase::Asleep,
+        Phase::Idle => Phase::Idle,
+        Phase::Job {
+            turn: _,
+            number,
+            x,
+            y,
+        } => Phase::Job { turn, number, x, y },
     }
 }
 

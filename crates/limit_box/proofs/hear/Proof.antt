@@ -1,16 +1,14 @@
 -- `limit_box::hear` meets its contract: refused by its check, or the words are taken in; after the last round the answer share comes back.
-use Prim.Native.Nat.{ℕ, _+_}
+use Prim.Native.Nat.{ℕ}
 use mathlib.Core.Path.{_≡_, refl, ap₂, _∙_}
 use native.Mathlib.Omega.{arith}
-use Rattle.tape.proofs.Orders.{readable}
 use Rattle.protocol.specs.Products.{party}
 use Rattle.protocol.specs.Rounds.{afterHearing, replyTo}
 use Rattle.rules.specs.Grounds.{hearGround}
 use Rattle.rules.specs.Calls.{partyOf, hearRule}
-use Rattle.rules.proofs.Ranges.{due-turned}
 use Rattle.rules.proofs.Passed.{HearPassed, hear-passed, words-below}
-use Rattle.rules.specs.declared.state.Turn.the-variants.{Speak, Hear}
 use Rattle.limit_box.proofs.Outcomes.{refused-outcome, passed-ground, last-outcome, more-outcome}
+use Rattle.limit_box.proofs.Turns.{given}
 use borrow.Author.Needs.{needs}
 use Rattle.limit_box.proofs.hear.Statement.{statement}
 use Rattle.limit_box.proofs.hear.Tie as tie
@@ -70,16 +68,9 @@ hear-requires c κs =
     let told = c .before .before in
     let a = start told .args in
     let go = passed told in
-    let turn = go .turn in
-    let own = c .before .shares-in .ensures in (
-      (
-        turn .sound .sided,
-        rw (own .0) (turn .range .x-fits),
-        rw (own .1) (turn .range .y-fits),
-        readable (a .state .n) (a .state .pair) (a .state .side) (a .number) (a .tape .now) (turn .ordered),
-        go .room,
-      ),
-      record { below = words-below (a .state .n) (a .incoming .now) (turn .sound .width) (go .words); long = omega (arith, go .long) },
+    let g = given _ _ (go .turn) (c .before .shares-in .ensures) in (
+      (g .sided, g .x-fits, g .y-fits, g .readable, go .room),
+      record { below = words-below (a .state .n) (a .incoming .now) (go .turn .sound .width) (go .words); long = omega (arith, go .long) },
     )
 
 in-phase-requires : tie.Need-in-phase-requires
@@ -102,6 +93,9 @@ add-t23 c =
     let told = c .before .before .before .before .before .before in
     omega (arith, passed told .turn .range .last)
 
+with-turn-requires : tie.Need-with-turn-requires
+with-turn-requires c κs = search needs
+
 in-phase-requires-2 : tie.Need-in-phase-requires-2
 in-phase-requires-2 c κs = search needs
 
@@ -119,14 +113,12 @@ same-length-3 c = search needs
 
 returns-3 : tie.Need-returns-3
 returns-3 c =
-    let heard = c .before .before .before .before in
+    let heard = c .before .before .before .before .before in
     let told = heard .before .before .before in
     let a = start told .args in
-    let own = heard .before .before .shares-in .ensures in
-    let next = due-turned (a .state) (a .number) (Hear (a .round)) (Speak (a .round + 1)) (passed told .turn .due) in
     more-outcome (a .state) (a .number) (a .round) (a .tape .now) (a .work .now) (a .incoming .now) (goes told)
     (c .in-phase2 .result) (heard .hear .last .1 .1 .1 .1 .1 .1 .0)
-    (c .before .if1 .left) (c .in-phase2 .ensures ∙ rw (own .0, own .1, next) refl) (after heard)
+    (c .before .before .if1 .left) (c .in-phase2 .ensures ∙ rw (c .before .with-turn .ensures) refl) (after heard)
 
 pub hear-spec : {M : Type 1} → statement M
 hear-spec =
@@ -142,6 +134,7 @@ hear-spec =
     same-length
     returns
     add-t23
+    with-turn-requires
     in-phase-requires-2
     same-length-2
     returns-2

@@ -1,13 +1,11 @@
 -- `limit_box::speak` meets its contract: refused by its check, or the round's words are at the front of out.
-use mathlib.Core.Path.{_≡_, refl, sym, _∙_}
+use mathlib.Core.Path.{sym}
 use native.Mathlib.Omega.{arith}
-use Rattle.tape.proofs.Orders.{readable}
 use Rattle.protocol.proofs.Lengths.{words-most}
-use Rattle.rules.specs.Calls.{inPhase, turned, speakRule}
-use Rattle.rules.proofs.Ranges.{due-turned}
+use Rattle.rules.specs.Calls.{speakRule}
 use Rattle.rules.proofs.Passed.{SpeakPassed, speak-passed}
-use Rattle.rules.specs.declared.state.Turn.the-variants.{Speak, Hear}
 use Rattle.limit_box.proofs.Outcomes.{refused-outcome, passed-outcome, passed-ground}
+use Rattle.limit_box.proofs.Turns.{given}
 use borrow.Author.Needs.{needs}
 use Rattle.limit_box.proofs.speak.Statement.{statement}
 use Rattle.limit_box.proofs.speak.Tie as tie
@@ -41,40 +39,30 @@ shares-in-requires c κs = search needs
 
 speak-requires : tie.Need-speak-requires
 speak-requires c κs =
-    let told = c .before .before in
-    let a = start told .args in
-    let go = passed told in
-    let turn = go .turn in
-    let own = c .before .shares-in .ensures in (
-      (
-        turn .sound .sided,
-        rw (own .0) (turn .range .x-fits),
-        rw (own .1) (turn .range .y-fits),
-        readable (a .state .n) (a .state .pair) (a .state .side) (a .number) (a .tape .now) (turn .ordered),
-      ),
-      (go .room, go .out-room),
-    )
+    let go = passed (c .before .before) in
+    let g = given _ _ (go .turn) (c .before .shares-in .ensures) in
+    ((g .sided, g .x-fits, g .y-fits, g .readable), (go .room, go .out-room))
 
 -- the answer, before what its count asks: a wrong count fails here
 returns-2 : tie.Need-returns-2
 unfolding speakRule
 returns-2 c =
-    let spoken = c .before .before .before .before in
+    let turn = c .before .before in
+    let spoken = turn .before .before .before in
     let own = spoken .before .before .shares-in .ensures in
     let told = spoken .before .before .before in
-    let a = start told .args in
-    let s = a .state in
-    let next = due-turned s (a .number) (Speak (a .round)) (Hear (a .round)) (passed told .turn .due) in
-    let state : c .in-phase .result ≡ inPhase s (turned (s .phase) (Hear (a .round))) = c .in-phase .ensures ∙ rw (own .0, own .1, next) refl in
-    rw (c .before .words-of .ensures, state, spoken .speak .ensures, own .0, own .1)
+    rw (c .before .words-of .ensures, c .in-phase .ensures, turn .with-turn .ensures, spoken .speak .ensures, own .0, own .1)
     (sym (passed-outcome _ _ _ _ _ (told .enum-told .given .1) (told .before .before .speak-check .ensures)))
 
+with-turn-requires : tie.Need-with-turn-requires
+with-turn-requires c κs = search needs
+
 words-of-requires : tie.Need-words-of-requires
-words-of-requires c κs = passed (c .before .before .before .before .before) .turn .sound .width
+words-of-requires c κs = passed (c .before .before .before .before .before .before) .turn .sound .width
 
 cast-t20 : tie.Need-cast-t20
 cast-t20 c =
-    let told = c .before .before .before .before .before .before in
+    let told = c .before .before .before .before .before .before .before in
     let a = start told .args in
     omega (arith, c .words-of .ensures, words-most (a .state .n) (a .round) (passed told .turn .sound .width))
 
@@ -103,6 +91,7 @@ speak-spec =
     enum-told
     shares-in-requires
     speak-requires
+    with-turn-requires
     words-of-requires
     cast-t20
     in-phase-requires
