@@ -40,17 +40,17 @@ module _ {first : State} {number : ℕ} {tape : List ℕ} {k : ℕ} {held : List
   pub course-sends : (round : ℕ) → message (partyOf s tape) work round ≡ message (partyOf first tape) held round
   course-sends round = rw (c .same, c .so-far)
 
-  module _ (words sent : List ℕ) (told : words ≡ sent) (r : Outcome) (work′ : List ℕ) where
+  module _ (incoming sent : List ℕ) (told : incoming ≡ sent) (r : Outcome) (work′ : List ℕ) where
     -- one round more
-    pub course-next : k < earlierRounds → outcome r work′ ≡ heardAfter s tape work (k + 1) words → (held′ : List ℕ)
+    pub course-next : k < earlierRounds → outcome r work′ ≡ heardAfter s tape work (k + 1) incoming → (held′ : List ℕ)
         → held′ ≡ afterHearing (partyOf first tape) held (k + 1) sent
         → Course first number tape (k + 1) held′ (r .state) work′
     course-next more e held′ next =
-        let n = heard-next s number (k + 1) tape work (c .due) words r work′ (omega (arith, more)) e in
+        let n = heard-next s number (k + 1) tape work (c .due) incoming r work′ (omega (arith, more)) e in
         record { due = n .ready; same = n .same ∙ c .same; so-far = n .after ∙ rw (c .same, c .so-far, told, next) }
 
     -- the last one
-    pub course-last : k ≡ earlierRounds → outcome r work′ ≡ heardAfter s tape work (k + 1) words
+    pub course-last : k ≡ earlierRounds → outcome r work′ ≡ heardAfter s tape work (k + 1) incoming
         → replyOf (r .answer) ≡ share (answerShare (partyOf first tape) held sent)
     course-last all e =
-        heard-last s number (k + 1) tape work (c .due) words r work′ (omega (arith, all)) e ∙ rw (c .same, c .so-far, told)
+        heard-last s number (k + 1) tape work (c .due) incoming r work′ (omega (arith, all)) e ∙ rw (c .same, c .so-far, told)

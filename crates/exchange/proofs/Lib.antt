@@ -1,6 +1,6 @@
 mod Turned
 pub mod Ready
-mod Told
+mod Delivery
 pub mod Course
 pub mod Exchanges
 pub mod Begun

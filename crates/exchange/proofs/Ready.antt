@@ -1,27 +1,22 @@
 -- A box that is ready for a round: neither its speak nor its hear is refused, and after them it is ready for the next.
 use Prim.Native.Nat.{ℕ, _+_, _<_, _≤_}
-use mathlib.Core.Path.{_≡_, refl, ap, subst, _∙_}
+use mathlib.Core.Path.{_≡_, refl, ap, _∙_}
 use mathlib.Core.Bool.{true, false}
 use mathlib.Core.List.{List}
 use native.Mathlib.Omega.{arith}
 use borrow.Author.Tests.{eq-eqb, ne-eqb, le-leb}
-use lib.Dec.{ltb}
 use lib.ListN.{length}
 use lib.Seq.{sets}
-use Rattle.lists.proofs.Tests.{and-left, and-right}
-use Rattle.field.specs.Width.{modulus}
 use Rattle.protocol.specs.Work.{workLength}
 use Rattle.protocol.specs.Rounds.{lastRound, roundWords, message, afterHearing, answerShare}
 use Rattle.protocol.proofs.Lengths.{after-length}
 use Rattle.rules.specs.Answers.{spoke, share, replyOf}
-use Rattle.rules.specs.Tally.{tapesOf}
 use Rattle.rules.specs.Modes.{roundOf, roundFits, modeOf, isAsleep, sameTurn}
 use Rattle.rules.specs.Grounds.{firstOf, wordsFit, messageFits, turnGrounds, speakGround, hearGround}
 use Rattle.rules.specs.Calls.{Result, outcome, inPhase, xOf, yOf, partyOf, turned, speakRule, hearRule}
 use Rattle.rules.proofs.Ranges.{ranged, range-mode, awake-range, job-range, turned-mode}
 use Rattle.rules.specs.declared.state.Turn.{Turn}
 use Rattle.rules.specs.declared.state.Turn.the-variants.{Speak, Hear}
-use Rattle.rules.specs.declared.state.Phase.{Phase}
 use Rattle.rules.specs.declared.state.State.{State}
 use Rattle.rules.specs.declared.state.Outcome.{Outcome}
 use Rattle.exchange.specs.Boxes.{Ready, heardAfter}
@@ -66,18 +61,18 @@ module _ (s : State) (number : ℕ) (tape work : List ℕ) where
   unfolding speakGround
   speak-goes round out r room = turn-goes (Speak round) out r (le-leb (roundWords (s .n) round) (length out) room)
 
-  hear-goes : (round : ℕ) (words : List ℕ) → Ready s number (Hear round) tape work → length words ≡ roundWords (s .n) round
-      → wordsFit (s .n) words ≡ true → hearGround s number round tape work words ≡ 0
+  hear-goes : (round : ℕ) (incoming : List ℕ) → Ready s number (Hear round) tape work → length incoming ≡ roundWords (s .n) round
+      → wordsFit (s .n) incoming ≡ true → hearGround s number round tape work incoming ≡ 0
   unfolding hearGround
-  hear-goes round words r long fits = rw fits (turn-goes (Hear round) words r (eq-eqb (length words) (roundWords (s .n) round) long))
+  hear-goes round incoming r long fits = rw fits (turn-goes (Hear round) incoming r (eq-eqb (length incoming) (roundWords (s .n) round) long))
 
 -- ---- a round of a box that is ready for it
 
 -- the box after it: ready for the next round, the same party, its work as the protocol has it
-pub record Next (s : State) (number round : ℕ) (tape work words : List ℕ) (s′ : State) (work′ : List ℕ) : Type 0 where
+pub record Next (s : State) (number round : ℕ) (tape work incoming : List ℕ) (s′ : State) (work′ : List ℕ) : Type 0 where
   pub ready : Ready s′ number (Speak (round + 1)) tape work′
   pub same : partyOf s′ tape ≡ partyOf s tape
-  pub after : work′ ≡ afterHearing (partyOf s tape) work round words
+  pub after : work′ ≡ afterHearing (partyOf s tape) work round incoming
 
 next-fits : (k : ℕ) → k < lastRound → roundFits (k + 1) ≡ true
 next-fits k less = rw (le-leb 1 (k + 1) (omega arith), le-leb (k + 1) lastRound (omega arith))
@@ -93,28 +88,28 @@ module _ (s : State) (number round : ℕ) (tape work : List ℕ) (r : Ready s nu
   unfolding speakRule
   speak-ready out room = rw (speak-goes s number tape work round out r room)
 
-  pub hear-ready : (words : List ℕ) → length words ≡ roundWords (s .n) round → wordsFit (s .n) words ≡ true
-      → hearRule (inPhase s (turned (s .phase) (Hear round))) number round tape work words ≡ heardAfter s tape work round words
+  pub hear-ready : (incoming : List ℕ) → length incoming ≡ roundWords (s .n) round → wordsFit (s .n) incoming ≡ true
+      → hearRule (inPhase s (turned (s .phase) (Hear round))) number round tape work incoming ≡ heardAfter s tape work round incoming
   unfolding hearRule heardAfter
-  hear-ready words long fits =
+  hear-ready incoming long fits =
       let due = inPhase s (turned (s .phase) (Hear round)) in
-      let goes = hear-goes due number tape work round words (ready-turned r (Hear round) work (ready-round r) (r .room)) long fits in
+      let goes = hear-goes due number tape work round incoming (ready-turned r (Hear round) work (ready-round r) (r .room)) long fits in
       rw (goes, turned-twice (s .phase) (Hear round) (Speak (round + 1)), turned-x (s .phase) (Hear round), turned-y (s .phase) (Hear round))
 
-  module _ (words : List ℕ) (a : Outcome) (work′ : List ℕ) where
+  module _ (incoming : List ℕ) (a : Outcome) (work′ : List ℕ) where
     -- such a hear gave the answer share, if the round was the last
-    pub heard-last : round ≡ lastRound → outcome a work′ ≡ heardAfter s tape work round words → replyOf (a .answer) ≡ share (answerShare (partyOf s tape) work words)
+    pub heard-last : round ≡ lastRound → outcome a work′ ≡ heardAfter s tape work round incoming → replyOf (a .answer) ≡ share (answerShare (partyOf s tape) work incoming)
     unfolding heardAfter
-    heard-last six e = ap (λ (q : Result). q .reply) e ∙ rw six
+    heard-last last e = ap (λ (q : Result). q .reply) e ∙ rw last
 
     -- and before the last the box is ready for the next
-    pub heard-next : round < lastRound → outcome a work′ ≡ heardAfter s tape work round words → Next s number round tape work words (a .state) work′
+    pub heard-next : round < lastRound → outcome a work′ ≡ heardAfter s tape work round incoming → Next s number round tape work incoming (a .state) work′
     unfolding heardAfter
     heard-next more e =
-        let other = ne-eqb round lastRound (λ six. omega (arith, six, more)) in
+        let other = ne-eqb round lastRound (λ last. omega (arith, last, more)) in
         let state : a .state ≡ inPhase s (turned (s .phase) (Speak (round + 1))) = ap (λ (q : Result). q .state) e ∙ rw other in
-        let after : work′ ≡ afterHearing (partyOf s tape) work round words = ap (λ (q : Result). q .buffer) e ∙ rw other in
-        let room : workLength (s .n) ≤ length work′ = omega (arith, ap length after, after-length (partyOf s tape) work words round, r .room) in
+        let after : work′ ≡ afterHearing (partyOf s tape) work round incoming = ap (λ (q : Result). q .buffer) e ∙ rw other in
+        let room : workLength (s .n) ≤ length work′ = omega (arith, ap length after, after-length (partyOf s tape) work incoming round, r .room) in
         record {
           ready = rw state (ready-turned r (Speak (round + 1)) work′ (next-fits round more) room);
           same = rw state (same-party s (Speak (round + 1)) tape);

@@ -24,19 +24,19 @@ pub record Ready (s : State) (number : ℕ) (turn : Turn) (tape work : List ℕ)
   pub ordered : inOrder (s .n) (s .pair) (s .side) number tape ≡ true
   pub room : workLength (s .n) ≤ length work
 
--- what a box gives after a round in which it was ready to speak and heard those words
+-- what a box gives after a round in which it was ready to speak and heard that message
 unfoldable pub heardAfter : State → List ℕ → List ℕ → ℕ → List ℕ → Result
-heardAfter s tape work round words =
+heardAfter s tape work round incoming =
     cond (eqb round lastRound)
     (record {
-      reply = share (answerShare (partyOf s tape) work words);
+      reply = share (answerShare (partyOf s tape) work incoming);
       state = inPhase s Idle;
-      buffer = afterHearing (partyOf s tape) work round words;
+      buffer = afterHearing (partyOf s tape) work round incoming;
     })
     (record {
       reply = heard;
       state = inPhase s (turned (s .phase) (Speak (round + 1)));
-      buffer = afterHearing (partyOf s tape) work round words;
+      buffer = afterHearing (partyOf s tape) work round incoming;
     })
 
 -- both works
@@ -47,7 +47,7 @@ works w1 w2 = record { own = w1; others = w2 }
 abbrev pub after : State → State → List ℕ → List ℕ → List ℕ → List ℕ → ℕ → Both
 after s1 s2 t1 t2 w1 w2 = exchanged (partyOf s1 t1) (partyOf s2 t2) (works w1 w2)
 
--- the answer shares of box 1 and of box 2, after all six
+-- the answer shares of box 1 and of box 2, after all rounds
 abbrev pub answer1 : State → State → List ℕ → List ℕ → List ℕ → List ℕ → ℕ
 answer1 s1 s2 t1 t2 w1 w2 = answerOwn (partyOf s1 t1) (partyOf s2 t2) (works w1 w2)
 

@@ -1,4 +1,4 @@
--- A whole job of both boxes: box 1 comes to it and then box 2, and where neither is refused they exchange all six rounds.
+-- A whole job of both boxes: box 1 comes to it and then box 2, and where neither is refused they exchange all rounds.
 use Prim.Native.Nat.{ℕ, _+_, _%_}
 use mathlib.Core.Bool.{Bool, _&&_, cond}
 use mathlib.Core.List.{List}

@@ -9,7 +9,7 @@ use borrow.Author.Tests.{ltb-true, ltb-false, lt-ltb, le-ltb}
 use lib.Dec.{ltb}
 use lib.ListN.{length, length-append}
 use Rattle.lines.specs.Writing.{digitsOf, decimal}
-use Rattle.lines.proofs.Places.{cases}
+use Rattle.lines.proofs.FirstPlace.{cases}
 
 -- any count of digits that is large enough gives the same
 digits-same : (m k v : ℕ) → v < m → v < k → digitsOf m v ≡ digitsOf k v

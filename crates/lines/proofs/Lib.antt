@@ -1,4 +1,4 @@
-pub mod Places
+pub mod FirstPlace
 pub mod Values
 pub mod Numbers
 pub mod Parts

@@ -12,7 +12,7 @@ use lib.Dec.{eqb, ltb, leb, eqb·suc-suc}
 use lib.ListN.{length, take, drop}
 use Rattle.lists.proofs.Tests.{and-false}
 use Rattle.lines.specs.Reading.{firstOf, onto, partsOf, allDigits, valueOf, isNumber, isNumbers, numbersOf}
-use Rattle.lines.proofs.Places.{cases, first-most}
+use Rattle.lines.proofs.FirstPlace.{cases, first-most}
 use Rattle.lines.proofs.Numbers.{and-end}
 
 -- a first part with a space after it

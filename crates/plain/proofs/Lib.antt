@@ -1,3 +1,3 @@
 mod Joins
-mod Openings
+mod FirstRefusal
 mod Texts

@@ -1,5 +1,5 @@
 pub mod Examples
 pub mod Runs
 pub mod Readings
-pub mod Told
+pub mod Transcripts
 pub mod Jobs

@@ -4,7 +4,7 @@ use mathlib.Core.Path.{sym, ap, _∙_}
 use borrow.Author.Needs.{needs}
 use Rattle.protocol.specs.Rounds.{roundWords}
 use Rattle.rules.proofs.Ranges.{ranged}
-use Rattle.exchange.proofs.Told.{Told, told, hears}
+use Rattle.exchange.proofs.Delivery.{SpeakLeft, speak-left, hears}
 use Rattle.exchange.proofs.round.Statement.{statement}
 use Rattle.exchange.proofs.round.Tie as tie
 
@@ -24,24 +24,24 @@ heard h = h .before .before .before .before .before .before .before
 told1 : (a : tie.After-speak)
     → let w = worded a in
     let v = start w .args in
-    Told (v .boxes .box1) (v .round) (v .t1 .now) (v .w1 .now) (v .o1 .now) (a .speak .result .state) (a .speak .last .1 .1 .1 .1 .1 .0) (w .words-of .result)
+    SpeakLeft (v .boxes .box1) (v .round) (v .t1 .now) (v .w1 .now) (v .o1 .now) (a .speak .result .state) (a .speak .last .1 .1 .1 .1 .1 .0) (w .words-of .result)
 told1 a =
     let w = worded a in
     let s = start w in
     let v = s .args in
-    told (v .boxes .box1) (v .number) (v .round) (v .t1 .now) (v .w1 .now) (s .pre .0 .0) (v .o1 .now) (a .speak .last .1 .1 .1 .1 .1 .0)
+    speak-left (v .boxes .box1) (v .number) (v .round) (v .t1 .now) (v .w1 .now) (s .pre .0 .0) (v .o1 .now) (a .speak .last .1 .1 .1 .1 .1 .0)
     (a .speak .result) (w .words-of .result) (w .words-of .ensures) (s .pre .0 .1) (a .speak .ensures)
 
 told2 : (a : tie.After-speak2)
     → let w = worded (spoken a) in
     let v = start w .args in
-    Told (v .boxes .box2) (v .round) (v .t2 .now) (v .w2 .now) (v .o2 .now) (a .speak2 .result .state) (a .speak2 .last .1 .1 .1 .1 .1 .0) (w .words-of .result)
+    SpeakLeft (v .boxes .box2) (v .round) (v .t2 .now) (v .w2 .now) (v .o2 .now) (a .speak2 .result .state) (a .speak2 .last .1 .1 .1 .1 .1 .0) (w .words-of .result)
 told2 a =
     let w = worded (spoken a) in
     let s = start w in
     let v = s .args in
     let count = w .words-of .ensures ∙ ap (λ (n : ℕ). roundWords n (v .round)) (s .pre .1 .1) in
-    told (v .boxes .box2) (v .number) (v .round) (v .t2 .now) (v .w2 .now) (s .pre .1 .0 .0) (v .o2 .now) (a .speak2 .last .1 .1 .1 .1 .1 .0)
+    speak-left (v .boxes .box2) (v .number) (v .round) (v .t2 .now) (v .w2 .now) (s .pre .1 .0 .0) (v .o2 .now) (a .speak2 .last .1 .1 .1 .1 .1 .0)
     (a .speak2 .result) (w .words-of .result) count (s .pre .1 .0 .1) (a .speak2 .ensures)
 
 words-of-requires : tie.Need-words-of-requires

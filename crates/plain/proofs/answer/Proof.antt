@@ -4,7 +4,7 @@ use native.Mathlib.Omega.{arith}
 use borrow.Author.Tests.{not-true, not-false}
 use lib.ListN.{getD}
 use Rattle.plain.specs.Printed.{textFor, printed}
-use Rattle.plain.proofs.Openings.{taken-width}
+use Rattle.plain.proofs.FirstRefusal.{taken-width}
 use Rattle.plain.proofs.Texts.{shown, not-five, five, wide, turned-down, taken}
 use borrow.Author.Needs.{needs}
 use Rattle.plain.proofs.answer.Statement.{statement}

@@ -5,7 +5,7 @@ use native.Mathlib.Omega.{arith}
 use borrow.Author.Needs.{needs}
 use lib.ListN.{length, drop}
 use Rattle.lines.specs.Reading.{firstOf}
-use Rattle.lines.proofs.Places.{first-here, first-later, first-none}
+use Rattle.lines.proofs.FirstPlace.{first-here, first-later, first-none}
 use Rattle.lines.proofs.reading.first_of.Statement.{statement}
 use Rattle.lines.proofs.reading.first_of.Tie as tie
 

@@ -8,7 +8,7 @@ use Rattle.tape.proofs.Plains.{plain-dealt}
 use Rattle.exchange.specs.Memory.{freshJob}
 use Rattle.exchange.proofs.Fresh.{fresh-answer}
 use Rattle.plain.specs.Printed.{plainLess, plainAnswer}
-use Rattle.plain.proofs.Openings.{first-refusal, taken-width}
+use Rattle.plain.proofs.FirstRefusal.{first-refusal, taken-width}
 use borrow.Author.Needs.{needs}
 use Rattle.plain.proofs.job.on_tapes.Statement.{statement}
 use Rattle.plain.proofs.job.on_tapes.Tie as tie

@@ -19,7 +19,7 @@ use Rattle.exchange.proofs.Course.{Course, course-first, course-width, course-s
 use Rattle.vectors.specs.declared.numbers.Cursor.{Cursor}
 use Rattle.vectors.specs.Numbers.{spelled}
 use Rattle.vectors.specs.Job.{messages, messagesTo}
-use Rattle.vectors.proofs.Told.{upTo, read, told-more, told-fails, told-last}
+use Rattle.vectors.proofs.Transcripts.{upTo, read, told-more, told-fails, told-last}
 use Rattle.vectors.proofs.job.exchanged.Statement.{statement}
 use Rattle.vectors.proofs.job.exchanged.Tie as tie
 

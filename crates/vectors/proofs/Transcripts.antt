@@ -8,7 +8,7 @@ use native.Mathlib.Numerals.{add-one}
 use native.Mathlib.Omega.{arith}
 use borrow.Author.Tests.{leb-true, leb-false}
 use lib.Dec.{leb}
-use Rattle.lines.proofs.Places.{cases}
+use Rattle.lines.proofs.FirstPlace.{cases}
 use Rattle.protocol.specs.Products.{Party}
 use Rattle.protocol.specs.Rounds.{lastRound}
 use Rattle.protocol.specs.Exchange.{Both, exchanged, answerOwn, answerOthers}

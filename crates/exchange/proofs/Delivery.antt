@@ -1,4 +1,4 @@
--- One box's half of a round: what it says stands at the front of its out, and the other, ready too, takes it in.
+-- One box's message comes to the other: it stands at the front of out, and the other box, ready too, takes it in.
 use Prim.Native.Nat.{ℕ, _≤_}
 use mathlib.Core.Path.{_≡_, sym, ap, subst, _∙_}
 use mathlib.Core.Bool.{true}
@@ -19,7 +19,7 @@ use Rattle.exchange.specs.Boxes.{Ready, heardAfter}
 use Rattle.exchange.proofs.Ready.{speak-ready, hear-ready}
 
 -- what a speak left: the state, out, and the message as that many words at the front of out
-pub record Told (s : State) (round : ℕ) (tape work out : List ℕ) (next : State) (out′ : List ℕ) (count : ℕ) : Type 0 where
+pub record SpeakLeft (s : State) (round : ℕ) (tape work out : List ℕ) (next : State) (out′ : List ℕ) (count : ℕ) : Type 0 where
   pub state : next ≡ inPhase s (turned (s .phase) (Hear round))
   pub written : out′ ≡ sets out 0 (message (partyOf s tape) work round)
   pub front : take count out′ ≡ message (partyOf s tape) work round
@@ -27,9 +27,9 @@ pub record Told (s : State) (round : ℕ) (tape work out : List ℕ) (next : Sta
   pub long : count ≡ length (take count out′)
 
 module _ (s : State) (number round : ℕ) (tape work : List ℕ) (r : Ready s number (Speak round) tape work) where
-  pub told : (out out′ : List ℕ) (a : Outcome) (count : ℕ) → count ≡ roundWords (s .n) round → roundWords (s .n) round ≤ length out
-      → outcome a out′ ≡ speakRule s number round tape work out → Told s round tape work out (a .state) out′ count
-  told out out′ a count counted room e =
+  pub speak-left : (out out′ : List ℕ) (a : Outcome) (count : ℕ) → count ≡ roundWords (s .n) round → roundWords (s .n) round ≤ length out
+      → outcome a out′ ≡ speakRule s number round tape work out → SpeakLeft s round tape work out (a .state) out′ count
+  speak-left out out′ a count counted room e =
       let all = e ∙ speak-ready s number round tape work r out room in
       let message-there = ap (λ (q : Result). q .buffer) all in
       let words = message (partyOf s tape) work round in
