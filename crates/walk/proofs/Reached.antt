@@ -5,6 +5,7 @@ use mathlib.Core.Bool.{Bool, true}
 use mathlib.Core.List.{List, [], _∷_}
 use native.Mathlib.Omega.{arith}
 use borrow.Author.Tests.{ne-eqb}
+use lib.ListN.{length}
 use Rattle.lists.specs.Tabulate.{tabulate}
 use Rattle.field.specs.Width.{listed, modulus}
 use Rattle.shares.specs.Side.{isSide}
@@ -22,7 +23,7 @@ use Rattle.rules.specs.declared.state.Outcome.{Outcome}
 use Rattle.exchange.specs.Opening.{firstState}
 use Rattle.walk.specs.declared.calls.Tried.{Tried}
 use Rattle.walk.specs.declared.progress.BoxMemory.{BoxMemory}
-use Rattle.walk.specs.Walk.{idleState, jobState, boxTape, freshTally, tallyAfter, Answered, After}
+use Rattle.walk.specs.Walk.{idleState, jobState, boxTape, filler, freshTally, tallyAfter, Answered, After}
 
 -- ---- box 1 wakes, starts its job on tape 0 and speaks
 
@@ -48,18 +49,34 @@ marked-four = refl
 
 -- ---- a call that is its rule
 
--- compared with the state before it
+-- what is told of an outcome, by the state before it
+abbrev Compared : Tried → Outcome → State → Bool → Type 0
+Compared t r s kept =
+    (t .answer ≡ r .answer)
+    × (t .state ≡ r .state)
+    × (t .kept ≡ true → (kept ≡ true) × (s ≡ r .state))
+    × (kept ≡ true → s ≡ r .state → t .kept ≡ true)
+
 pub told : {t : Tried} {r : Outcome} {s : State} {kept : Bool} {before buffer : List ℕ} {rule : Result} → outcome r buffer ≡ rule
-    → (t .answer ≡ r .answer) × (t .kept ≡ true → (kept ≡ true) × (s ≡ r .state)) × (kept ≡ true → s ≡ r .state → t .kept ≡ true)
+    → Compared t r s kept
     → (kept ≡ true → before ≡ buffer) → (before ≡ buffer → kept ≡ true) → Answered t s before rule
 told e h right left =
     let state = ap (λ (x : Result). x .state) e in
     let buffer = ap (λ (x : Result). x .buffer) e in
     record {
       reply = ap replyOf (h .0) ∙ ap (λ (x : Result). x .reply) e;
-      same = λ k. (h .1 k .1 ∙ state, right (h .1 k .0) ∙ buffer);
-      kept = λ s b. h .2 (left (b ∙ sym buffer)) (s ∙ sym state);
+      after = h .1 ∙ state;
+      same = λ k. (h .2 k .1 ∙ state, right (h .2 k .0) ∙ buffer);
+      kept = λ s b. h .3 (left (b ∙ sym buffer)) (s ∙ sym state);
     }
+
+-- a call whose buffer was full of filler
+pub told-full : {t : Tried} {r : Outcome} {s : State} {kept : Bool} {buffer : List ℕ} {rule : Result} (count : ℕ) → length buffer ≡ count
+    → outcome r buffer ≡ rule → Compared t r s kept
+    → (kept ≡ true → buffer ≡ filler (length buffer)) × (buffer ≡ filler (length buffer) → kept ≡ true) → Answered t s (filler count) rule
+told-full count long e h seen =
+    let full = ap filler long in
+    told e h (λ k. sym (seen .0 k ∙ full)) (λ b. seen .1 (sym b ∙ sym full))
 
 -- the box after it
 pub after : (b : BoxMemory) {buffer : List ℕ} {rule : Result} → outcome (record { answer = b .answer; state = b .state }) buffer ≡ rule → After b buffer rule

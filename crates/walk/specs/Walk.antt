@@ -50,9 +50,10 @@ boxTape side number = plainTape 3 5 side number
 abbrev pub filler : ℕ → List ℕ
 filler count = replicate count 9
 
--- what is told of a call in a state: the rule's reply, and it's called kept just when the rule leaves the state, and the buffer, as it was
+-- what is told of a call in a state: the rule's reply, and the rule's state, and it's called kept just when the rule leaves the state, and the buffer, as it was
 pub record Answered (tried : Tried) (state : State) (buffer : List ℕ) (rule : Result) : Type 0 where
   pub reply : replyOf (tried .answer) ≡ rule .reply
+  pub after : tried .state ≡ rule .state
   pub same : tried .kept ≡ true → (state ≡ rule .state) × (buffer ≡ rule .buffer)
   pub kept : state ≡ rule .state → buffer ≡ rule .buffer → tried .kept ≡ true
 

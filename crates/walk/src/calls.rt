@@ -6,17 +6,20 @@ ghost use mathlib.Core.Path.{_≡_};
 ghost use mathlib.Core.Bool.{true, _&&_};
 ghost use mathlib.Core.List.{[]};
 ghost use lib.Dec.{eqb};
-ghost use lib.ListN.{length};
+ghost use lib.ListN.{length, take};
+ghost use Rattle.protocol.specs.Rounds.{roundWords};
 ghost use Rattle.rules.specs.Answers.{replyOf};
 ghost use Rattle.exchange.specs.Opening.{refusalOf};
 ghost use Rattle.rules.specs.Calls.{wakeRule, startRule, speakRule, hearRule, dropRule};
-ghost use Rattle.walk.specs.Walk.{filler, Answered};
+ghost use Rattle.walk.specs.Walk.{boxTape, filler, Answered};
 
 // What stands in the buffers that a call is lent to write.
 pub const FILLER: u32 = 9;
 
 pub struct Tried {
     pub answer: Answer,
+    // the state after the call
+    pub state: State,
     // whether the state and the buffer that the call may change are as they were
     pub kept: bool,
 }
@@ -45,13 +48,14 @@ fn untouched(words: &[u32]) -> bool
 }
 
 fn compared(before: State, outcome: Outcome, kept: bool) -> Tried
-    ensures { λ r. ⌜ (r .answer ≡ outcome .answer) × (r .kept ≡ true → (kept ≡ true) × (before ≡ outcome .state))
+    ensures { λ r. ⌜ (r .answer ≡ outcome .answer) × (r .state ≡ outcome .state) × (r .kept ≡ true → (kept ≡ true) × (before ≡ outcome .state))
         × (kept ≡ true → before ≡ outcome .state → r .kept ≡ true) ⌝ }
 {
     let answer = outcome.answer;
     let after = outcome.state;
     Tried {
         answer,
+        state: after,
         kept: kept && crate::states::same(before, after),
     }
 }
@@ -79,6 +83,23 @@ pub fn start(
     compared(state, r, check::same(&tally, &after))
 }
 
+// The same on a box's plain tape.
+pub fn plain_start(
+    state: State,
+    number: u32,
+    x: u32,
+    y: u32,
+    side: u32,
+    tape: u32,
+    work: &[u32],
+    tally: [u8; 4],
+) -> Tried
+    ensures { λ r. ⌜ Answered r state tally (startRule state number x y (boxTape side tape) (now (work .entry)) tally) ⌝ }
+{
+    let lent = crate::tapes::plain(side, tape);
+    start(state, number, x, y, &lent, work, tally)
+}
+
 // `out` is lent full of filler.
 pub fn speak(
     state: State,
@@ -95,6 +116,22 @@ pub fn speak(
     compared(state, r, untouched(&*out))
 }
 
+pub fn plain_speak(
+    state: State,
+    number: u32,
+    round: u32,
+    side: u32,
+    tape: u32,
+    work: &[u32],
+    out: &mut [u32],
+) -> Tried
+    ensures { λ r. ⌜ Answered r state (filler (length (now (out .entry)))) (speakRule state number round (boxTape side tape) (now (work .entry)) (now (out .entry))) ⌝ }
+    ensures left { λ _. ⌜ now (out .exit) ≡ speakRule state number round (boxTape side tape) (now (work .entry)) (now (out .entry)) .buffer ⌝ }
+{
+    let lent = crate::tapes::plain(side, tape);
+    speak(state, number, round, &lent, work, out)
+}
+
 // `work` is lent full of filler.
 pub fn hear(
     state: State,
@@ -109,6 +146,39 @@ pub fn hear(
 {
     let r = limit_box::hear(state, number, round, tape, &mut *work, incoming);
     compared(state, r, untouched(&*work))
+}
+
+pub fn plain_hear(
+    state: State,
+    number: u32,
+    round: u32,
+    side: u32,
+    tape: u32,
+    work: &mut [u32],
+    incoming: &[u32],
+) -> Tried
+    ensures { λ r. ⌜ Answered r state (filler (length (now (work .entry)))) (hearRule state number round (boxTape side tape) (now (work .entry)) (now (incoming .entry))) ⌝ }
+    ensures left { λ _. ⌜ now (work .exit) ≡ hearRule state number round (boxTape side tape) (now (work .entry)) (now (incoming .entry)) .buffer ⌝ }
+{
+    let lent = crate::tapes::plain(side, tape);
+    hear(state, number, round, &lent, work, incoming)
+}
+
+// A hear of as many words as the round has, from the front of these, on the job's tape.
+pub fn round_hear(
+    state: State,
+    number: u32,
+    round: u32,
+    side: u32,
+    work: &mut [u32],
+    incoming: [u32; 33],
+) -> Tried
+    ensures { λ r. ⌜ Answered r state (filler (length (now (work .entry))))
+        (hearRule state number round (boxTape side number) (now (work .entry)) (take (roundWords 3 round) incoming)) ⌝ }
+    ensures left { λ _. ⌜ now (work .exit) ≡ hearRule state number round (boxTape side number) (now (work .entry)) (take (roundWords 3 round) incoming) .buffer ⌝ }
+{
+    let count = crate::five::words(round);
+    plain_hear(state, number, round, side, number, work, &incoming[..count])
 }
 
 pub fn drop(state: State) -> Tried

@@ -19,9 +19,8 @@ fn both_tapes(state: State, tally: [u8; 4]) {
 fn asleep(state: State, round: u32, tally: [u8; 4]) {
     text(b":");
     five::all(state, round, tally);
-    let r = limit_box::wake(state, 3, 1, crate::tapes::PAIR, &tally);
-    let awake = r.state;
-    both_tapes(awake, tally);
+    let woken = crate::calls::wake(state, 3, 1, &tally);
+    both_tapes(woken.state, tally);
 }
 
 fn cut(step: u32) {
@@ -50,10 +49,10 @@ fn drop(step: u32) {
     text(b"drop after ");
     progress::name(step);
     text(b":");
-    short(crate::calls::drop(before));
+    let dropped = crate::calls::drop(before);
+    short(dropped);
     text(b";");
-    let r = limit_box::drop(before);
-    let after = r.state;
+    let after = dropped.state;
     five::all(after, progress::round_of(step), tally);
     both_tapes(after, tally);
 }

@@ -3,7 +3,6 @@ use crate::calls;
 use crate::calls::FILLER;
 use crate::calls::Tried;
 use crate::say::short;
-use crate::tapes;
 use rules::state::State;
 ghost use mathlib.Core.Path.{_≡_};
 ghost use Prim.Native.Nat.{_≤_};
@@ -24,29 +23,24 @@ pub fn words(round: u32) -> usize
 pub fn start_on(state: State, number: u32, tally: [u8; 4]) -> Tried
     ensures { λ r. ⌜ Answered r state tally (startRule state number 5 1 (boxTape 1 number) (tabulate 100 (λ k. 0)) tally) ⌝ }
 {
-    let tape = tapes::plain(1, number);
     let work = [0u32; 100];
-    calls::start(state, number, 5, 1, &tape, &work, tally)
+    calls::plain_start(state, number, 5, 1, 1, number, &work, tally)
 }
 
 pub fn speak_on(state: State, number: u32, round: u32) -> Tried
     ensures { λ r. ⌜ Answered r state (filler 33) (speakRule state number round (boxTape 1 number) (tabulate 100 (λ k. 0)) (filler 33)) ⌝ }
 {
-    let tape = tapes::plain(1, number);
     let work = [0u32; 100];
     let mut out = [FILLER; 33];
-    calls::speak(state, number, round, &tape, &work, &mut out)
+    calls::plain_speak(state, number, round, 1, number, &work, &mut out)
 }
 
 // A hear of as many words as the round has.
 pub fn hear_on(state: State, number: u32, round: u32) -> Tried
     ensures { λ r. ⌜ Answered r state (filler 100) (hearRule state number round (boxTape 1 number) (filler 100) (take (roundWords 3 round) (tabulate 33 (λ k. 0)))) ⌝ }
 {
-    let tape = tapes::plain(1, number);
     let mut work = [FILLER; 100];
-    let incoming = [0u32; 33];
-    let count = words(round);
-    calls::hear(state, number, round, &tape, &mut work, &incoming[..count])
+    calls::round_hear(state, number, round, 1, &mut work, [0u32; 33])
 }
 
 // What each of the five answers in that state: a start on tape 1, a speak and a hear on tape 0.

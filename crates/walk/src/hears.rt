@@ -2,6 +2,7 @@
 use crate::calls::FILLER;
 use crate::calls::Tried;
 use crate::calls::hear;
+use crate::calls::plain_hear;
 use crate::five::hear_on;
 use crate::say::line;
 use crate::states;
@@ -43,20 +44,18 @@ fn tapes_lent() {
 pub fn of_words(incoming: &[u32]) -> Tried
     ensures { λ r. ⌜ Answered r (jobState 4 (Hear 1)) (filler 100) (hearRule (jobState 4 (Hear 1)) 0 1 (boxTape 1 0) (filler 100) (now (incoming .entry))) ⌝ }
 {
-    let tape = tapes::plain(1, 0);
     let mut work = [FILLER; 100];
-    hear(states::spoken(), 0, 1, &tape, &mut work, incoming)
+    plain_hear(states::spoken(), 0, 1, 1, 0, &mut work, incoming)
 }
 
 fn rooms() {
-    let tape = tapes::plain(1, 0);
     let mut work = [FILLER; 99];
     let incoming = [0u32; 33];
     let short = [0u32; 32];
     let long = [0u32; 34];
     line(
         b"hear, work of 99 words: ",
-        hear(states::spoken(), 0, 1, &tape, &mut work, &incoming),
+        plain_hear(states::spoken(), 0, 1, 1, 0, &mut work, &incoming),
     );
     line(b"hear, 32 words: ", of_words(&short));
     line(b"hear, 34 words: ", of_words(&long));

@@ -5,7 +5,6 @@ use crate::calls::Tried;
 use crate::say::short;
 use crate::say::text;
 use crate::states;
-use crate::tapes;
 use rules::state::State;
 ghost use mathlib.Core.List.{[], _∷_};
 ghost use Rattle.lists.specs.Tabulate.{tabulate};
@@ -28,28 +27,25 @@ fn wrong_start(state: State, number: u32) -> Tried
     ensures { λ r. ⌜ Answered r state (0 ∷ 255 ∷ 255 ∷ 255 ∷ [])
         (startRule state number 7 7 (boxTape 2 0) (tabulate 99 (λ k. 0)) (0 ∷ 255 ∷ 255 ∷ 255 ∷ [])) ⌝ }
 {
-    let tape = tapes::plain(2, 0);
     let work = [0u32; 99];
-    calls::start(state, number, 7, 7, &tape, &work, [0, 255, 255, 255])
+    calls::plain_start(state, number, 7, 7, 2, 0, &work, [0, 255, 255, 255])
 }
 
 // The same, where byte 0 is fresh.
 fn wrong_tapes() {
-    let other = tapes::plain(2, 0);
     let less = [0u32; 99];
     let fresh = [255u8; 4];
-    short(calls::start(states::idle(), 0, 7, 7, &other, &less, fresh));
-    short(calls::start(states::idle(), 0, 5, 1, &other, &less, fresh));
+    short(calls::plain_start(states::idle(), 0, 7, 7, 2, 0, &less, fresh));
+    short(calls::plain_start(states::idle(), 0, 5, 1, 2, 0, &less, fresh));
 }
 
 // What a start asks of a tape in order.
 fn right_tapes() {
-    let tape = tapes::plain(1, 0);
     let less = [0u32; 99];
     let work = [0u32; 100];
     let fresh = [255u8; 4];
-    short(calls::start(states::idle(), 0, 5, 1, &tape, &less, fresh));
-    short(calls::start(states::idle(), 0, 5, 1, &tape, &work, fresh));
+    short(calls::plain_start(states::idle(), 0, 5, 1, 1, 0, &less, fresh));
+    short(calls::plain_start(states::idle(), 0, 5, 1, 1, 0, &work, fresh));
 }
 
 fn starts() {
@@ -68,20 +64,18 @@ fn starts() {
 fn wrong_speak(state: State, number: u32) -> Tried
     ensures { λ r. ⌜ Answered r state (filler 32) (speakRule state number 1 (boxTape 2 0) (tabulate 99 (λ k. 0)) (filler 32)) ⌝ }
 {
-    let tape = tapes::plain(2, 0);
     let work = [0u32; 99];
     let mut out = [FILLER; 32];
-    calls::speak(state, number, 1, &tape, &work, &mut out)
+    calls::plain_speak(state, number, 1, 2, 0, &work, &mut out)
 }
 
 // What a speak asks of a tape in order.
 fn due_speaks() {
-    let tape = tapes::plain(1, 0);
     let less = [0u32; 99];
     let work = [0u32; 100];
     let mut out = [FILLER; 33];
-    short(calls::speak(states::opened(), 0, 1, &tape, &less, &mut out));
-    short(calls::speak(states::opened(), 0, 1, &tape, &work, &mut out));
+    short(calls::plain_speak(states::opened(), 0, 1, 1, 0, &less, &mut out));
+    short(calls::plain_speak(states::opened(), 0, 1, 1, 0, &work, &mut out));
 }
 
 fn speaks() {
@@ -98,18 +92,16 @@ fn speaks() {
 fn wrong_hear(state: State, number: u32) -> Tried
     ensures { λ r. ⌜ Answered r state (filler 99) (hearRule state number 1 (boxTape 2 0) (filler 99) (tabulate 32 (λ k. 7))) ⌝ }
 {
-    let tape = tapes::plain(2, 0);
     let mut work = [FILLER; 99];
     let incoming = [7u32; 32];
-    calls::hear(state, number, 1, &tape, &mut work, &incoming)
+    calls::plain_hear(state, number, 1, 2, 0, &mut work, &incoming)
 }
 
 // The tape is in order; work and the words are too few.
 fn short_hears() {
-    let tape = tapes::plain(1, 0);
     let mut less = [FILLER; 99];
     let few = [7u32; 32];
-    short(calls::hear(states::spoken(), 0, 1, &tape, &mut less, &few));
+    short(calls::plain_hear(states::spoken(), 0, 1, 1, 0, &mut less, &few));
 }
 
 // With words of p, and with words below it.

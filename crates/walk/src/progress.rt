@@ -67,12 +67,11 @@ pub fn started(b: BoxMemory, side: u32, x: u32, y: u32) -> BoxMemory
 pub fn spoken(b: BoxMemory, side: u32, round: u32) -> BoxMemory
     ensures { λ r. ⌜ After r (r .out) (speakRule (b .state) 0 round (boxTape side 0) (b .work) (b .out)) × (r .tally ≡ b .tally) ⌝ }
 {
-    let tape = crate::tapes::plain(side, 0);
     let before = b.state;
     let work = b.work;
     let mut out = b.out;
     let tally = b.tally;
-    let r = limit_box::speak(before, 0, round, &tape, &work, &mut out);
+    let r = crate::calls::plain_speak(before, 0, round, side, 0, &work, &mut out);
     let answer = r.answer;
     let state = r.state;
     BoxMemory {
@@ -88,13 +87,11 @@ pub fn spoken(b: BoxMemory, side: u32, round: u32) -> BoxMemory
 fn heard(b: BoxMemory, side: u32, round: u32, incoming: [u32; 33]) -> BoxMemory
     ensures { λ r. ⌜ After r (r .work) (hearRule (b .state) 0 round (boxTape side 0) (b .work) (take (roundWords 3 round) incoming)) × (r .tally ≡ b .tally) ⌝ }
 {
-    let tape = crate::tapes::plain(side, 0);
     let before = b.state;
     let mut work = b.work;
     let out = b.out;
     let tally = b.tally;
-    let count = crate::five::words(round);
-    let r = limit_box::hear(before, 0, round, &tape, &mut work, &incoming[..count]);
+    let r = crate::calls::round_hear(before, 0, round, side, &mut work, incoming);
     let answer = r.answer;
     let state = r.state;
     BoxMemory {

@@ -1,6 +1,7 @@
 // Speak's grounds: 1, 6, 11, 10, 12.
 use crate::calls::FILLER;
 use crate::calls::Tried;
+use crate::calls::plain_speak;
 use crate::calls::speak;
 use crate::five::speak_on;
 use crate::say::line;
@@ -39,18 +40,17 @@ fn tapes_lent() {
 }
 
 fn rooms() {
-    let tape = tapes::plain(1, 0);
     let work = [0u32; 100];
     let less = [0u32; 99];
     let mut out = [FILLER; 33];
     let mut short = [FILLER; 32];
     line(
         b"speak, work of 99 words: ",
-        speak(states::opened(), 0, 1, &tape, &less, &mut out),
+        plain_speak(states::opened(), 0, 1, 1, 0, &less, &mut out),
     );
     line(
         b"speak, out of 32 words: ",
-        speak(states::opened(), 0, 1, &tape, &work, &mut short),
+        plain_speak(states::opened(), 0, 1, 1, 0, &work, &mut short),
     );
 }
 

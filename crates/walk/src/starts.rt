@@ -1,5 +1,6 @@
 // Start's grounds: 1, 5, 4, 7, 8, 9, 10, 12.
 use crate::calls::Tried;
+use crate::calls::plain_start;
 use crate::calls::start;
 use crate::say::line;
 use crate::say::number;
@@ -40,9 +41,8 @@ pub fn on_byte(byte: u8) -> Tried
     ensures { λ r. ⌜ Answered r (idleState 4) (byte ∷ 255 ∷ 255 ∷ 255 ∷ [])
         (startRule (idleState 4) 0 5 1 (boxTape 1 0) (tabulate 100 (λ k. 0)) (byte ∷ 255 ∷ 255 ∷ 255 ∷ [])) ⌝ }
 {
-    let tape = tapes::plain(1, 0);
     let work = [0u32; 100];
-    start(states::idle(), 0, 5, 1, &tape, &work, [byte, 255, 255, 255])
+    plain_start(states::idle(), 0, 5, 1, 1, 0, &work, [byte, 255, 255, 255])
 }
 
 // Half-written bytes are spent too.
@@ -56,8 +56,7 @@ fn spent_bytes() {
 fn on_shares(x: u32, y: u32, work: &[u32]) -> Tried
     ensures { λ r. ⌜ Answered r (idleState 4) freshTally (startRule (idleState 4) 0 x y (boxTape 1 0) (now (work .entry)) freshTally) ⌝ }
 {
-    let tape = tapes::plain(1, 0);
-    start(states::idle(), 0, x, y, &tape, work, [255u8; 4])
+    plain_start(states::idle(), 0, x, y, 1, 0, work, [255u8; 4])
 }
 
 fn shares_and_room() {

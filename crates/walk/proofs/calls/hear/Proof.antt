@@ -1,10 +1,8 @@
 -- `walk::calls::hear` meets its contract: the call is its rule.
-use mathlib.Core.Path.{_≡_, sym, ap, _∙_}
+use mathlib.Core.Path.{ap}
 use borrow.Author.Needs.{needs}
-use lib.ListN.{length}
 use Rattle.rules.specs.Calls.{Result}
-use Rattle.walk.specs.Walk.{filler}
-use Rattle.walk.proofs.Reached.{told}
+use Rattle.walk.proofs.Reached.{told-full}
 use Rattle.walk.proofs.calls.hear.Statement.{statement}
 use Rattle.walk.proofs.calls.hear.Tie as tie
 
@@ -24,13 +22,7 @@ returns : tie.Need-returns
 returns c =
     let seen = c .before in
     let called = seen .before .before .before .before in
-    let entry = called .before .before .before .before .before .args .work .now in
-    let long : length (called .hear .last .1 .1 .1 .1 .0) ≡ length entry = called .hear .kept .1 .1 .1 .1 .0 in
-    let full = ap filler long in (
-      told (called .hear .ensures) (c .compared .ensures)
-          (λ k. sym (seen .untouched .ensures .0 k ∙ full)) (λ e. seen .untouched .ensures .1 (sym e ∙ sym full)),
-      ap (λ (x : Result). x .buffer) (called .hear .ensures),
-    )
+    (told-full _ (called .hear .kept .1 .1 .1 .1 .0) (called .hear .ensures) (c .compared .ensures) (seen .untouched .ensures), ap (λ (x : Result). x .buffer) (called .hear .ensures))
 
 pub hear-spec : {M : Type 1} → statement M
 hear-spec =

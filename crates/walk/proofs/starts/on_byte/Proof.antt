@@ -1,35 +1,19 @@
--- `walk::starts::on_byte` meets its contract: the state is the one that was reached, the tape the plain one.
+-- `walk::starts::on_byte` meets its contract: the state is the one that was reached.
 use borrow.Author.Needs.{needs}
 use Rattle.walk.proofs.starts.on_byte.Statement.{statement}
 use Rattle.walk.proofs.starts.on_byte.Tie as tie
 
-plain-requires : tie.Need-plain-requires
-plain-requires c κs = search needs
-
 idle-requires : tie.Need-idle-requires
 idle-requires c κs = search needs
 
-slice-aggregate-start : tie.Need-slice-aggregate-start
-slice-aggregate-start c = search needs
+slice-aggregate-plain-start : tie.Need-slice-aggregate-plain-start
+slice-aggregate-plain-start c = search needs
 
-slice-aggregate-start-2 : tie.Need-slice-aggregate-start-2
-slice-aggregate-start-2 c = search needs
-
-start-requires : tie.Need-start-requires
-start-requires c κs = search needs
+plain-start-requires : tie.Need-plain-start-requires
+plain-start-requires c κs = search needs
 
 returns : tie.Need-returns
-returns c =
-    let i = c .before .before .before in
-    rw (i .idle .ensures, i .before .plain .ensures .1) at (c .start .ensures)
+returns c = rw (c .before .before .idle .ensures) at (c .plain-start .ensures)
 
 pub on-byte-spec : {M : Type 1} → statement M
-on-byte-spec =
-    tie.close
-    (tie.spec
-    plain-requires
-    idle-requires
-    slice-aggregate-start
-    slice-aggregate-start-2
-    start-requires
-    returns)
+on-byte-spec = tie.close (tie.spec idle-requires slice-aggregate-plain-start plain-start-requires returns)

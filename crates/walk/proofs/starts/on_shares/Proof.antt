@@ -1,25 +1,16 @@
--- `walk::starts::on_shares` meets its contract: the state is the one that was reached, the tape the plain one.
+-- `walk::starts::on_shares` meets its contract: the state is the one that was reached.
 use borrow.Author.Needs.{needs}
 use Rattle.walk.proofs.starts.on_shares.Statement.{statement}
 use Rattle.walk.proofs.starts.on_shares.Tie as tie
 
-plain-requires : tie.Need-plain-requires
-plain-requires c κs = search needs
-
 idle-requires : tie.Need-idle-requires
 idle-requires c κs = search needs
 
-slice-aggregate-start : tie.Need-slice-aggregate-start
-slice-aggregate-start c = search needs
-
-start-requires : tie.Need-start-requires
-start-requires c κs = search needs
+plain-start-requires : tie.Need-plain-start-requires
+plain-start-requires c κs = search needs
 
 returns : tie.Need-returns
-returns c =
-    let i = c .before .before in
-    rw (i .idle .ensures, i .before .plain .ensures .1) at (c .start .ensures)
+returns c = rw (c .before .idle .ensures) at (c .plain-start .ensures)
 
 pub on-shares-spec : {M : Type 1} → statement M
-on-shares-spec =
-    tie.close (tie.spec plain-requires idle-requires slice-aggregate-start start-requires returns)
+on-shares-spec = tie.close (tie.spec idle-requires plain-start-requires returns)
