@@ -19,7 +19,7 @@ const SECTIONS: usize = 3;
 const TRAILER: usize = 7;
 
 // The words of a block that is looked at as one.
-const BLOCK: usize = 128;
+const BLOCK: usize = 256;
 
 // The words of a section.
 pub fn section_words(n: u32, which: usize) -> usize
