@@ -1,5 +1,5 @@
 -- The laws of subtraction modulo p.
-use Prim.Native.Nat.{ℕ, zero, suc, _+_, _-_, _*_, _%_, _<_, _≤_}
+use Prim.Native.Nat.{ℕ, _+_, _-_, _<_, _≤_}
 use mathlib.Core.Path.{_≡_}
 use mathlib.Core.Bool.{true}
 use native.Mathlib.Nat.{mod-lt}
@@ -7,8 +7,7 @@ use native.Mathlib.Omega.{arith}
 use Rattle.field.specs.Width.{listed, modulus}
 use Rattle.field.specs.Subtraction.{minus}
 use Rattle.field.specs.Congruence.{Cong}
-use Rattle.field.proofs.Widths.{Bounds, bounds}
-use Rattle.field.proofs.Remainders.{remainder}
+use Rattle.field.proofs.Widths.{bounds}
 use Rattle.field.proofs.Congruences.{cong-refl, cong-eq, cong-sym, _⊙_, cong-mod, cong-add, cong-cancel, cong-unique, cong-negation}
 
 pub minus-below : (n u v : ℕ) → listed n ≡ true → minus n u v < modulus n
@@ -40,21 +39,10 @@ minus-unique n u v w l lv lw h =
     cong-unique (minus-below n u v l) lw
     (cong-cancel v (omega (arith, bounds l)) (minus-plus n u v lv ⊙ cong-sym h))
 
--- ---- of a bit
-
--- 1 − b
-pub one-minus : (n b : ℕ) → listed n ≡ true → b ≤ 1 → 1 - b ≡ minus n 1 b
-unfolding minus
-one-minus n b l bit =
-    let few = bounds l in
-    remainder {p = modulus n} {x = 1 + (modulus n - b)} {r = 1 - b} 1 (omega (arith, few)) (omega (arith, few)) .0
-
--- − b
-pub none-minus : (n b : ℕ) → listed n ≡ true → b ≤ 1 → b * (modulus n - 1) ≡ minus n 0 b
-unfolding minus
-none-minus n b l bit = go (bounds l) b bit
-  where
-    go : Bounds n → (b : ℕ) → b ≤ 1 → b * (modulus n - 1) ≡ (0 + (modulus n - b)) % modulus n
-    go few zero bit = remainder {p = modulus n} {x = 0 + (modulus n - 0)} {r = 0 * (modulus n - 1)} 1 (omega arith) (omega arith) .0
-    go few (suc zero) bit = remainder {p = modulus n} {x = 0 + (modulus n - 1)} {r = 1 * (modulus n - 1)} 0 (omega arith) (omega arith) .0
-    go few (suc (suc b)) bit = absurd (omega arith)
+-- two numbers taken away one after the other
+pub minus-minus : (n u v w : ℕ) → listed n ≡ true → v + w ≤ modulus n → minus n (minus n u v) w ≡ minus n u (v + w)
+minus-minus n u v w l most =
+    let both = minus n u (v + w) in
+    minus-unique n (minus n u v) w both l (omega arith) (minus-below n u (v + w) l)
+    (cong-cancel v (omega (arith, bounds l))
+    (cong-eq {b = both + (v + w)} (omega arith) ⊙ minus-plus n u (v + w) most ⊙ cong-sym (minus-plus n u v (omega arith))))

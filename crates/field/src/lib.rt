@@ -110,7 +110,7 @@ pub fn add(n: u32, a: u32, b: u32) -> u32
 }
 
 pub fn sub(n: u32, a: u32, b: u32) -> u32
-    requires { ⌜ (listed n ≡ true) × (a < modulus n) × (b < modulus n) ⌝ }
+    requires { ⌜ (listed n ≡ true) × (a < modulus n) × (b ≤ modulus n) ⌝ }
     ensures { λ r. ⌜ r ≡ minus n a b ⌝ }
     ensures below { λ r. ⌜ r < modulus n ⌝ }
 {

@@ -7,8 +7,9 @@ ghost use lib.ListN.{length, getD};
 ghost use lib.Seq.{sets};
 ghost use Rattle.lists.specs.Tabulate.{tabulate, sum};
 ghost use Rattle.field.specs.Width.{listed, modulus};
-ghost use Rattle.shares.specs.Share.{constantShare};
+ghost use Rattle.shares.specs.Share.{constantShare, opened, squareShare};
 ghost use Rattle.tape.specs.Layout.{squareCount, groupCount};
+ghost use Rattle.tape.specs.Letters.{squareMask, squareValue};
 ghost use Rattle.encoding.specs.Codes.{levelCode};
 ghost use Rattle.protocol.specs.Words.{Below, FromLine};
 ghost use Rattle.protocol.specs.Squares.{codeDifference, bitDifference, squareOpening, squareClosing, matchCount};
@@ -38,17 +39,14 @@ fn code_of(n: u32, side: u32, tests: Tests, g: usize) -> u32
     encoding::codes::level_code(n, side, tests.doubled[t], level as u32)
 }
 
-// This box's share of the difference of its code's bit k from the other box's: 1 - bit at box 1, -bit at box 2.
-fn difference(n: u32, side: u32, code: u32, k: u32) -> u32
-    requires { ⌜ (listed n ≡ true) × (k < n) ⌝ }
-    ensures { λ r. ⌜ r ≡ codeDifference n side code k ⌝ }
+// The word that opens bit k of a group's code by square j: 1 - bit - a at box 1, - bit - a at box 2, in one subtraction.
+fn opening(n: u32, side: u32, code: u32, k: u32, squares: &[u32], j: usize) -> u32
+    requires { ⌜ (listed n ≡ true) × (k < n) × Below (modulus n) (now squares) × (j * 2 + 1 < length (now squares)) ⌝ }
+    ensures { λ r. ⌜ r ≡ squareOpening n (codeDifference n side code k) (now (squares .entry)) j ⌝ }
     ensures below { λ r. ⌜ r < modulus n ⌝ }
 {
-    let bit = encoding::codes::bit(code, k);
-    if side == 1 {
-        return 1 - bit;
-    }
-    bit * (field::modulus_of(n) - 1)
+    let taken = encoding::codes::bit(code, k) + squares[j * 2];
+    field::sub(n, shares::constant(side, 1), taken)
 }
 
 // The n words that open the bit differences of group g, whose code is given.
@@ -63,7 +61,7 @@ fn open_group(n: u32, side: u32, code: u32, squares: &[u32], g: usize, out: &mut
     let mut k: u32 = 0;
     while k < n {
         let j = base + k as usize;
-        out[j] = shares::mask(n, difference(n, side, code, k), squares[j * 2]);
+        out[j] = opening(n, side, code, k, squares, j);
         k += 1;
     }
 }
@@ -85,16 +83,19 @@ pub fn open_squares(n: u32, side: u32, tests: Tests, squares: &[u32], out: &mut 
     }
 }
 
-// The share of the square of v by square j, below 2p, the other box's word standing at j of incoming.
-fn close_square(n: u32, side: u32, v: u32, squares: &[u32], incoming: &[u32], j: usize) -> u64
-    requires { ⌜ (listed n ≡ true) × (v < modulus n) × Below (modulus n) (now squares) × (j * 2 + 1 < length (now squares)) ⌝ }
+// The share of a square by square j, below 2p, from the word that this box sent and the other box's at j of incoming.
+fn close_square(n: u32, side: u32, sent: u32, squares: &[u32], incoming: &[u32], j: usize) -> u64
+    requires { ⌜ (listed n ≡ true) × (sent < modulus n) × Below (modulus n) (now squares) × (j * 2 + 1 < length (now squares)) ⌝ }
     requires { ⌜ FromLine n (j + 1) (now incoming) ⌝ }
-    ensures { λ r. ⌜ r % modulus n ≡ squareClosing n side v (now (squares .entry)) (now (incoming .entry)) j ⌝ }
+    ensures { λ r. ⌜ r % modulus n
+        ≡ squareShare n side (opened n sent (getD (now (incoming .entry)) j 0)) (squareMask (now (squares .entry)) j) (squareValue (now (squares .entry)) j) ⌝ }
     ensures below { λ r. ⌜ r < 2 * modulus n ⌝ }
 {
-    let a = squares[j * 2];
-    let e = shares::open(n, shares::mask(n, v, a), incoming[j]);
-    field::fold_wide(n, shares::square(n, side, e, a, squares[j * 2 + 1]))
+    let e = shares::open(n, sent, incoming[j]);
+    field::fold_wide(
+        n,
+        shares::square(n, side, e, squares[j * 2], squares[j * 2 + 1]),
+    )
 }
 
 // The share of 1 + the n squares of group g, whose code is given: summed, and reduced once.
@@ -111,8 +112,9 @@ fn close_group(n: u32, side: u32, code: u32, squares: &[u32], g: usize, incoming
     let mut total = shares::constant(side, 1) as u64;
     let mut k: u32 = 0;
     while k < n {
-        let v = difference(n, side, code, k);
-        total += close_square(n, side, v, squares, incoming, base + k as usize);
+        let j = base + k as usize;
+        let sent = opening(n, side, code, k, squares, j);
+        total += close_square(n, side, sent, squares, incoming, j);
         k += 1;
     }
     field::reduce_wide(n, total)

@@ -56,20 +56,22 @@ cast-total c = search needs
 loop-holds : tie.Need-loop-holds Inv-loop μ-loop
 loop-holds c = (omega arith, omega arith, cong-eq (omega (arith, c .constant .ensures .0)))
 
-difference-requires : tie.Need-difference-requires Inv-loop μ-loop
-difference-requires c κs = (start c .pre .0 .0, c .loop-test .taken)
+cast-j : tie.Need-cast-j Inv-loop μ-loop
+cast-j c = omega arith
 
-cast-close-square : tie.Need-cast-close-square Inv-loop μ-loop
-cast-close-square c = omega arith
+add-j : tie.Need-add-j Inv-loop μ-loop
+add-j c = omega (arith, placed c, small (start c .pre .0 .0))
 
-add-close-square : tie.Need-add-close-square Inv-loop μ-loop
-add-close-square c = omega (arith, placed (c .before), small (start (c .before) .pre .0 .0))
+opening-requires : tie.Need-opening-requires Inv-loop μ-loop
+opening-requires c κs =
+    let s = start c in
+    (s .pre .0 .0, c .loop-test .taken, s .pre .1 .0, omega (arith, placed c, s .pre .1))
 
 close-square-requires : tie.Need-close-square-requires Inv-loop μ-loop
 close-square-requires c κs =
     let t = c .before in
     let s = start t in
-    ((s .pre .0 .0, c .difference .ensures .1, s .pre .1 .0, omega (arith, placed t, s .pre .1)), fewer (s .pre .1 .2) _ (omega (arith, placed t)))
+    ((s .pre .0 .0, c .opening .ensures .1, s .pre .1 .0, omega (arith, placed t, s .pre .1)), fewer (s .pre .1 .2) _ (omega (arith, placed t)))
 
 -- the sum so far and one square more, each below 2p
 room : (c : tie.After-close-square Inv-loop μ-loop)
@@ -93,6 +95,7 @@ loop-less : tie.Need-loop-less Inv-loop μ-loop
 loop-less c = search needs
 
 loop-again : tie.Need-loop-again Inv-loop μ-loop
+unfolding squareClosing
 loop-again c =
     let d = c .before in
     let t = d .before in
@@ -102,7 +105,7 @@ loop-again c =
     let k = l .loop .k in
     let f = term n (a .side) (a .code) (a .squares .now) (a .g) (a .incoming .now) in
     let square : Cong (modulus n) (c .close-square .result) (f k) =
-    cong-sym cong-mod ⊙ cong-eq (c .close-square .ensures .0 ∙ rw (d .difference .ensures .0) refl) in (
+    cong-sym cong-mod ⊙ cong-eq (c .close-square .ensures .0 ∙ rw (d .opening .ensures .0) refl) in (
       omega arith,
       room c,
       cong-add (l .loop .inv .2) square ⊙ cong-eq {b = constantShare (a .side) 1 + sum (k + 1) f} (omega (arith, sum-more k f)),
@@ -141,9 +144,9 @@ close-group-spec =
     constant-requires
     cast-total
     loop-holds
-    difference-requires
-    cast-close-square
-    add-close-square
+    cast-j
+    add-j
+    opening-requires
     close-square-requires
     add-total
     add-k

@@ -1,7 +1,7 @@
 -- `steps::squares::open_group` meets its contract. The loop's invariant: the words of the bits passed stand in their places.
 use Prim.Native.Nat.{ℕ, _+_, _-_, _*_, _<_}
 use mathlib.Core.List.{List}
-use mathlib.Core.Path.{refl, _∙_}
+use mathlib.Core.Path.{refl}
 use native.Mathlib.Nat.{mul-le-mul, le-of-lt, le-refl}
 use native.Mathlib.Omega.{arith}
 use borrow.Author.Needs.{needs}
@@ -46,47 +46,31 @@ cast-j c = omega arith
 add-j : tie.Need-add-j Inv-loop μ-loop
 add-j c = omega (arith, placed c, small (start c .pre .0 .0))
 
-difference-requires : tie.Need-difference-requires Inv-loop μ-loop
-difference-requires c κs = (start c .pre .0 .0, c .loop-test .taken)
-
-mul-mask : tie.Need-mul-mask Inv-loop μ-loop
-mul-mask c = omega (arith, placed (c .before), small (start (c .before) .pre .0 .0))
-
-mul-mask-2 : tie.Need-mul-mask-2 Inv-loop μ-loop
-mul-mask-2 c = omega (arith, placed (c .before), small (start (c .before) .pre .0 .0))
-
-shared-slice-read-mask : tie.Need-shared-slice-read-mask Inv-loop μ-loop
-shared-slice-read-mask c =
-    let t = c .before .before in
-    omega (arith, placed t, start t .pre .1)
-
-mask-requires : tie.Need-mask-requires Inv-loop μ-loop
-mask-requires c κs =
-    let d = c .before in
-    let s = start (d .before) in
-    (s .pre .0 .0, d .difference .ensures .1, s .pre .1 .0 .at _)
+opening-requires : tie.Need-opening-requires Inv-loop μ-loop
+opening-requires c κs =
+    let s = start c in
+    (s .pre .0 .0, c .loop-test .taken, s .pre .1 .0, omega (arith, placed c, s .pre .1))
 
 mul-out : tie.Need-mul-out Inv-loop μ-loop
 mul-out c =
-    let t = c .before .before .before in
+    let t = c .before in
     omega (arith, placed t, small (start t .pre .0 .0))
 
 slice-write-out : tie.Need-slice-write-out Inv-loop μ-loop
 slice-write-out c =
-    let t = c .before .before .before in
+    let t = c .before in
     omega (arith, placed t, start t .pre .1, t .before .loop .inv .long)
 
 add-k : tie.Need-add-k Inv-loop μ-loop
-add-k c = omega (arith, small (start (c .before .before .before) .pre .0 .0))
+add-k c = omega (arith, small (start (c .before) .pre .0 .0))
 
 loop-less : tie.Need-loop-less Inv-loop μ-loop
 loop-less c = search needs
 
 loop-again : tie.Need-loop-again Inv-loop μ-loop
 loop-again c =
-    let d = c .before .before in
-    let t = d .before in
-    stored-more (t .before .loop .inv) _ _ (t .loop-test .taken) refl (c .mask .ensures .0 ∙ rw (d .difference .ensures .0))
+    let t = c .before in
+    stored-more (t .before .loop .inv) _ _ (t .loop-test .taken) refl (c .opening .ensures .0)
 
 same-length : tie.Need-same-length Inv-loop μ-loop
 same-length c = search needs
@@ -104,11 +88,7 @@ open-group-spec =
     loop-holds
     cast-j
     add-j
-    difference-requires
-    mul-mask
-    mul-mask-2
-    shared-slice-read-mask
-    mask-requires
+    opening-requires
     mul-out
     slice-write-out
     add-k

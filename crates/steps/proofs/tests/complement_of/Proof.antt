@@ -1,4 +1,5 @@
 -- `steps::tests::complement_of` meets its contract.
+use native.Mathlib.Nat.{le-of-lt}
 use native.Mathlib.Omega.{arith}
 use mathlib.Core.Path.{ap, _∙_}
 use Prim.Native.Nat.{ℕ}
@@ -15,7 +16,7 @@ constant-requires c κs = search needs
 sub-requires : tie.Need-sub-requires
 sub-requires c κs =
     let s = c .before in
-    (s .pre .0, omega (arith, bounds (s .pre .0)), s .pre .1)
+    (s .pre .0, omega (arith, bounds (s .pre .0)), le-of-lt (s .pre .1))
 
 returns : tie.Need-returns
 unfolding complement
