@@ -59,9 +59,14 @@ agreed w text =
     let h = numbersFrom 7 text 0 in
     head .ok && eqb (getD h 0 0) w && tapesTold text (head .at) (getD h 0 0) (getD h 1 0) (getD h 2 0) (getD h 3 0) (getD h 4 0) (getD h 5 0) (getD h 6 0)
 
--- there is a text of width w that agrees
-pub record Agreeing (w : ℕ) : Type 0 where
+-- the tape number that a text names
+abbrev pub tapeNumber : List ℕ → ℕ
+tapeNumber text = getD (numbersFrom 7 text 0) 2 0
+
+-- there is a text of width w and that tape number that agrees
+pub record Agreeing (w number : ℕ) : Type 0 where
   pub text : List ℕ
+  pub names : number ≡ tapeNumber text
   pub agrees : agreed w text ≡ true
 
 -- the bytes of job-WW-K.txt, where WW is w in two digits

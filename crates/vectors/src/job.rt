@@ -15,7 +15,7 @@ ghost use Rattle.exchange.specs.Opening.{shareOf};
 ghost use Rattle.exchange.specs.Boxes.{heardAfter, works};
 ghost use Rattle.vectors.specs.Numbers.{spelled};
 ghost use Rattle.vectors.specs.Due.{Due};
-ghost use Rattle.vectors.specs.Job.{messages, transcript, unusedTally, jobTold, tapesTold, agreed, Agreeing, nameOf};
+ghost use Rattle.vectors.specs.Job.{messages, transcript, unusedTally, jobTold, tapesTold, agreed, tapeNumber, Agreeing, nameOf};
 
 // The file of a width's job: job-WW-K.txt.
 fn name_of(w: u32, k: u8) -> [u8; 12]
@@ -39,30 +39,24 @@ fn name_of(w: u32, k: u8) -> [u8; 12]
     ]
 }
 
-// How many of a width's jobs agree.
-pub fn agreed_of(w: u32, count: u8) -> u64
-    ensures { λ r. ⌜ r ≤ count ⌝ }
-{
-    let mut agreed: u64 = 0;
-    let mut k: u8 = 0;
-    while k < count {
-        k += 1;
-        let name = name_of(w, k);
-        if agrees(&name, w) {
-            agreed += 1;
-        }
-    }
-    agreed
+// What came of a file's job: whether it agrees, and the tape number that its text names.
+pub struct Agreement {
+    pub agrees: bool,
+    pub number: u32,
 }
 
-// Whether the file is there and every word of its job is as the boxes give it. Which text was read cannot be said; true is
-// answered only of one that agrees.
-fn agrees(name: &[u8], w: u32) -> bool
-    ensures { λ r. ⌜ (r ≡ true → Agreeing w) ⌝ }
+// Whether a width's file is there and every word of its job is as the boxes give it. Which text was read cannot be said, only that one
+// that agrees has that tape number: it is printed, so that a file read in another's place shows.
+pub fn compared_with(w: u32, k: u8) -> Agreement
+    ensures { λ r. ⌜ (r .agrees ≡ true → Agreeing w (r .number)) ⌝ }
 {
-    let fd = os::open_read(name);
+    let name = name_of(w, k);
+    let fd = os::open_read(&name);
     if fd < 0 {
-        return false;
+        return Agreement {
+            agrees: false,
+            number: 0,
+        };
     }
     let mut text = [0u8; 262144];
     let len = io::read_full(fd, &mut text);
@@ -72,16 +66,22 @@ fn agrees(name: &[u8], w: u32) -> bool
 
 // A text has n, which is the width asked for, pair and tape number, the shares x1 y1 x2 y2, both tapes, both messages of each
 // round, both answer shares.
-fn run(text: &[u8], w: u32) -> bool
-    ensures { λ r. ⌜ r ≡ agreed w (now (text .entry)) ⌝ }
+fn run(text: &[u8], w: u32) -> Agreement
+    ensures { λ r. ⌜ (r .agrees ≡ agreed w (now (text .entry))) × (r .agrees ≡ true → r .number ≡ tapeNumber (now (text .entry))) ⌝ }
 {
     let mut head = [0u32; 7];
     let c = crate::numbers::fill(text, 0, &mut head);
     if !c.ok {
-        return false;
+        return Agreement {
+            agrees: false,
+            number: 0,
+        };
     }
     if head[0] != w {
-        return false;
+        return Agreement {
+            agrees: false,
+            number: 0,
+        };
     }
     let box1 = Shares {
         x: head[3],
@@ -91,7 +91,11 @@ fn run(text: &[u8], w: u32) -> bool
         x: head[5],
         y: head[6],
     };
-    on_tapes(text, c.at, head[0], head[1], head[2], box1, box2)
+    let agrees = on_tapes(text, c.at, head[0], head[1], head[2], box1, box2);
+    Agreement {
+        agrees,
+        number: head[2],
+    }
 }
 
 fn on_tapes(

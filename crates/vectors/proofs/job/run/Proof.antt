@@ -1,7 +1,10 @@
 -- `vectors::job::run` meets its contract: the seven numbers at the front are read, and the rest is told by them.
-use mathlib.Core.Path.{_≡_, _∙_}
+use Prim.Native.Nat.{ℕ}
+use mathlib.Core.Path.{_≡_, ap, _∙_}
+use mathlib.Core.Bool.{false≢true}
+use mathlib.Core.List.{List}
 use borrow.Author.Tests.{not-true, not-false}
-use lib.ListN.{replicate}
+use lib.ListN.{getD, replicate}
 use Rattle.vectors.specs.Numbers.{numbersFrom}
 use Rattle.vectors.proofs.Readings.{filled}
 use Rattle.vectors.proofs.Jobs.{agreed-none, agreed-other, agreed-told}
@@ -26,7 +29,7 @@ returns : tie.Need-returns
 returns c =
     let f = c .before .before .before in
     let v = f .before .before .before .args in
-    agreed-none (v .w) (v .text .now) (f .fill .result) (f .fill .ensures .0) (not-true _ (c .if1 .taken))
+    (agreed-none (v .w) (v .text .now) (f .fill .result) (f .fill .ensures .0) (not-true _ (c .if1 .taken)), λ e. absurd (false≢true e))
 
 array-read-if2 : tie.Need-array-read-if2
 array-read-if2 c = search needs
@@ -36,7 +39,7 @@ returns-2 c =
     let e = c .before in
     let f = e .before .before .before in
     let v = f .before .before .before .args in
-    agreed-other (v .w) (v .text .now) (f .fill .result) (f .fill .ensures .0) _ (front e) (c .if2 .taken)
+    (agreed-other (v .w) (v .text .now) (f .fill .result) (f .fill .ensures .0) _ (front e) (c .if2 .taken), λ e. absurd (false≢true e))
 
 array-read-on-tapes : tie.Need-array-read-on-tapes
 array-read-on-tapes c = search needs
@@ -62,6 +65,9 @@ array-read-on-tapes-7 c = search needs
 on-tapes-requires : tie.Need-on-tapes-requires
 on-tapes-requires c κs = search needs
 
+array-read-t13 : tie.Need-array-read-t13
+array-read-t13 c = search needs
+
 returns-3 : tie.Need-returns-3
 returns-3 c =
     let d = c .before in
@@ -69,7 +75,8 @@ returns-3 c =
     let f = e .before .before .before in
     let v = f .before .before .before .args in
     let ok = not-false (f .fill .result .ok) (e .if1 .left) in
-    c .on-tapes .ensures ∙ agreed-told (v .w) (v .text .now) (f .fill .result) (f .fill .ensures .0) _ (front e) ok (d .if2 .left)
+    let told = c .on-tapes .ensures ∙ agreed-told (v .w) (v .text .now) (f .fill .result) (f .fill .ensures .0) _ (front e) ok (d .if2 .left) in
+    (told, λ _. ap (λ (h : List ℕ). getD h 2 0) (front e))
 
 pub run-spec : {M : Type 1} → statement M
 run-spec =
@@ -88,4 +95,5 @@ run-spec =
     array-read-on-tapes-6
     array-read-on-tapes-7
     on-tapes-requires
+    array-read-t13
     returns-3)

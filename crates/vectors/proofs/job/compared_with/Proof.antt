@@ -1,9 +1,15 @@
--- `vectors::job::agrees` meets its contract: the text in hand is the one that agrees.
+-- `vectors::job::compared_with` meets its contract: the text in hand is the one that agrees.
 use mathlib.Core.Bool.{false≢true}
 use mathlib.Core.Path.{sym, _∙_}
 use borrow.Author.Needs.{needs}
-use Rattle.vectors.proofs.job.agrees.Statement.{statement}
-use Rattle.vectors.proofs.job.agrees.Tie as tie
+use Rattle.vectors.proofs.job.compared_with.Statement.{statement}
+use Rattle.vectors.proofs.job.compared_with.Tie as tie
+
+name-of-requires : tie.Need-name-of-requires
+name-of-requires c κs = search needs
+
+slice-aggregate-open-read : tie.Need-slice-aggregate-open-read
+slice-aggregate-open-read c = search needs
 
 open-read-requires : tie.Need-open-read-requires
 open-read-requires c κs = search needs
@@ -30,12 +36,14 @@ run-requires : tie.Need-run-requires
 run-requires c κs = search needs
 
 returns-2 : tie.Need-returns-2
-returns-2 c = λ e. record { text = _; agrees = sym (c .run .ensures) ∙ e }
+returns-2 c = λ e. record { text = _; names = c .run .ensures .1 e; agrees = sym (c .run .ensures .0) ∙ e }
 
-pub agrees-spec : {M : Type 1} → statement M
-agrees-spec =
+pub compared-with-spec : {M : Type 1} → statement M
+compared-with-spec =
     tie.close
     (tie.spec
+    name-of-requires
+    slice-aggregate-open-read
     open-read-requires
     returns
     slice-aggregate-read-full
