@@ -1,6 +1,6 @@
 -- The inverse of a small number modulo p, without search among the residues: k divides one of 1, p + 1, 2p + 1, .., and the quotient is
 -- the inverse.
-use Prim.Native.Nat.{ℕ, zero, suc, _+_, _*_, _/_, _%_}
+use Prim.Native.Nat.{ℕ, zero, suc, _+_, _/_, _%_}
 use mathlib.Core.Bool.{cond}
 use lib.Dec.{eqb}
 use Rattle.field.specs.Width.{modulus}

@@ -1,4 +1,4 @@
 mod Chains
 mod Outcomes
 mod TurnChecks
-mod Turns
+mod HandedOn

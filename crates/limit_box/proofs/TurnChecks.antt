@@ -6,7 +6,7 @@ use mathlib.Core.List.{List, [], _∷_, _++_}
 use lib.ListN.{length}
 use Rattle.field.specs.Width.{listed}
 use Rattle.rules.specs.Modes.{modeOf}
-use Rattle.rules.specs.Grounds.{Ground, firstOf, jobGrounds, dueGrounds, tapeGrounds, roomGrounds, messageFits, turnGrounds}
+use Rattle.rules.specs.Grounds.{firstOf, jobGrounds, dueGrounds, tapeGrounds, roomGrounds, messageFits, turnGrounds}
 use Rattle.rules.specs.declared.state.State.{State}
 use Rattle.rules.specs.declared.state.Turn.{Turn}
 use Rattle.rules.proofs.Chains.{both-none}

@@ -1,5 +1,4 @@
 -- `field::add` meets its contract: the sum of two words below p is below 2p.
-use native.Mathlib.Omega.{arith}
 use borrow.Author.Needs.{needs}
 use Rattle.field.proofs.add.Statement.{statement}
 use Rattle.field.proofs.add.Tie as tie

@@ -1,5 +1,5 @@
 -- `field::is_listed` meets its contract: the match's keys are the listed widths.
-use mathlib.Core.Path.{_≡_, refl}
+use mathlib.Core.Path.{refl}
 use mathlib.Core.Logic.{inl, inr, ⊎-elim}
 use borrow.Author.Tests.{ne-eqb}
 use Rattle.field.specs.Width.{listed}

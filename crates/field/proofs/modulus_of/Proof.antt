@@ -1,10 +1,10 @@
 -- `field::modulus_of` meets its contract: 2 ^ n fits a word, so the shift loses nothing.
-use mathlib.Core.Path.{_≡_, refl, ap, _∙_}
+use mathlib.Core.Path.{_≡_, ap, _∙_}
 use Prim.Native.Nat.{ℕ, _^_, _*_, _%_, _<_, _-_}
 use native.Mathlib.Nat.{one-mul, mod-eq-of-lt}
 use native.Mathlib.Omega.{arith}
 use lib.Pow.{pow-lt}
-use Rattle.field.specs.Width.{modulus, listed}
+use Rattle.field.specs.Width.{modulus}
 use Rattle.field.proofs.Widths.{bounds, Bounds}
 use Rattle.field.proofs.modulus_of.Statement.{statement}
 use Rattle.field.proofs.modulus_of.Tie as tie

@@ -4,7 +4,6 @@ use Prim.Native.Nat.{ℕ, _+_, _-_, _*_, _/_, _%_, _<_, _≤_}
 use native.Mathlib.Nat.{add-mul-mod-self-left, div-le-self, mul-le-mul}
 use native.Mathlib.Omega.{arith}
 use borrow.Author.Needs.{needs}
-use Rattle.field.specs.Width.{modulus}
 use Rattle.field.proofs.Widths.{bounds}
 use Rattle.field.proofs.Remainders.{Quotient, quotient}
 use Rattle.field.proofs.reduce.Statement.{statement}

@@ -8,7 +8,7 @@ use Rattle.rules.specs.Grounds.{hearGround}
 use Rattle.rules.specs.Calls.{partyOf, hearRule}
 use Rattle.rules.proofs.Passed.{HearPassed, hear-passed, words-below}
 use Rattle.limit_box.proofs.Outcomes.{refused-outcome, passed-ground, last-outcome, more-outcome}
-use Rattle.limit_box.proofs.Turns.{given}
+use Rattle.limit_box.proofs.HandedOn.{given}
 use borrow.Author.Needs.{needs}
 use Rattle.limit_box.proofs.hear.Statement.{statement}
 use Rattle.limit_box.proofs.hear.Tie as tie

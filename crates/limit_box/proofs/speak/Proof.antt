@@ -5,7 +5,7 @@ use Rattle.protocol.proofs.Lengths.{words-most}
 use Rattle.rules.specs.Calls.{speakRule}
 use Rattle.rules.proofs.Passed.{SpeakPassed, speak-passed}
 use Rattle.limit_box.proofs.Outcomes.{refused-outcome, passed-outcome, passed-ground}
-use Rattle.limit_box.proofs.Turns.{given}
+use Rattle.limit_box.proofs.HandedOn.{given}
 use borrow.Author.Needs.{needs}
 use Rattle.limit_box.proofs.speak.Statement.{statement}
 use Rattle.limit_box.proofs.speak.Tie as tie

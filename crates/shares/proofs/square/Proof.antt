@@ -1,11 +1,11 @@
 -- `shares::square` meets its contract: the sum of the three products is below 4p².
-use mathlib.Core.Path.{_≡_, refl, ap}
+use mathlib.Core.Path.{refl, ap}
 use Prim.Native.Nat.{ℕ, _+_, _*_, _%_, _<_}
 use native.Mathlib.Omega.{arith}
 use borrow.Author.Needs.{needs}
-use Rattle.field.specs.Width.{modulus, listed}
+use Rattle.field.specs.Width.{modulus}
 use Rattle.field.proofs.Widths.{bounds, product-below}
-use Rattle.shares.specs.Share.{constantShare, squareShare}
+use Rattle.shares.specs.Share.{squareShare}
 use Rattle.shares.proofs.Sides.{constant-times}
 use Rattle.shares.proofs.square.Statement.{statement}
 use Rattle.shares.proofs.square.Tie as tie

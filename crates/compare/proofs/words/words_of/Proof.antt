@@ -1,5 +1,4 @@
 -- `compare::words::words_of` meets its contract: each arm is a round's number, and the last is none of them.
-use Prim.Native.Nat.{_+_, _*_}
 use mathlib.Core.Path.{sym}
 use native.Mathlib.Omega.{arith}
 use borrow.Author.Needs.{needs}

@@ -1,5 +1,5 @@
 -- `lines::writing::put_decimal` meets its contract. The loop's invariant: the digits of what is left, then those gathered, are the number's.
-use Prim.Native.Nat.{_+_, _-_, _%_, _≤_}
+use Prim.Native.Nat.{_+_, _-_, _≤_}
 use mathlib.Core.Path.{_≡_, refl, sym, ap, _∙_}
 use mathlib.Core.List.{_++_, append-nil}
 use native.Mathlib.Omega.{arith}
@@ -48,11 +48,10 @@ loop-again c =
     let l = c .before in
     let inv = l .loop .inv in
     let value = l .before .before .args .value in
-    let low = sub-start c in
-    let digit = 48 + l .loop .left % 10 in (
+    let low = sub-start c in (
       omega arith,
       omega arith,
-      length-set (l .loop .digits) (l .loop .start - 1) digit ∙ inv .2,
+      simp length-set (inv .2),
       gather-more value (l .loop .left) (l .loop .start) (l .loop .digits) (inv .2) (inv .0) (inv .3) low (c .loop-test .taken),
     )
 

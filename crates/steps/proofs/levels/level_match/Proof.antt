@@ -6,13 +6,12 @@ use Prim.Native.Nat.{ℕ, _+_, _-_, _*_, _^_, _<_, _≤_}
 use native.Mathlib.Nat.{pow-suc, pow-zero}
 use native.Mathlib.Numerals.{add-one}
 use native.Mathlib.Omega.{arith}
-use lib.ListN.{getD}
 use Rattle.lists.specs.Tabulate.{sum}
 use Rattle.lists.proofs.Sums.{sum-more}
 use Rattle.field.specs.Width.{modulus}
 use Rattle.field.specs.Congruence.{Cong}
 use Rattle.field.proofs.Widths.{bounds}
-use Rattle.field.proofs.Congruences.{cong-refl, cong-eq, cong-mod, cong-add, cong-mul, _⊙_}
+use Rattle.field.proofs.Congruences.{cong-refl, cong-eq, cong-add, cong-mul, _⊙_}
 use Rattle.shares.specs.Share.{constantShare}
 use Rattle.tape.specs.Letters.{groupPower}
 use Rattle.tape.proofs.Letters.{group-place}

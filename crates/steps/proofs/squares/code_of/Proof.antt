@@ -1,5 +1,5 @@
 -- `steps::squares::code_of` meets its contract: what is left of g after its test is its level.
-use Prim.Native.Nat.{_-_, _*_, _/_, _%_, _<_, _≤_}
+use Prim.Native.Nat.{_-_, _*_, _%_, _<_, _≤_}
 use mathlib.Core.Path.{_≡_, sym, _∙_}
 use native.Mathlib.Nat.{mod-lt, mod-eq-sub-div-mul, div-mul-le-self}
 use native.Mathlib.Omega.{arith}
