@@ -16,9 +16,9 @@ pub fn trailer(n: u32, pair: u32, side: u32, number: u32, tape: &mut [u32])
     ensures { λ _. ⌜ now (tape .exit) ≡ sets (now (tape .entry)) (bodyLength n) (tail n pair side number) ⌝ }
 {
     let words = tape::trailer_of(n, pair, side, number);
-    let body = tape::tape_words(n) - 7;
+    let body = tape::tape_words(n) - tape::TRAILER;
     let mut k = 0;
-    while k < 7 {
+    while k < tape::TRAILER {
         tape[body + k] = words[k];
         k += 1;
     }
@@ -42,9 +42,9 @@ fn plain_body(n: u32, side: u32, tape: &mut [u32])
     requires { ⌜ (listed n ≡ true) × (tapeLength n ≤ length (now tape)) ⌝ }
     ensures { λ _. ⌜ now (tape .exit) ≡ sets (now (tape .entry)) 0 (tabulate (bodyLength n) (plainWord n side)) ⌝ }
 {
-    let from = tape::section_words(n, tape::SQUARES);
-    let to = from + tape::section_words(n, tape::POWERS);
-    let body = tape::tape_words(n) - 7;
+    let from = tape::section_start(n, tape::POWERS);
+    let to = tape::section_start(n, tape::TRIPLES);
+    let body = tape::tape_words(n) - tape::TRAILER;
     let mut at = 0;
     while at < body {
         tape[at] = word(side, from, to, at);

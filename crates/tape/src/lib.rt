@@ -16,7 +16,8 @@ pub const TRIPLES: usize = 2;
 // How many sections there are.
 const SECTIONS: usize = 3;
 
-const TRAILER: usize = 7;
+// The words of a trailer.
+pub const TRAILER: usize = 7;
 
 // The words of a block that is looked at as one.
 const BLOCK: usize = 256;

@@ -1,34 +1,30 @@
 -- `dealer::plain_body` meets its contract: each turn stores one word.
-use Prim.Native.Nat.{ℕ, _+_, _-_, _≤_}
-use mathlib.Core.Path.{_≡_, refl, ap, ap₂, _∙_}
+use Prim.Native.Nat.{ℕ, _-_}
+use mathlib.Core.Path.{_≡_, sym, ap, ap₂, _∙_}
 use mathlib.Core.Bool.{_&&_, cond}
+use native.Mathlib.Nat.{zero-add}
 use native.Mathlib.Omega.{arith}
 use borrow.Author.Needs.{needs}
 use lib.Dec.{eqb, leb, ltb}
-use lib.ListN.{length}
 use lib.Seq.{sets}
 use Rattle.lists.specs.Tabulate.{tabulate}
-use Rattle.tape.specs.Layout.{bodyLength, sectionStart}
+use Rattle.lists.proofs.Stores.{Stored, stored-none, stored-more, stored-all}
+use Rattle.tape.specs.Layout.{bodyLength}
 use Rattle.tape.specs.Plain.{plainWord}
-use Rattle.tape.proofs.Sizes.{small}
-use Rattle.dealer.proofs.Stores.{front-turn}
 use Rattle.dealer.proofs.plain_body.Statement.{statement}
 use Rattle.dealer.proofs.plain_body.Tie as tie
 
 abbrev Inv-loop : tie.InvT-loop
-Inv-loop n side tape₀ from to body at₀ tape at = (length tape ≡ length tape₀) × (at ≤ body) × (tape ≡ sets tape₀ 0 (tabulate at (plainWord n side)))
+Inv-loop n side tape₀ from to body at₀ tape at = Stored tape₀ 0 body (plainWord n side) tape at
 
 abbrev μ-loop : tie.MeasureT-loop
 μ-loop n side tape₀ from to body at₀ tape at = body - at
 
-section-words-requires : tie.Need-section-words-requires Inv-loop μ-loop
-section-words-requires c κs = search needs
+section-start-requires : tie.Need-section-start-requires Inv-loop μ-loop
+section-start-requires c κs = search needs
 
-section-words-requires-2 : tie.Need-section-words-requires-2 Inv-loop μ-loop
-section-words-requires-2 c κs = search needs
-
-add-to : tie.Need-add-to Inv-loop μ-loop
-add-to c = omega (arith, small (c .before .before .before .pre .0), c .before .section-words .ensures, c .section-words2 .ensures)
+section-start-requires-2 : tie.Need-section-start-requires-2 Inv-loop μ-loop
+section-start-requires-2 c κs = search needs
 
 tape-words-requires : tie.Need-tape-words-requires Inv-loop μ-loop
 tape-words-requires c κs = search needs
@@ -37,7 +33,7 @@ sub-body : tie.Need-sub-body Inv-loop μ-loop
 sub-body c = search needs
 
 loop-holds : tie.Need-loop-holds Inv-loop μ-loop
-loop-holds c = (refl, omega arith, refl)
+loop-holds c = stored-none
 
 word-requires : tie.Need-word-requires Inv-loop μ-loop
 word-requires c κs = search needs
@@ -56,17 +52,16 @@ loop-less c = search needs
 
 loop-again : tie.Need-loop-again Inv-loop μ-loop
 loop-again c =
-    let l = c .before in
-    let a = l .before .before .before .before .before .before .args in
-    let first = l .before .before .before .before .section-words in
-    let second = l .before .before .before .section-words2 in
-    let from : first .result ≡ sectionStart (a .n) 1 = omega (arith, first .ensures) in
-    let to : first .result + second .result ≡ sectionStart (a .n) 2 = omega (arith, first .ensures, second .ensures) in
-    let word = c .word .ensures ∙ ap₂ (λ (f t : ℕ). cond (eqb (a .side) 1 && leb f (l .before .loop .at) && ltb (l .before .loop .at) t) 1 0) from to in (
-      search needs,
-      omega (arith, l .loop-test .taken),
-      front-turn (l .before .loop .tape) (a .tape .now) (l .before .loop .at) (c .word .result) (plainWord (a .n) (a .side)) (l .before .loop .inv .2) word,
-    )
+    let t = c .before in
+    let l = t .before in
+    let second = l .before .before in
+    let first = second .before in
+    let a = first .before .before .args in
+    let word =
+    c .word .ensures
+    ∙ ap₂ (λ (from to : ℕ). cond (eqb (a .side) 1 && leb from (l .loop .at) && ltb (l .loop .at) to) 1 0)
+    (first .section-start .ensures) (second .section-start2 .ensures) in
+    stored-more (l .loop .inv) _ _ (t .loop-test .taken) (sym (zero-add (l .loop .at))) word
 
 same-length : tie.Need-same-length Inv-loop μ-loop
 same-length c = search needs
@@ -75,8 +70,8 @@ returns : tie.Need-returns Inv-loop μ-loop
 returns c =
     let l = c .before in
     let a = l .before .before .before .before .before .args in
-    let all : l .loop .at ≡ bodyLength (a .n) = omega (arith, l .loop .inv .1, l .before .tape-words .ensures) in
-    l .loop .inv .2 ∙ ap (λ (m : ℕ). sets (a .tape .now) 0 (tabulate m (plainWord (a .n) (a .side)))) all
+    let body : l .before .tape-words .result - 7 ≡ bodyLength (a .n) = omega (arith, l .before .tape-words .ensures) in
+    stored-all (l .loop .inv) (c .loop-test .left) ∙ ap (λ (m : ℕ). sets (a .tape .now) 0 (tabulate m (plainWord (a .n) (a .side)))) body
 
 pub plain-body-spec : {M : Type 1} → statement M
 plain-body-spec =
@@ -84,9 +79,8 @@ plain-body-spec =
     (tie.spec
     Inv-loop
     μ-loop
-    section-words-requires
-    section-words-requires-2
-    add-to
+    section-start-requires
+    section-start-requires-2
     tape-words-requires
     sub-body
     loop-holds

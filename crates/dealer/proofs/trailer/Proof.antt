@@ -1,19 +1,19 @@
 -- `dealer::trailer` meets its contract: the seven words are a tape's last.
-use Prim.Native.Nat.{ℕ, _-_, _≤_}
+use Prim.Native.Nat.{ℕ, _-_}
 use mathlib.Core.Path.{_≡_, refl, ap, _∙_}
 use mathlib.Core.List.{List}
 use native.Mathlib.Omega.{arith}
 use borrow.Author.Needs.{needs}
-use lib.ListN.{length, getD}
+use lib.ListN.{getD}
 use lib.Seq.{sets}
 use Rattle.lists.specs.Tabulate.{tabulate}
+use Rattle.lists.proofs.Stores.{Stored, stored-none, stored-more, stored-all}
 use Rattle.tape.specs.Layout.{bodyLength}
-use Rattle.dealer.proofs.Stores.{turn}
 use Rattle.dealer.proofs.trailer.Statement.{statement}
 use Rattle.dealer.proofs.trailer.Tie as tie
 
 abbrev Inv-loop : tie.InvT-loop
-Inv-loop n pair side number tape₀ words body k₀ tape k = (length tape ≡ length tape₀) × (k ≤ 7) × (tape ≡ sets tape₀ body (tabulate k (λ j. getD words j 0)))
+Inv-loop n pair side number tape₀ words body k₀ tape k = Stored tape₀ body 7 (λ j. getD words j 0) tape k
 
 abbrev μ-loop : tie.MeasureT-loop
 μ-loop n pair side number tape₀ words body k₀ tape k = 7 - k
@@ -28,7 +28,7 @@ sub-body : tie.Need-sub-body Inv-loop μ-loop
 sub-body c = search needs
 
 loop-holds : tie.Need-loop-holds Inv-loop μ-loop
-loop-holds c = (refl, omega arith, refl)
+loop-holds c = stored-none
 
 mul-tape : tie.Need-mul-tape Inv-loop μ-loop
 mul-tape c = search needs
@@ -52,14 +52,7 @@ loop-less : tie.Need-loop-less Inv-loop μ-loop
 loop-less c = search needs
 
 loop-again : tie.Need-loop-again Inv-loop μ-loop
-loop-again c =
-    let l = c .before in
-    let words = l .before .before .trailer-of .result in
-    let t = l .before .before .before .before .args .tape .now in (
-      search needs,
-      omega (arith, c .loop-test .taken),
-      turn (l .loop .tape) t (l .before .tape-words .result - 7) (l .loop .k) (getD words (l .loop .k) 0) (λ j. getD words j 0) (l .loop .inv .2) refl,
-    )
+loop-again c = stored-more (c .before .loop .inv) _ _ (c .loop-test .taken) refl refl
 
 same-length : tie.Need-same-length Inv-loop μ-loop
 same-length c = search needs
@@ -71,11 +64,8 @@ returns c =
     let a = call .before .before .args in
     let t = a .tape .now in
     let words = call .trailer-of .result in
-    let body = l .before .tape-words .result - 7 in
-    let here : body ≡ bodyLength (a .n) = omega (arith, l .before .tape-words .ensures) in
-    let all : l .loop .k ≡ 7 = omega (arith, l .loop .inv .1) in
-    l .loop .inv .2
-    ∙ ap (λ (m : ℕ). sets t body (tabulate m (λ j. getD words j 0))) all
+    let here : l .before .tape-words .result - 7 ≡ bodyLength (a .n) = omega (arith, l .before .tape-words .ensures) in
+    stored-all (l .loop .inv) (c .loop-test .left)
     ∙ ap (λ (m : ℕ). sets t m (tabulate 7 (λ j. getD words j 0))) here
     ∙ ap (λ (ws : List ℕ). sets t (bodyLength (a .n)) (tabulate 7 (λ j. getD ws j 0))) (call .trailer-of .ensures)
 
