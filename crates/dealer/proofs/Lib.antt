@@ -1,1 +1,2 @@
 mod Stores
+mod Trailers

@@ -1,6 +1,6 @@
 // The inputs x1, x2, y1, y2 of a width, each from 0 to p - 1.
-use crate::random::NUMBER;
-use crate::random::PAIR;
+use crate::tapes::NUMBER;
+use crate::tapes::PAIR;
 use exchange::Shares;
 ghost use mathlib.Core.Path.{_≡_};
 ghost use mathlib.Core.Bool.{true};
@@ -78,7 +78,7 @@ fn with_tapes(
     ensures most { λ r. ⌜ r .right ≤ modulus n * modulus n ⌝ }
     ensures plain { λ r. ⌜ (plain ≡ true → (r .seed ≡ seed) × (now (t1 .exit) ≡ plainTape n 7 1 0) × (now (t2 .exit) ≡ plainTape n 7 2 0)) ⌝ }
 {
-    let next = crate::random::pair(n, plain, seed, &mut *t1, &mut *t2);
+    let next = crate::tapes::pair(n, plain, seed, &mut *t1, &mut *t2);
     let right = right_of(n, x1, x2, &*t1, &*t2);
     Turn { right, seed: next }
 }

@@ -5,7 +5,7 @@ ghost use Prim.Native.Nat.{_≤_};
 ghost use Rattle.field.specs.Width.{listed};
 
 mod inputs;
-mod random;
+mod tapes;
 
 fn run(name: &[u8], n: u32, plain: bool, all: u64)
     requires { ⌜ (listed n ≡ true) × (n ≤ 5) ⌝ }

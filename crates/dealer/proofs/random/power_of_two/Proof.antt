@@ -1,11 +1,11 @@
--- `exhaustive::random::power_of_two` meets its contract: the power is below p in every turn.
+-- `dealer::random::power_of_two` meets its contract: the power is below p in every turn.
 use Prim.Native.Nat.{_-_, _<_}
 use native.Mathlib.Omega.{arith}
 use borrow.Author.Needs.{needs}
 use Rattle.field.specs.Width.{modulus}
 use Rattle.field.proofs.Widths.{bounds}
-use Rattle.exhaustive.proofs.random.power_of_two.Statement.{statement}
-use Rattle.exhaustive.proofs.random.power_of_two.Tie as tie
+use Rattle.dealer.proofs.random.power_of_two.Statement.{statement}
+use Rattle.dealer.proofs.random.power_of_two.Tie as tie
 
 abbrev Inv-loop : tie.InvT-loop
 Inv-loop n k power₀ i₀ power i = power < modulus n

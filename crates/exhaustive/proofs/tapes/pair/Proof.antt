@@ -1,10 +1,10 @@
--- `exhaustive::random::pair` meets its contract: the plain tapes, or those of the generator.
+-- `exhaustive::tapes::pair` meets its contract: the plain tapes, or those of the generator.
 use mathlib.Core.Path.{sym, _∙_}
 use mathlib.Core.Bool.{true≢false}
 use borrow.Author.Needs.{needs}
 use borrow.Author.Tests.{not-true}
-use Rattle.exhaustive.proofs.random.pair.Statement.{statement}
-use Rattle.exhaustive.proofs.random.pair.Tie as tie
+use Rattle.exhaustive.proofs.tapes.pair.Statement.{statement}
+use Rattle.exhaustive.proofs.tapes.pair.Tie as tie
 
 deal-requires : tie.Need-deal-requires
 deal-requires c κs = search needs

@@ -4,12 +4,7 @@ ghost use mathlib.Core.Bool.{true};
 ghost use Prim.Native.Nat.{ℕ, _+_, _<_, _≤_};
 ghost use lib.ListN.{length, getD};
 ghost use Rattle.field.specs.Width.{listed, modulus};
-ghost use Rattle.tape.specs.Plain.{plainTape};
-ghost use Rattle.tape.specs.Layout.{tapeLength, bodyLength, trailer as tailOf};
-
-pub const PAIR: u32 = 7;
-
-pub const NUMBER: u32 = 0;
+ghost use Rattle.tape.specs.Layout.{tapeLength, bodyLength, trailer as tail};
 
 // The generator's next state. The remainders drop the bits above the 32nd.
 fn next(v: u32) -> u32 {
@@ -51,28 +46,18 @@ fn total(n: u32, t1: &[u32], t2: &[u32], at: usize) -> u32
     field::add(n, field::reduce(n, t1[at]), field::reduce(n, t2[at]))
 }
 
-// Squares (a, q) from a place to another: q = a * a.
-fn squares(n: u32, start: usize, end: usize, t1: &[u32], t2: &mut [u32])
-    requires { ⌜ (listed n ≡ true) × (start ≤ end) × (end ≤ length (now t1)) × (end ≤ length (now t2)) ⌝ }
+// Groups of a size from a place to another, whose last word is the product of the first and the last but one: triples (a, b, c), and squares
+// (a, q), where these two are the same word.
+fn products(n: u32, size: usize, start: usize, end: usize, t1: &[u32], t2: &mut [u32])
+    requires { ⌜ (listed n ≡ true) × (2 ≤ size) × (size ≤ 3) × (start ≤ end) × (end ≤ length (now t1)) × (end ≤ length (now t2)) ⌝ }
 {
     let mut at = start;
-    while at + 1 < end {
+    while at + size <= end {
+        let last = at + size - 1;
         let a = total(n, t1, &*t2, at);
-        t2[at + 1] = rest(n, field::mul(n, a, a), t1[at + 1]);
-        at += 2;
-    }
-}
-
-// Triples (a, b, c): c = a * b.
-fn triples(n: u32, start: usize, end: usize, t1: &[u32], t2: &mut [u32])
-    requires { ⌜ (listed n ≡ true) × (start ≤ end) × (end ≤ length (now t1)) × (end ≤ length (now t2)) ⌝ }
-{
-    let mut at = start;
-    while at + 2 < end {
-        let a = total(n, t1, &*t2, at);
-        let b = total(n, t1, &*t2, at + 1);
-        t2[at + 2] = rest(n, field::mul(n, a, b), t1[at + 2]);
-        at += 3;
+        let b = total(n, t1, &*t2, last - 1);
+        t2[last] = rest(n, field::mul(n, a, b), t1[last]);
+        at += size;
     }
 }
 
@@ -121,43 +106,30 @@ fn powers(n: u32, seed: u32, start: usize, end: usize, t1: &[u32], t2: &mut [u32
     v
 }
 
-// A tape of random words, and its trailer.
-fn random_tape(n: u32, side: u32, seed: u32, tape: &mut [u32]) -> u32
-    requires { ⌜ (listed n ≡ true) × (tapeLength n ≤ length (now tape)) ⌝ }
-    ensures { λ _. ⌜ ((j : ℕ) → j < bodyLength n → getD (now (tape .exit)) j 0 < modulus n)
-        × ((k : ℕ) → k < 7 → getD (now (tape .exit)) (bodyLength n + k) 0 ≡ getD (tailOf n 7 side 0) k 0) ⌝ }
+// Box 2's words that the equations ask for, given the others.
+fn complete(n: u32, seed: u32, t1: &[u32], t2: &mut [u32]) -> u32
+    requires { ⌜ (listed n ≡ true) × (bodyLength n ≤ length (now t1)) × (bodyLength n ≤ length (now t2)) ⌝ }
 {
-    let v = scatter(n, seed, &mut *tape);
-    dealer::trailer(n, PAIR, side, NUMBER, tape);
-    v
+    let powers_at = tape::section_start(n, tape::POWERS);
+    let triples_at = tape::section_start(n, tape::TRIPLES);
+    let end = triples_at + tape::section_words(n, tape::TRIPLES);
+    products(n, 2, 0, powers_at, t1, &mut *t2);
+    products(n, 3, triples_at, end, t1, &mut *t2);
+    powers(n, seed, powers_at, triples_at, t1, t2)
 }
 
-// A pair of tapes: box 1's words random, box 2's a and b too, and box 2's other words as the equations ask.
-// Answers the generator's state. Box 1's words are below p, and its trailer stands.
-fn deal(n: u32, seed: u32, t1: &mut [u32], t2: &mut [u32]) -> u32
+// A pair of tapes: box 1's words random, box 2's a and b too, and box 2's other words as the equations ask. Answers the generator's state.
+// Box 1's words are below p, and both trailers stand.
+pub fn deal(n: u32, pair: u32, number: u32, seed: u32, t1: &mut [u32], t2: &mut [u32]) -> u32
     requires { ⌜ (listed n ≡ true) × (tapeLength n ≤ length (now t1)) × (tapeLength n ≤ length (now t2)) ⌝ }
-    ensures { λ _. ⌜ ((j : ℕ) → j < bodyLength n → getD (now (t1 .exit)) j 0 < modulus n)
-        × ((k : ℕ) → k < 7 → getD (now (t1 .exit)) (bodyLength n + k) 0 ≡ getD (tailOf n 7 1 0) k 0) ⌝ }
+    ensures below { λ _. ⌜ ((j : ℕ) → j < bodyLength n → getD (now (t1 .exit)) j 0 < modulus n) ⌝ }
+    ensures trailers { λ _. ⌜ ((k : ℕ) → k < 7 → (getD (now (t1 .exit)) (bodyLength n + k) 0 ≡ getD (tail n pair 1 number) k 0)
+        × (getD (now (t2 .exit)) (bodyLength n + k) 0 ≡ getD (tail n pair 2 number) k 0)) ⌝ }
 {
-    let a = tape::section_words(n, tape::SQUARES);
-    let b = a + tape::section_words(n, tape::POWERS);
-    let c = b + tape::section_words(n, tape::TRIPLES);
-    let v1 = random_tape(n, 1, seed, &mut *t1);
-    let v2 = random_tape(n, 2, v1, &mut *t2);
-    squares(n, 0, a, &*t1, &mut *t2);
-    triples(n, b, c, &*t1, &mut *t2);
-    powers(n, v2, a, b, &*t1, t2)
-}
-
-// Both boxes' tapes: the plain ones, or random ones. Answers the generator's state.
-pub fn pair(n: u32, plain: bool, seed: u32, t1: &mut [u32], t2: &mut [u32]) -> u32
-    requires { ⌜ (listed n ≡ true) × (length (now t1) ≡ tapeLength n) × (length (now t2) ≡ tapeLength n) ⌝ }
-    ensures { λ r. ⌜ (plain ≡ true → (r ≡ seed) × (now (t1 .exit) ≡ plainTape n 7 1 0) × (now (t2 .exit) ≡ plainTape n 7 2 0)) ⌝ }
-{
-    if !plain {
-        return deal(n, seed, t1, t2);
-    }
-    dealer::plain(n, PAIR, 1, NUMBER, t1);
-    dealer::plain(n, PAIR, 2, NUMBER, t2);
-    seed
+    let v1 = scatter(n, seed, &mut *t1);
+    let v2 = scatter(n, v1, &mut *t2);
+    let v = complete(n, v2, &*t1, &mut *t2);
+    crate::trailer(n, pair, 1, number, t1);
+    crate::trailer(n, pair, 2, number, t2);
+    v
 }

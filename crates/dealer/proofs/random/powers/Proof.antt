@@ -1,4 +1,4 @@
--- `exhaustive::random::powers` is safe and ends: the place stays within the section.
+-- `dealer::random::powers` is safe and ends: the place stays within the section.
 use Prim.Native.Nat.{_-_, _≤_}
 use mathlib.Core.Path.{_≡_}
 use native.Mathlib.Nat.{mod-lt, le-of-lt}
@@ -6,8 +6,8 @@ use native.Mathlib.Omega.{arith}
 use borrow.Author.Needs.{needs}
 use lib.ListN.{length}
 use Rattle.field.proofs.Widths.{bounds}
-use Rattle.exhaustive.proofs.random.powers.Statement.{statement}
-use Rattle.exhaustive.proofs.random.powers.Tie as tie
+use Rattle.dealer.proofs.random.powers.Statement.{statement}
+use Rattle.dealer.proofs.random.powers.Tie as tie
 
 abbrev Inv-loop : tie.InvT-loop
 Inv-loop n seed start end t1 t2₀ m v₀ at₀ t2 v at = (at ≤ end) × (length t2 ≡ length t2₀)

@@ -1,4 +1,4 @@
--- `exhaustive::random::group` is safe and ends: the power is below p in every turn, and the group ends within both tapes.
+-- `dealer::random::group` is safe and ends: the power is below p in every turn, and the group ends within both tapes.
 use Prim.Native.Nat.{_+_, _-_, _<_}
 use mathlib.Core.Path.{_≡_, refl, _∙_}
 use native.Mathlib.Omega.{arith}
@@ -6,8 +6,8 @@ use borrow.Author.Needs.{needs}
 use lib.ListN.{length, length-set}
 use Rattle.field.specs.Width.{modulus}
 use Rattle.field.proofs.Widths.{bounds}
-use Rattle.exhaustive.proofs.random.group.Statement.{statement}
-use Rattle.exhaustive.proofs.random.group.Tie as tie
+use Rattle.dealer.proofs.random.group.Statement.{statement}
+use Rattle.dealer.proofs.random.group.Tie as tie
 
 abbrev Inv-loop : tie.InvT-loop
 Inv-loop n k at t1 t2₀ r m power₀ j₀ t2 power j = (power < modulus n) × (length t2 ≡ length t2₀)

@@ -1,4 +1,4 @@
--- `exhaustive::random::scatter` meets its contract: p is not 0, and each turn stores one word.
+-- `dealer::random::scatter` meets its contract: p is not 0, and each turn stores one word.
 use Prim.Native.Nat.{ℕ, _+_, _-_, _%_, _<_, _≤_}
 use mathlib.Core.Path.{_≡_, refl, sym, subst}
 use mathlib.Core.List.{List}
@@ -10,8 +10,8 @@ use lib.ListN.{length, getD, set}
 use lib.Seq.{getD-set-same, getD-set-other}
 use Rattle.field.specs.Width.{modulus}
 use Rattle.field.proofs.Widths.{bounds}
-use Rattle.exhaustive.proofs.random.scatter.Statement.{statement}
-use Rattle.exhaustive.proofs.random.scatter.Tie as tie
+use Rattle.dealer.proofs.random.scatter.Statement.{statement}
+use Rattle.dealer.proofs.random.scatter.Tie as tie
 
 -- a turn stores one word more that is below m
 more : (t : List ℕ) (i v m : ℕ) → i < length t → v < m → ((j : ℕ) → j < i → getD t j 0 < m)
