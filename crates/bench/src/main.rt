@@ -1,4 +1,5 @@
-// What a job needs. Given the word `jobs` or `checks` it does 2000 whole jobs at width 31, or 2000 checks of such a job's tapes, for tools/bench.
+// What a job needs, at every width. Given `jobs WIDTH COUNT` or `checks WIDTH COUNT` it does so many whole jobs, or checks of a job's tapes, for
+// tools/bench.
 ghost use mathlib.Core.Path.{_≡_};
 ghost use mathlib.Core.Bool.{true};
 ghost use lib.ListN.{length};
@@ -6,6 +7,9 @@ ghost use Rattle.field.specs.Width.{listed};
 ghost use Rattle.tape.specs.Layout.{tapeLength};
 
 mod work;
+
+// Where the generator of the tapes begins.
+const SEED: u32 = 2463534242;
 
 fn say(name: &[u8], number: u64) {
     io::write_all(1, name);
@@ -23,18 +27,15 @@ fn sizes(n: u32)
     io::write_all(1, b" words\n");
 }
 
-// On plain tapes.
+// On tapes of random words, as boxes get them: on plain ones, mostly zeros, a branch on a word would always go the same way.
 fn run(n: u32, count: u32, jobs: bool, t1: &mut [u32], t2: &mut [u32])
     requires { ⌜ (listed n ≡ true) × (length (now t1) ≡ tapeLength n) × (length (now t2) ≡ tapeLength n) ⌝ }
 {
-    dealer::plain(n, 1, 1, 0, &mut *t1);
-    dealer::plain(n, 1, 2, 0, &mut *t2);
+    dealer::random::deal(n, work::PAIR, work::NUMBER, SEED, &mut *t1, &mut *t2);
     if jobs {
-        let counts = work::jobs(n, count, &*t1, &*t2);
-        say(b"jobs: ", counts.answered as u64);
+        say(b"jobs: ", work::jobs(n, count, &*t1, &*t2) as u64);
         say(b" of ", count as u64);
-        say(b" answered, less in ", counts.less as u64);
-        io::write_all(1, b"\n");
+        io::write_all(1, b" right\n");
     } else {
         say(b"checks: ", work::checks(n, count, &*t1, &*t2) as u64);
         say(b" of ", count as u64);
@@ -42,20 +43,52 @@ fn run(n: u32, count: u32, jobs: bool, t1: &mut [u32], t2: &mut [u32])
     }
 }
 
-// At width 31, whose tape is the longest.
-fn often(count: u32, jobs: bool) {
+// In memory that has room for the longest tape.
+fn often(n: u32, count: u32, jobs: bool)
+    requires { ⌜ listed n ≡ true ⌝ }
+{
     let mut t1 = exchange::memory::blank_tape();
     let mut t2 = exchange::memory::blank_tape();
-    run(31, count, jobs, &mut t1, &mut t2);
+    let len = tape::tape_words(n);
+    run(n, count, jobs, &mut t1[..len], &mut t2[..len]);
+}
+
+// An argument as a number.
+fn number_at(place: usize) -> lines::reading::Number {
+    let mut word = [0u8; 16];
+    let len = os::arg(place, &mut word);
+    lines::reading::number_of(&word[..len])
+}
+
+// The width and the count are arguments 2 and 3.
+fn asked(jobs: bool) {
+    let width = number_at(2);
+    let count = number_at(3);
+    if !width.ok {
+        io::write_all(1, b"bench: the width is no number\n");
+    } else if !count.ok {
+        io::write_all(1, b"bench: the count is no number\n");
+    } else if field::is_listed(width.value) {
+        often(width.value, count.value, jobs);
+    } else {
+        io::write_all(1, b"bench: the width is not listed\n");
+    }
 }
 
 fn main() {
     let mut word = [0u8; 8];
-    os::arg(1, &mut word);
-    match word[0] {
-        106 => often(2000, true),
-        99 => often(2000, false),
-        _ => all_sizes(),
+    let len = os::arg(1, &mut word);
+    if os::arg_count() < 2 {
+        all_sizes();
+    } else if check::same(&word[..len], b"jobs") {
+        asked(true);
+    } else if check::same(&word[..len], b"checks") {
+        asked(false);
+    } else {
+        io::write_all(
+            1,
+            b"bench: jobs or checks, a width and a count, or nothing\n",
+        );
     }
 }
 

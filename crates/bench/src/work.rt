@@ -1,16 +1,17 @@
-// The same work done often. What came of the turns is counted, so that none of it can be left out and a refusal shows.
+// The same work done often. What came of each turn is looked at and counted, so that no turn can be left out and a wrong one shows.
 use exchange::Shares;
-use exchange::Verdict;
 ghost use mathlib.Core.Path.{_≡_};
-ghost use Prim.Native.Nat.{_*_};
+ghost use mathlib.Core.Bool.{true};
+ghost use Prim.Native.Nat.{_*_, _<_};
+ghost use Rattle.field.specs.Width.{listed};
 ghost use Rattle.lists.specs.Tabulate.{sum};
 ghost use Rattle.tape.specs.Dealt.{Dealt};
 ghost use Rattle.encoding.specs.Matching.{indicator};
-ghost use Rattle.bench.specs.Work.{jobAt, answeredAt, lessAt, bothInOrder};
+ghost use Rattle.bench.specs.Work.{comparison, isRight, rightAt, bothInOrder};
 
-const PAIR: u32 = 1;
+pub const PAIR: u32 = 1;
 
-const NUMBER: u32 = 0;
+pub const NUMBER: u32 = 0;
 
 // A test as a number.
 fn one_if(test: bool) -> u32
@@ -19,54 +20,51 @@ fn one_if(test: bool) -> u32
     if test { 1 } else { 0 }
 }
 
-// How many jobs were not refused, and how many answered 1.
-pub struct Counts {
-    pub answered: u32,
-    pub less: u32,
+// The ordinary comparison.
+fn expected(p: u32, box1: Shares, box2: Shares) -> u32
+    requires { ⌜ (0 < p) × (box1 .x < 7) × (box1 .y < 7) × (box2 .x < 7) × (box2 .y < 7) ⌝ }
+    ensures { λ r. ⌜ r ≡ comparison p box1 box2 ⌝ }
+{
+    one_if((box1.x + box2.x) % p < (box1.y + box2.y) % p)
 }
 
-// Whole jobs of both boxes.
-pub fn jobs(n: u32, count: u32, t1: &[u32], t2: &[u32]) -> Counts
-    ensures { λ r. ⌜ (r .answered ≡ sum count (answeredAt n (now (t1 .entry)) (now (t2 .entry))))
-        × (r .less ≡ sum count (lessAt n (now (t1 .entry)) (now (t2 .entry)))) ⌝ }
-    ensures dealt { λ r. ⌜ (Dealt n 1 0 (now (t1 .entry)) (now (t2 .entry)) → r .answered ≡ count) ⌝ }
+// One whole job of both boxes: whether it was not refused, and answered as the comparison does. The shares change from turn to turn, and stay
+// below 7, so that they are in range at every width.
+fn right(n: u32, turn: u32, t1: &[u32], t2: &[u32]) -> bool
+    requires { ⌜ listed n ≡ true ⌝ }
+    ensures { λ r. ⌜ r ≡ isRight n (now (t1 .entry)) (now (t2 .entry)) turn ⌝ }
 {
-    let mut answered: u32 = 0;
-    let mut less: u32 = 0;
-    let mut i = 0;
-    while i < count {
-        let verdict = job(n, i % 7, t1, t2);
-        answered += one_if(verdict.refusal == 0);
-        less += one_if(verdict.less == 1);
-        i += 1;
+    let box1 = Shares {
+        x: turn % 7,
+        y: turn / 49 % 7,
+    };
+    let box2 = Shares {
+        x: turn / 7 % 7,
+        y: turn / 343 % 7,
+    };
+    let verdict = exchange::memory::fresh_job(n, PAIR, NUMBER, box1, box2, t1, t2);
+    if verdict.refusal != 0 {
+        return false;
     }
-    Counts { answered, less }
+    verdict.less == expected(field::modulus_of(n), box1, box2)
 }
 
-// One of them: x = 3 and y + 1.
-fn job(n: u32, y: u32, t1: &[u32], t2: &[u32]) -> Verdict
-    ensures { λ r. ⌜ (r .refusal ≡ jobAt n y (now (t1 .entry)) (now (t2 .entry)) .refusal)
-        × (r .less ≡ jobAt n y (now (t1 .entry)) (now (t2 .entry)) .less) ⌝ }
-{
-    let box1 = Shares { x: 2, y };
-    let box2 = Shares { x: 1, y: 1 };
-    exchange::memory::fresh_job(n, PAIR, NUMBER, box1, box2, t1, t2)
-}
-
-// Checks of both tapes: how many found both in order.
-pub fn checks(n: u32, count: u32, t1: &[u32], t2: &[u32]) -> u32
-    ensures { λ r. ⌜ r ≡ count * indicator (bothInOrder n (now (t1 .entry)) (now (t2 .entry))) ⌝ }
+// Whole jobs: how many were right.
+pub fn jobs(n: u32, count: u32, t1: &[u32], t2: &[u32]) -> u32
+    requires { ⌜ listed n ≡ true ⌝ }
+    ensures { λ r. ⌜ r ≡ sum count (rightAt n (now (t1 .entry)) (now (t2 .entry))) ⌝ }
+    ensures dealt { λ r. ⌜ (Dealt n 1 0 (now (t1 .entry)) (now (t2 .entry)) → r ≡ count) ⌝ }
 {
     let mut result: u32 = 0;
     let mut i = 0;
     while i < count {
-        result += one_if(check(n, i % 2 == 0, t1, t2));
+        result += one_if(right(n, i, t1, t2));
         i += 1;
     }
     result
 }
 
-// One of them. Which box's tape comes first changes from turn to turn, so that no turn can be taken for another.
+// One check of both tapes. Which box's tape comes first changes from turn to turn, so that no turn can be taken for another.
 fn check(n: u32, even: bool, t1: &[u32], t2: &[u32]) -> bool
     ensures { λ r. ⌜ r ≡ bothInOrder n (now (t1 .entry)) (now (t2 .entry)) ⌝ }
 {
@@ -77,4 +75,18 @@ fn check(n: u32, even: bool, t1: &[u32], t2: &[u32]) -> bool
         let box2 = tape::in_order(t2, n, PAIR, 2, NUMBER);
         box2 && tape::in_order(t1, n, PAIR, 1, NUMBER)
     }
+}
+
+// Checks: how many found both tapes in order.
+pub fn checks(n: u32, count: u32, t1: &[u32], t2: &[u32]) -> u32
+    ensures { λ r. ⌜ r ≡ count * indicator (bothInOrder n (now (t1 .entry)) (now (t2 .entry))) ⌝ }
+    ensures dealt { λ r. ⌜ (Dealt n 1 0 (now (t1 .entry)) (now (t2 .entry)) → r ≡ count) ⌝ }
+{
+    let mut result: u32 = 0;
+    let mut i = 0;
+    while i < count {
+        result += one_if(check(n, i % 2 == 0, t1, t2));
+        i += 1;
+    }
+    result
 }

@@ -1,11 +1,12 @@
 -- `bench::work::checks` meets its contract: each turn adds the same.
-use Prim.Native.Nat.{_*_, _-_, _≤_}
+use Prim.Native.Nat.{ℕ, _*_, _-_, _≤_}
 use mathlib.Core.Path.{_≡_, ap, _∙_}
 use native.Mathlib.Omega.{arith}
 use borrow.Author.Needs.{needs}
 use Rattle.encoding.specs.Matching.{indicator}
 use Rattle.protocol.proofs.Halves.{indicator-bit}
 use Rattle.bench.specs.Work.{bothInOrder}
+use Rattle.bench.proofs.Answers.{all-in-order}
 use Rattle.bench.proofs.work.checks.Statement.{statement}
 use Rattle.bench.proofs.work.checks.Tie as tie
 
@@ -53,8 +54,10 @@ loop-again c =
 returns : tie.Need-returns Inv-loop μ-loop
 returns c =
     let l = c .before .loop in
-    let all : l .i ≡ start (c .before) .args .count = omega (arith, l .inv .0, c .loop-test .left) in
-    rw (← all) (l .inv .1)
+    let a = start (c .before) .args in
+    let all : l .i ≡ a .count = omega (arith, l .inv .0, c .loop-test .left) in
+    let counted = l .inv .1 ∙ ap (λ (k : ℕ). k * indicator (bothInOrder (a .n) (a .t1 .now) (a .t2 .now))) all in
+    (counted, λ m. counted ∙ all-in-order (a .n) (a .t1 .now) (a .t2 .now) m (a .count))
 
 pub checks-spec : {M : Type 1} → statement M
 checks-spec =

@@ -1,66 +1,47 @@
--- `bench::work::jobs` meets its contract. The loop's invariant: the jobs done that answered, and that answered 1, are counted.
+-- `bench::work::jobs` meets its contract. The loop's invariant: the turns that were right are counted.
 use Prim.Native.Nat.{ℕ, _-_, _≤_}
 use mathlib.Core.Path.{_≡_, refl, ap, _∙_}
 use native.Mathlib.Omega.{arith}
 use borrow.Author.Needs.{needs}
-use lib.Dec.{eqb}
 use Rattle.lists.specs.Tabulate.{sum}
 use Rattle.lists.proofs.Sums.{sum-more}
 use Rattle.encoding.specs.Matching.{indicator}
 use Rattle.protocol.proofs.Halves.{indicator-bit}
-use Rattle.bench.specs.Work.{answeredAt, lessAt}
-use Rattle.bench.proofs.Answers.{all-answered}
+use Rattle.bench.specs.Work.{rightAt}
+use Rattle.bench.proofs.Answers.{all-right}
 use Rattle.bench.proofs.work.jobs.Statement.{statement}
 use Rattle.bench.proofs.work.jobs.Tie as tie
 
 abbrev Inv-loop : tie.InvT-loop
-Inv-loop n count t1 t2 answered₀ less₀ i₀ answered less i =
-    (i ≤ count) × (answered ≡ sum i (answeredAt n t1 t2)) × (less ≡ sum i (lessAt n t1 t2)) × (answered ≤ i) × (less ≤ i)
+Inv-loop n count t1 t2 result₀ i₀ result i = (i ≤ count) × (result ≡ sum i (rightAt n t1 t2)) × (result ≤ i)
 
 abbrev μ-loop : tie.MeasureT-loop
-μ-loop n count t1 t2 answered₀ less₀ i₀ answered less i = count - i
+μ-loop n count t1 t2 result₀ i₀ result i = count - i
 
 abbrev start : tie.At-loop Inv-loop μ-loop → tie.Start Inv-loop μ-loop
 start l = l .before .before .before
 
-abbrev turn : tie.After-one-if Inv-loop μ-loop → tie.At-loop Inv-loop μ-loop
-turn o = o .before .before .before .before
+-- what a turn adds
+adds : (o : tie.After-one-if Inv-loop μ-loop)
+    → let l = o .before .before .before in
+    let a = start l .args in
+    o .one-if .result ≡ rightAt (a .n) (a .t1 .now) (a .t2 .now) (l .loop .i)
+adds o = o .one-if .ensures ∙ ap indicator (o .before .right .ensures)
 
--- what a turn adds to each count
-answers : (o : tie.After-one-if Inv-loop μ-loop)
-    → let a = start (turn o) .args in
-    o .one-if .result ≡ answeredAt (a .n) (a .t1 .now) (a .t2 .now) (turn o .loop .i)
-answers o = o .one-if .ensures ∙ ap (λ (k : ℕ). indicator (eqb k 0)) (o .before .before .job .ensures .0)
-
-answers-one : (o : tie.After-one-if Inv-loop μ-loop) → o .one-if .result ≤ 1
-answers-one o = omega (arith, o .one-if .ensures, indicator-bit (eqb (o .before .before .job .result .refusal) 0))
-
-lesses : (o : tie.After-one-if2 Inv-loop μ-loop)
-    → let t = turn (o .before .before) in
-    let a = start t .args in
-    o .one-if2 .result ≡ lessAt (a .n) (a .t1 .now) (a .t2 .now) (t .loop .i)
-lesses o = o .one-if2 .ensures ∙ ap (λ (k : ℕ). indicator (eqb k 1)) (o .before .before .before .before .job .ensures .1)
-
-lesses-one : (o : tie.After-one-if2 Inv-loop μ-loop) → o .one-if2 .result ≤ 1
-lesses-one o = omega (arith, o .one-if2 .ensures, indicator-bit (eqb (o .before .before .before .before .job .result .less) 1))
+adds-one : (o : tie.After-one-if Inv-loop μ-loop) → o .one-if .result ≤ 1
+adds-one o = omega (arith, o .one-if .ensures, indicator-bit (o .before .right .result))
 
 loop-holds : tie.Need-loop-holds Inv-loop μ-loop
-loop-holds c = (omega arith, refl, refl, omega arith, omega arith)
+loop-holds c = (omega arith, refl, omega arith)
 
-job-requires : tie.Need-job-requires Inv-loop μ-loop
-job-requires c κs = search needs
+right-requires : tie.Need-right-requires Inv-loop μ-loop
+right-requires c κs = search needs
 
 one-if-requires : tie.Need-one-if-requires Inv-loop μ-loop
 one-if-requires c κs = search needs
 
-add-answered : tie.Need-add-answered Inv-loop μ-loop
-add-answered c = omega (arith, turn c .loop .inv .3, answers-one c)
-
-one-if-requires-2 : tie.Need-one-if-requires-2 Inv-loop μ-loop
-one-if-requires-2 c κs = search needs
-
-add-less : tie.Need-add-less Inv-loop μ-loop
-add-less c = omega (arith, turn (c .before .before) .loop .inv .4, lesses-one c)
+add-result : tie.Need-add-result Inv-loop μ-loop
+add-result c = omega (arith, c .before .before .before .loop .inv .2, adds-one c)
 
 add-i : tie.Need-add-i Inv-loop μ-loop
 add-i c = search needs
@@ -70,16 +51,11 @@ loop-less c = search needs
 
 loop-again : tie.Need-loop-again Inv-loop μ-loop
 loop-again c =
-    let o = c .before .before in
-    let l = turn o in
-    let a = start l .args in
-    let i = l .loop .i in
-    let inv = l .loop .inv in (
-      omega (arith, o .before .before .before .loop-test .taken),
-      omega (arith, inv .1, answers o, sum-more i (answeredAt (a .n) (a .t1 .now) (a .t2 .now))),
-      omega (arith, inv .2, lesses c, sum-more i (lessAt (a .n) (a .t1 .now) (a .t2 .now))),
-      omega (arith, inv .3, answers-one o),
-      omega (arith, inv .4, lesses-one c),
+    let l = c .before .before .before in
+    let a = start l .args in (
+      omega (arith, c .before .before .loop-test .taken),
+      omega (arith, l .loop .inv .1, adds c, sum-more (l .loop .i) (rightAt (a .n) (a .t1 .now) (a .t2 .now))),
+      omega (arith, l .loop .inv .2, adds-one c),
     )
 
 returns : tie.Need-returns Inv-loop μ-loop
@@ -87,9 +63,8 @@ returns c =
     let l = c .before .loop in
     let a = start (c .before) .args in
     let all : l .i ≡ a .count = omega (arith, l .inv .0, c .loop-test .left) in
-    let answered = l .inv .1 ∙ ap (λ (k : ℕ). sum k (answeredAt (a .n) (a .t1 .now) (a .t2 .now))) all in
-    let less = l .inv .2 ∙ ap (λ (k : ℕ). sum k (lessAt (a .n) (a .t1 .now) (a .t2 .now))) all in
-    ((answered, less), λ m. answered ∙ all-answered (a .n) (a .t1 .now) (a .t2 .now) m (a .count))
+    let counted = l .inv .1 ∙ ap (λ (k : ℕ). sum k (rightAt (a .n) (a .t1 .now) (a .t2 .now))) all in
+    (counted, λ m. counted ∙ all-right (a .n) (a .t1 .now) (a .t2 .now) m (a .count))
 
 pub jobs-spec : {M : Type 1} → statement M
 jobs-spec =
@@ -98,11 +73,9 @@ jobs-spec =
     Inv-loop
     μ-loop
     loop-holds
-    job-requires
+    right-requires
     one-if-requires
-    add-answered
-    one-if-requires-2
-    add-less
+    add-result
     add-i
     loop-less
     loop-again
