@@ -16,7 +16,8 @@ use Rattle.rules.specs.Modes.{inRange, modeOf, isAsleep, inJob, asleepSt
 use Rattle.rules.specs.Grounds.{Ground, firstOf, wakeGround, startGround, speakGround, hearGround, dropGround}
 use Rattle.rules.specs.Calls.{wakeRule, startRule}
 use Rattle.rules.specs.AnyCall.{Call, wake, start, speak, hear, drop, groundOf, resultOf, isWake, isRefused, orderOf, groundsOf}
-use Rattle.rules.specs.Answering.{Opens, TakesJob, Answering}
+use Rattle.rules.specs.Moves.{Opens, TakesJob}
+use Rattle.rules.specs.Answering.{Answering}
 use Rattle.rules.specs.declared.state.Phase.the-variants.{Asleep}
 use Rattle.rules.specs.declared.state.State.{State}
 use Rattle.rules.proofs.Refusals.{call-by-ground, asleep-refuses, awake-refuses}

@@ -14,7 +14,7 @@ use Rattle.rules.specs.Modes.{roundOf, roundFits, inRange, modeOf, isAsl
 use Rattle.rules.specs.Grounds.{wakeGround, startGround, speakGround, hearGround, dropGround, dropGrounds}
 use Rattle.rules.specs.Calls.{Result, inPhase, unless, turned, wakeRule, startRule, speakRule, hearRule, dropRule}
 use Rattle.rules.specs.AnyCall.{Call, wake, start, speak, hear, drop, groundOf, resultOf, isWake}
-use Rattle.rules.specs.Answering.{Moves, wakes-up, opens, speaks, hears, ends, drops}
+use Rattle.rules.specs.Moves.{Moves, wakes-up, opens, speaks, hears, ends, drops}
 use Rattle.rules.specs.declared.state.Turn.{Turn}
 use Rattle.rules.specs.declared.state.Turn.the-variants.{Speak, Hear}
 use Rattle.rules.specs.declared.state.Phase.{Phase}

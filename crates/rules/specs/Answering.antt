@@ -1,23 +1,19 @@
 -- Demand 1 over the rules: what each of the five calls answers, refuses and leaves as it was.
-use Prim.Native.Nat.{ℕ, _+_, _<_, _≤_}
+use Prim.Native.Nat.{ℕ, _≤_}
 use mathlib.Core.Path.{_≡_}
 use mathlib.Core.Bool.{true, false}
 use mathlib.Core.List.{List, map}
-use lib.ListN.{length, getD}
+use lib.ListN.{length}
 use Rattle.field.specs.Width.{listed}
 use Rattle.shares.specs.Side.{isSide}
-use Rattle.protocol.specs.Rounds.{lastRound, roundWords}
 use Rattle.refusals.specs.Numbers.{numberOf, lastRefusal}
-use Rattle.rules.specs.Answers.{Reply, fresh, started, spoke, heard, share, dropped, refused}
-use Rattle.rules.specs.Tally.{tallyFits, isFresh, freshCount}
+use Rattle.rules.specs.Answers.{refused}
+use Rattle.rules.specs.Tally.{tallyFits}
 use Rattle.rules.specs.Modes.{inRange, modeOf, isAsleep, inJob, asleepState}
 use Rattle.rules.specs.Grounds.{Ground, firstOf}
-use Rattle.rules.specs.Calls.{Result, inPhase, startRule}
-use Rattle.rules.specs.AnyCall.{Call, wake, start, speak, hear, drop, groundsOf, groundOf, resultOf, bufferOf, isWake, isRefused, orderOf}
-use Rattle.rules.specs.declared.state.Turn.{Turn}
-use Rattle.rules.specs.declared.state.Turn.the-variants.{Speak, Hear}
-use Rattle.rules.specs.declared.state.Phase.{Phase}
-use Rattle.rules.specs.declared.state.Phase.the-variants.{Asleep, Idle, Job}
+use Rattle.rules.specs.Calls.{inPhase}
+use Rattle.rules.specs.AnyCall.{Call, wake, groundsOf, groundOf, resultOf, bufferOf, isWake, isRefused, orderOf}
+use Rattle.rules.specs.Moves.{Moves, TakesJob}
 use Rattle.rules.specs.declared.state.State.{State}
 
 -- every outcome is an answer, or a refusal with its number
@@ -46,37 +42,6 @@ pub record Waking (s : State) (call : Call) : Type 0 where
   pub only-wake : isAsleep (modeOf s) ≡ true → isAsleep (modeOf (resultOf s call .state)) ≡ false → isWake call ≡ true
   -- awake, a wake is refused with 5
   pub awake-refuses : isAsleep (modeOf s) ≡ false → isWake call ≡ true → groundOf s call ≡ 5
-
--- what a call that is not refused finds, answers and leaves, in a box of width n: a job keeps its number and its shares to its end
-pub data Moves (n : ℕ) : Phase → Call → Reply → Phase → Type 0 where
-  wakes-up : {m side pair : ℕ} {tally : List ℕ} → Moves n Asleep (wake m side pair tally) (fresh (freshCount tally)) Idle
-  opens : {number x y : ℕ} {tape work tally : List ℕ} → Moves n Idle (start number x y tape work tally) started (Job (Speak 1) number x y)
-  speaks : {number round x y : ℕ} {tape work out : List ℕ}
-      → Moves n (Job (Speak round) number x y) (speak number round tape work out) (spoke (roundWords n round)) (Job (Hear round) number x y)
-  hears : {number round x y : ℕ} {tape work incoming : List ℕ} → round < lastRound
-      → Moves n (Job (Hear round) number x y) (hear number round tape work incoming) heard (Job (Speak (round + 1)) number x y)
-  ends : {number x y answer : ℕ} {tape work incoming : List ℕ}
-      → Moves n (Job (Hear lastRound) number x y) (hear number lastRound tape work incoming) (share answer) Idle
-  drops : {number x y : ℕ} {turn : Turn} → Moves n (Job turn number x y) drop dropped Idle
-
--- a start takes a job: the state is awake, the tape is fresh in a lent tally of the state's length, and the tally that is left differs in its byte alone
-pub record Opens (s : State) (number x y : ℕ) (lent : List ℕ) (result : Result) : Type 0 where
-  pub awake : isAsleep (modeOf s) ≡ false
-  pub same-length : length lent ≡ s .tally
-  pub was-fresh : isFresh lent number ≡ true
-  pub is-spent : isFresh (result .buffer) number ≡ false
-  pub left-length : length (result .buffer) ≡ length lent
-  pub others : (k : ℕ) → (k ≡ number → ⊥) → getD (result .buffer) k 0 ≡ getD lent k 0
-  -- the job is on that tape, with the lent shares
-  pub job : modeOf (result .state) ≡ Job (Speak 1) number x y
-
--- only a start takes a job
-abbrev pub TakesJob : State → Call → Type 0
-TakesJob s (wake n side pair tally) = ⊥
-TakesJob s (start number x y tape work tally) = Opens s number x y tally (startRule s number x y tape work tally)
-TakesJob s (speak number round tape work out) = ⊥
-TakesJob s (hear number round tape work incoming) = ⊥
-TakesJob s drop = ⊥
 
 -- a state outside the ranges counts as asleep in all five calls
 pub record Outside (s : State) (call : Call) : Type 0 where

@@ -4,4 +4,5 @@ pub mod Modes
 pub mod Grounds
 pub mod Calls
 pub mod AnyCall
+pub mod Moves
 pub mod Answering
