@@ -12,7 +12,7 @@ use Rattle.rules.specs.Modes.{inRange}
 use Rattle.rules.specs.Grounds.{wakeGround, startGround}
 use Rattle.rules.specs.Answers.{replyOf}
 use Rattle.rules.specs.Calls.{Result, outcome, unless, wakeRule, startRule}
-use Rattle.rules.proofs.Chains.{decide}
+use Rattle.rules.proofs.Decide.{decide}
 use Rattle.rules.proofs.Ranges.{awake-range, ranged}
 use Rattle.rules.proofs.Passed.{StartPassed, start-passed}
 use Rattle.rules.specs.declared.state.Turn.the-variants.{Speak}

@@ -10,9 +10,10 @@ use lib.Seq.{sets}
 use Rattle.protocol.specs.Work.{workLength}
 use Rattle.protocol.specs.Rounds.{lastRound, roundWords, message, afterHearing, answerShare}
 use Rattle.protocol.proofs.Lengths.{after-length}
+use Rattle.refusals.specs.Grounds.{firstOf}
 use Rattle.rules.specs.Answers.{spoke, share, replyOf}
 use Rattle.rules.specs.Modes.{roundOf, roundFits, modeOf, isAsleep, sameTurn}
-use Rattle.rules.specs.Grounds.{firstOf, wordsFit, messageFits, turnGrounds, speakGround, hearGround}
+use Rattle.rules.specs.Grounds.{wordsFit, messageFits, turnGrounds, speakGround, hearGround}
 use Rattle.rules.specs.Calls.{Result, outcome, inPhase, xOf, yOf, partyOf, turned, speakRule, hearRule}
 use Rattle.rules.proofs.Ranges.{ranged, range-mode, awake-range, job-range, turned-mode}
 use Rattle.rules.specs.declared.state.Turn.{Turn}

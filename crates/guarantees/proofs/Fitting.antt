@@ -14,7 +14,7 @@ use Rattle.rules.specs.Grounds.{wordsFit, speakGround}
 use Rattle.protocol.specs.Rounds.{message}
 use Rattle.rules.specs.Calls.{partyOf, speakRule}
 use Rattle.rules.specs.declared.state.State.{State}
-use Rattle.rules.proofs.Chains.{decide}
+use Rattle.rules.proofs.Decide.{decide}
 use Rattle.rules.proofs.Passed.{speak-passed}
 use Rattle.rules.proofs.Spoken.{spoken-front, message-fits}
 use Rattle.guarantees.specs.Boxes.{Box, box1, box2}

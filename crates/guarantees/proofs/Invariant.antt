@@ -34,7 +34,7 @@ use Rattle.guarantees.specs.Jobs.{partyAt, sentBy, answerBy}
 use Rattle.guarantees.proofs.Outcomes.{cut-plain}
 use Rattle.guarantees.proofs.Jobs.{InOrder, holding, sent-is, holding-next, answer-is, holding-room}
 use Rattle.rules.proofs.Spoken.{spoken-front}
-use Rattle.rules.proofs.Chains.{decide}
+use Rattle.rules.proofs.Decide.{decide}
 use Rattle.rules.proofs.Ranges.{awake-mode, awake-listed, Due, job-range}
 use Rattle.rules.proofs.Passed.{start-passed, speak-passed, hear-passed}
 

@@ -21,7 +21,7 @@ use Rattle.guarantees.specs.Entries.{Lent, Step, wake, start, speak, hea
 use Rattle.guarantees.specs.Run.{Setting, Memory, replied, Event, World, memoryOf, after, afterStart, eventAt, tapeWords, incomingWords, stepped, run}
 use Rattle.guarantees.specs.Maps.{sameBox, opens, opensJob, openedAt}
 use Rattle.guarantees.specs.Outcomes.{kindOf, isOpening}
-use Rattle.rules.proofs.Chains.{decide}
+use Rattle.rules.proofs.Decide.{decide}
 use Rattle.rules.proofs.Passed.{start-passed}
 use Rattle.guarantees.proofs.Outcomes.{cut-plain}
 use Rattle.guarantees.proofs.Logs.{after-log, log-length, event-before, event-end}

@@ -9,7 +9,9 @@ use lib.ListN.{length}
 use Rattle.refusals.specs.Numbers.{numberOf}
 use Rattle.refusals.specs.declared.Refusal.{Refusal}
 use Rattle.refusals.specs.declared.Refusal.the-variants.{Word}
-use Rattle.rules.specs.Grounds.{Ground, _when_, firstOf, turnGrounds, wordsFit, hearGround}
+use Rattle.refusals.specs.Grounds.{Ground, _when_, firstOf}
+use Rattle.refusals.proofs.Chains.{first-none, both-none}
+use Rattle.rules.specs.Grounds.{turnGrounds, wordsFit, hearGround}
 use Rattle.rules.specs.declared.state.Turn.the-variants.{Hear}
 use Rattle.rules.specs.declared.state.State.{State}
 use Rattle.guarantees.specs.Boxes.{Box}
@@ -20,7 +22,6 @@ use Rattle.guarantees.specs.View.{covered}
 use Rattle.guarantees.specs.Premises.{TrueMessage, Keeps, Meets, Compatible, AllCompatible}
 use Rattle.guarantees.specs.AnyTapes.{NotWider, Narrow, AllNarrow}
 use Rattle.guarantees.proofs.LowEquivalence.{LowState, LowEquivalent}
-use Rattle.rules.proofs.Chains.{first-none, both-none}
 use Rattle.rules.proofs.Passed.{hear-passed}
 use Rattle.guarantees.proofs.LowModes.{asleep-same, job-same, due-same}
 use Rattle.guarantees.proofs.Refusals.{OrderAlike, speak-same, hear-same}

@@ -5,11 +5,11 @@ use mathlib.Core.List.{List, [], _∷_, _++_}
 use native.Mathlib.Omega.{arith}
 use Rattle.refusals.specs.Numbers.{numberOf}
 use Rattle.refusals.proofs.Numbers.{numbered}
-use Rattle.rules.specs.Grounds.{Ground, firstOf, joined}
-use Rattle.rules.proofs.Chains.{first-some, first-none}
-use Rattle.limit_box.specs.Checks.{groundOf, thenGround}
-use Rattle.limit_box.specs.declared.checks.Check.{Check}
-use Rattle.limit_box.specs.declared.checks.Check.the-variants.{Passed, Refused}
+use Rattle.refusals.specs.Grounds.{Ground, firstOf, joined}
+use Rattle.refusals.proofs.Chains.{first-some, first-none}
+use Rattle.refusals.specs.Checks.{groundOf, thenGround}
+use Rattle.refusals.specs.declared.Check.{Check}
+use Rattle.refusals.specs.declared.Check.the-variants.{Passed, Refused}
 
 -- after a check, the checks of these lists come to k
 pub data Decides : Check → List (List Ground) → ℕ → Type 0 where
@@ -26,8 +26,8 @@ then {check} {gs} {parts} {k} next told (decides e) = decides (go check next tol
     go : (check next : Check) → groundOf next ≡ thenGround check (firstOf gs) → k ≡ thenGround next (firstOf (joined parts))
         → k ≡ thenGround check (firstOf (gs ++ joined parts))
     go Passed Passed t d = d ∙ sym (first-none gs (joined parts) (sym t))
-    go Passed (Refused refusal) t d = d ∙ sym (first-some gs (joined parts) (numberOf refusal) (sym t) (numbered refusal .0))
-    go (Refused earlier) Passed t d = absurd (omega (arith, t, numbered earlier .0))
+    go Passed (Refused refusal) t d = d ∙ sym (first-some gs (joined parts) (numberOf refusal) (sym t) (numbered refusal))
+    go (Refused earlier) Passed t d = absurd (omega (arith, t, numbered earlier))
     go (Refused earlier) (Refused refusal) t d = d ∙ t
 
 -- a check that passed comes after one that passed

@@ -8,6 +8,9 @@ use Rattle.protocol.specs.Rounds.{lastRound, afterHearing, answerShare, replyTo
 use Rattle.refusals.specs.Numbers.{numberOf}
 use Rattle.refusals.proofs.Numbers.{numbered}
 use Rattle.refusals.specs.declared.Refusal.{Refusal}
+use Rattle.refusals.specs.Checks.{groundOf}
+use Rattle.refusals.specs.declared.Check.{Check}
+use Rattle.refusals.specs.declared.Check.the-variants.{Passed, Refused}
 use Rattle.rules.specs.Grounds.{hearGround}
 use Rattle.rules.specs.Calls.{Result, outcome, unless, inPhase, partyOf, turned, hearRule}
 use Rattle.rules.specs.declared.state.Turn.the-variants.{Speak}
@@ -15,9 +18,6 @@ use Rattle.rules.specs.declared.state.Phase.the-variants.{Idle}
 use Rattle.rules.specs.declared.state.State.{State}
 use Rattle.rules.specs.declared.state.Outcome.{Outcome}
 use Rattle.rules.specs.declared.state.Answer.the-variants.{Heard, Share as ShareOf, Refused as RefusedWith}
-use Rattle.limit_box.specs.Checks.{groundOf}
-use Rattle.limit_box.specs.declared.checks.Check.{Check}
-use Rattle.limit_box.specs.declared.checks.Check.the-variants.{Passed, Refused}
 
 pub passed-ground : (check : Check) (ground : ℕ) → check ≡ Passed → groundOf check ≡ ground → ground ≡ 0
 passed-ground check ground e told = sym told ∙ ap groundOf e
@@ -29,7 +29,7 @@ pub refused-outcome : (check : Check) (refusal : Refusal) (ground : ℕ) (s : St
     → outcome r buffer ≡ unless ground s buffer goes
 refused-outcome check refusal ground s buffer goes r e told answer same =
     let number : ground ≡ numberOf refusal = sym told ∙ ap groundOf e in
-    rw (number, ne-eqb (numberOf refusal) 0 (λ zero. omega (arith, zero, numbered refusal .0)), answer, same) refl
+    rw (number, ne-eqb (numberOf refusal) 0 (λ zero. omega (arith, zero, numbered refusal)), answer, same) refl
 
 pub passed-outcome : (check : Check) (ground : ℕ) (s : State) (buffer : List ℕ) (goes : Result) → check ≡ Passed → groundOf check ≡ ground
     → unless ground s buffer goes ≡ goes

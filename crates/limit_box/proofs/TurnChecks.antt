@@ -5,14 +5,15 @@ use mathlib.Core.Bool.{true}
 use mathlib.Core.List.{List, [], _∷_, _++_}
 use lib.ListN.{length}
 use Rattle.field.specs.Width.{listed}
+use Rattle.refusals.specs.Grounds.{firstOf}
+use Rattle.refusals.proofs.Chains.{both-none}
+use Rattle.refusals.specs.Checks.{groundOf, thenGround}
+use Rattle.refusals.specs.declared.Check.{Check}
 use Rattle.rules.specs.Modes.{modeOf}
-use Rattle.rules.specs.Grounds.{firstOf, jobGrounds, dueGrounds, tapeGrounds, roomGrounds, messageFits, turnGrounds}
+use Rattle.rules.specs.Grounds.{jobGrounds, dueGrounds, tapeGrounds, roomGrounds, messageFits, turnGrounds}
 use Rattle.rules.specs.declared.state.State.{State}
 use Rattle.rules.specs.declared.state.Turn.{Turn}
-use Rattle.rules.proofs.Chains.{both-none}
 use Rattle.rules.proofs.Passed.{job-listed}
-use Rattle.limit_box.specs.Checks.{groundOf, thenGround}
-use Rattle.limit_box.specs.declared.checks.Check.{Check}
 use Rattle.limit_box.proofs.Chains.{decides, decided, then, then-passed}
 
 module _ (s : State) (number : ℕ) (turn : Turn) (tape : List ℕ) (due ordered : Check)

@@ -9,20 +9,16 @@ use crate::grounds::share_check;
 use crate::grounds::tape_check;
 use crate::grounds::when;
 use crate::grounds::word_check;
+use refusals::Check;
 use refusals::Refusal;
 use rules::state::State;
 use rules::state::Turn;
 ghost use mathlib.Core.Path.{_≡_};
 ghost use mathlib.Core.List.{_++_};
+ghost use Rattle.refusals.specs.Grounds.{firstOf};
+ghost use Rattle.refusals.specs.Checks.{groundOf};
 ghost use Rattle.rules.specs.Modes.{modeOf};
-ghost use Rattle.rules.specs.Grounds.{firstOf, jobGrounds, dueGrounds, wakeGround, startGround, speakGround, hearGround, dropGround};
-ghost use Rattle.limit_box.specs.Checks.{groundOf};
-
-// The call goes on, or is refused.
-pub enum Check {
-    Passed,
-    Refused(Refusal),
-}
+ghost use Rattle.rules.specs.Grounds.{jobGrounds, dueGrounds, wakeGround, startGround, speakGround, hearGround, dropGround};
 
 pub fn wake_check(state: State, n: u32, side: u32, tally: &[u8]) -> Check
     ensures { λ r. ⌜ groundOf r ≡ wakeGround state n side (now (tally .entry)) ⌝ }

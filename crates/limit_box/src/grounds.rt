@@ -1,5 +1,5 @@
 // What a call's checks look at, one thing after another: each hands an earlier refusal on.
-use crate::checks::Check;
+use refusals::Check;
 use refusals::Refusal;
 use rules::state::Phase;
 use rules::state::Turn;
@@ -10,10 +10,11 @@ ghost use lib.ListN.{length};
 ghost use Rattle.field.specs.Width.{listed};
 ghost use Rattle.tape.specs.Order.{inOrder};
 ghost use Rattle.refusals.specs.declared.Refusal.the-variants.{Busy, Tape};
+ghost use Rattle.refusals.specs.Grounds.{_when_, firstOf};
+ghost use Rattle.refusals.specs.Checks.{groundOf, thenGround};
 ghost use Rattle.rules.specs.Modes.{isAsleep};
-ghost use Rattle.rules.specs.Grounds.{_when_, firstOf, wordsFit, messageFits};
+ghost use Rattle.rules.specs.Grounds.{wordsFit, messageFits};
 ghost use Rattle.rules.specs.Grounds.{idleGrounds, jobGrounds, markGrounds, shareGrounds, roomGrounds, wordGrounds};
-ghost use Rattle.limit_box.specs.Checks.{groundOf, thenGround};
 
 // One ground.
 pub fn when(earlier: Check, holds: bool, refusal: Refusal) -> Check

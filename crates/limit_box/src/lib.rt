@@ -1,5 +1,5 @@
 // The box's five calls. Each is the rule of document 01 for it, whatever it is given: a call that is refused changes nothing.
-use crate::checks::Check;
+use refusals::Check;
 use refusals::Refusal;
 use rules::state::Answer;
 use rules::state::Outcome;

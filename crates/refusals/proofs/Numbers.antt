@@ -1,11 +1,11 @@
--- A refusal's number is one of document 01's, so 0 is free for a call that goes on.
-use Prim.Native.Nat.{_<_, _≤_}
+-- A refusal's number is above 0, so 0 is free for a call that goes on.
+use Prim.Native.Nat.{_<_}
 use native.Mathlib.Omega.{arith}
-use Rattle.refusals.specs.Numbers.{numberOf, lastRefusal}
+use Rattle.refusals.specs.Numbers.{numberOf}
 use Rattle.refusals.specs.declared.Refusal.{Refusal}
-use Rattle.refusals.specs.declared.Refusal.the-variants.{Asleep, Width, Side, Tally, Busy, NoJob, Number, Spent, Share, Tape, Turn, Room, Word}
+use Rattle.refusals.specs.declared.Refusal.the-variants.{Asleep, Width, Side, Tally, Busy, NoJob, Number, Spent, Share, Tape, Turn, Room, Word, Seed}
 
-pub numbered : (r : Refusal) → (0 < numberOf r) × (numberOf r ≤ lastRefusal)
+pub numbered : (r : Refusal) → 0 < numberOf r
 numbered Asleep = omega arith
 numbered Width = omega arith
 numbered Side = omega arith
@@ -19,3 +19,4 @@ numbered Tape = omega arith
 numbered Turn = omega arith
 numbered Room = omega arith
 numbered Word = omega arith
+numbered Seed = omega arith

@@ -1,1 +1,3 @@
 pub mod Numbers
+pub mod Grounds
+pub mod Checks

@@ -1,7 +1,7 @@
--- Document 01's number of each refusal.
+-- The number of each refusal: document 01's, and those that requests of document 02 add.
 use Prim.Native.Nat.{ℕ}
 use Rattle.refusals.specs.declared.Refusal.{Refusal}
-use Rattle.refusals.specs.declared.Refusal.the-variants.{Asleep, Width, Side, Tally, Busy, NoJob, Number, Spent, Share, Tape, Turn, Room, Word}
+use Rattle.refusals.specs.declared.Refusal.the-variants.{Asleep, Width, Side, Tally, Busy, NoJob, Number, Spent, Share, Tape, Turn, Room, Word, Seed}
 
 abbrev pub numberOf : Refusal → ℕ
 numberOf Asleep = 1
@@ -17,7 +17,4 @@ numberOf Tape = 10
 numberOf Turn = 11
 numberOf Room = 12
 numberOf Word = 13
-
--- the numbers go to this one
-abbrev pub lastRefusal : ℕ
-lastRefusal = 13
+numberOf Seed = 14

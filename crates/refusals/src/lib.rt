@@ -1,4 +1,4 @@
-// Why a call is refused: document 01's table of refusals, with its numbers and trade words.
+// Why a call is refused: document 01's table of refusals, with its numbers and trade words, and the refusals that joined it.
 ghost use mathlib.Core.Path.{_≡_};
 ghost use Rattle.refusals.specs.Numbers.{numberOf};
 
@@ -29,6 +29,14 @@ pub enum Refusal {
     Room,
     // 13, word
     Word,
+    // 14, seed: the test dealer's alone
+    Seed,
+}
+
+// What a call's grounds come to: it goes on, or is refused.
+pub enum Check {
+    Passed,
+    Refused(Refusal),
 }
 
 pub fn number_of(r: Refusal) -> u32
@@ -48,5 +56,6 @@ pub fn number_of(r: Refusal) -> u32
         Refusal::Turn => 11,
         Refusal::Room => 12,
         Refusal::Word => 13,
+        Refusal::Seed => 14,
     }
 }

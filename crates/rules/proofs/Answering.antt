@@ -1,19 +1,20 @@
 -- Demand 1 over the rules, proved: from what is refused (Refusals), what a call that goes on was given (Passed), and its moves (Moves).
 use Prim.Native.Nat.{ℕ, _<_}
 use mathlib.Core.Path.{_≡_, refl, sym, ap, _∙_}
-use mathlib.Core.Bool.{Bool, true, false, cond, true≢false}
-use mathlib.Core.List.{List, map}
+use mathlib.Core.Bool.{Bool, true, false, cond, or-true, true≢false}
+use mathlib.Core.List.{List, [], _∷_}
 use native.Mathlib.Omega.{arith}
-use borrow.Author.Tests.{eqb-true, eqb-false}
+use borrow.Author.Tests.{eqb-true, eqb-false, eq-eqb}
 use lib.Dec.{eqb}
 use lib.ListN.{length, getD}
 use lib.Seq.{getD-set-other}
-use Rattle.field.specs.Width.{listed}
+use Rattle.field.specs.Width.{listed, among}
 use Rattle.shares.specs.Side.{isSide}
 use Rattle.refusals.specs.Numbers.{numberOf}
+use Rattle.refusals.specs.Grounds.{Ground, firstOf, numbersOf}
 use Rattle.rules.specs.Tally.{tallyFits, tapesOf, isFresh, marked}
 use Rattle.rules.specs.Modes.{inRange, modeOf, isAsleep, inJob, asleepState}
-use Rattle.rules.specs.Grounds.{Ground, firstOf, wakeGround, startGround, speakGround, hearGround, dropGround}
+use Rattle.rules.specs.Grounds.{wakeGround, startGround, speakGround, hearGround, dropGround}
 use Rattle.rules.specs.Calls.{wakeRule, startRule}
 use Rattle.rules.specs.AnyCall.{Call, wake, start, speak, hear, drop, groundOf, resultOf, isWake, isRefused, orderOf, groundsOf}
 use Rattle.rules.specs.Moves.{Opens, TakesJob}
@@ -21,7 +22,6 @@ use Rattle.rules.specs.Answering.{Answering}
 use Rattle.rules.specs.declared.state.Phase.the-variants.{Asleep}
 use Rattle.rules.specs.declared.state.State.{State}
 use Rattle.rules.proofs.Refusals.{call-by-ground, asleep-refuses, awake-refuses}
-use Rattle.rules.proofs.Chains.{first-most}
 use Rattle.rules.proofs.Marks.{marked-spent, marked-length}
 use Rattle.rules.proofs.Passed.{start-passed}
 use Rattle.rules.proofs.Moves.{woken, started-job, moves, keeps}
@@ -63,12 +63,25 @@ first-is s (speak number round tape work out) = refl
 first-is s (hear number round tape work incoming) = refl
 first-is s drop = refl
 
-order-is : (s : State) (call : Call) → map (λ (g : Ground). numberOf (g .refusal)) (groundsOf s call) ≡ orderOf call
+order-is : (s : State) (call : Call) → numbersOf (groundsOf s call) ≡ orderOf call
 order-is s (wake n side pair tally) = refl
 order-is s (start number x y tape work tally) = refl
 order-is s (speak number round tape work out) = refl
 order-is s (hear number round tape work incoming) = refl
 order-is s drop = refl
+
+-- the first that holds is one of them
+first-among : (gs : List Ground) → (firstOf gs ≡ 0 → ⊥) → among (firstOf gs) (numbersOf gs) ≡ true
+first-among [] some = absurd (some refl)
+first-among (g ∷ gs) some = go (g .holds) some (first-among gs)
+  where
+    go : (t : Bool) → (cond t (numberOf (g .refusal)) (firstOf gs) ≡ 0 → ⊥) → ((firstOf gs ≡ 0 → ⊥) → among (firstOf gs) (numbersOf gs) ≡ true)
+        → among (cond t (numberOf (g .refusal)) (firstOf gs)) (numbersOf (g ∷ gs)) ≡ true
+    go true some later = rw (eq-eqb (numberOf (g .refusal)) (numberOf (g .refusal)) refl) refl
+    go false some later = rw (later some) (or-true (eqb (firstOf gs) (numberOf (g .refusal))))
+
+numbered : (s : State) (call : Call) → (groundOf s call ≡ 0 → ⊥) → among (groundOf s call) (orderOf call) ≡ true
+numbered s call some = rw (first-is s call, ← order-is s call) (first-among (groundsOf s call) (rw (first-is s call) at some))
 
 -- ---- jobs
 
@@ -193,7 +206,7 @@ answering =
           λ s call. record {
             first = first-is s call;
             order = order-is s call;
-            numbered = rw (first-is s call) (first-most (groundsOf s call));
+            numbered = numbered s call;
             answers = call-by-ground s call .answers;
             refuses = call-by-ground s call .refuses;
           };

@@ -1,5 +1,5 @@
 pub mod Marks
-pub mod Chains
+pub mod Decide
 pub mod Ranges
 pub mod Passed
 pub mod Spoken

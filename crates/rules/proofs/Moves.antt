@@ -8,6 +8,7 @@ use borrow.Author.Tests.{lt-ltb, le-leb, ne-eqb, eqb-true, eqb-false, not-false}
 use lib.Dec.{eqb}
 use Rattle.field.specs.Width.{modulus}
 use Rattle.protocol.specs.Rounds.{lastRound}
+use Rattle.refusals.proofs.Chains.{none}
 use Rattle.rules.specs.Answers.{dropped}
 use Rattle.rules.specs.Tally.{tapesOf}
 use Rattle.rules.specs.Modes.{roundOf, roundFits, inRange, modeOf, isAsleep, inJob}
@@ -20,7 +21,7 @@ use Rattle.rules.specs.declared.state.Turn.the-variants.{Speak, Hear}
 use Rattle.rules.specs.declared.state.Phase.{Phase}
 use Rattle.rules.specs.declared.state.Phase.the-variants.{Asleep, Idle, Job}
 use Rattle.rules.specs.declared.state.State.{State}
-use Rattle.rules.proofs.Chains.{none, decide}
+use Rattle.rules.proofs.Decide.{decide}
 use Rattle.rules.proofs.Ranges.{awake-range, awake-mode, phase-mode, turned-mode}
 use Rattle.rules.proofs.Passed.{wake-passed, start-passed, speak-passed, hear-passed, TurnPassed}
 

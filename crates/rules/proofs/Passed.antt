@@ -15,14 +15,15 @@ use Rattle.tape.specs.Order.{inOrder}
 use Rattle.protocol.specs.Words.{Below}
 use Rattle.protocol.specs.Work.{workLength}
 use Rattle.protocol.specs.Rounds.{roundWords}
+use Rattle.refusals.specs.Grounds.{firstOf}
+use Rattle.refusals.proofs.Chains.{None, none, both-none, nones}
 use Rattle.rules.specs.Tally.{tallyFits, tapesOf, isFresh}
 use Rattle.rules.specs.Modes.{modeOf, isAsleep, inJob, isDue}
-use Rattle.rules.specs.Grounds.{firstOf, idleGrounds, jobGrounds, messageFits, roomGrounds, wordGrounds, wordsFit, wakeGrounds, startParts, turnParts, turnGrounds, wakeGround, startGround, speakGround, hearGround}
+use Rattle.rules.specs.Grounds.{idleGrounds, jobGrounds, messageFits, roomGrounds, wordGrounds, wordsFit, wakeGrounds, startParts, turnParts, turnGrounds, wakeGround, startGround, speakGround, hearGround}
 use Rattle.rules.specs.Calls.{xOf, yOf}
 use Rattle.rules.specs.declared.state.Turn.{Turn}
 use Rattle.rules.specs.declared.state.Turn.the-variants.{Speak, Hear}
 use Rattle.rules.specs.declared.state.State.{State}
-use Rattle.rules.proofs.Chains.{None, none, both-none, nones}
 use Rattle.rules.proofs.Ranges.{Ranged, ranged, awake-range, awake-listed, Due, due-job, JobRange, due-range}
 
 both-true : (a b : Bool) → not a || not b ≡ false → (a ≡ true) × (b ≡ true)

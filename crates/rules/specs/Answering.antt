@@ -1,16 +1,15 @@
 -- Demand 1 over the rules: what each of the five calls answers, refuses and leaves as it was.
-use Prim.Native.Nat.{ℕ, _≤_}
+use Prim.Native.Nat.{ℕ}
 use mathlib.Core.Path.{_≡_}
 use mathlib.Core.Bool.{true, false}
-use mathlib.Core.List.{List, map}
+use mathlib.Core.List.{List}
 use lib.ListN.{length}
-use Rattle.field.specs.Width.{listed}
+use Rattle.field.specs.Width.{listed, among}
 use Rattle.shares.specs.Side.{isSide}
-use Rattle.refusals.specs.Numbers.{numberOf, lastRefusal}
+use Rattle.refusals.specs.Grounds.{firstOf, numbersOf}
 use Rattle.rules.specs.Answers.{refused}
 use Rattle.rules.specs.Tally.{tallyFits}
 use Rattle.rules.specs.Modes.{inRange, modeOf, isAsleep, inJob, asleepState}
-use Rattle.rules.specs.Grounds.{Ground, firstOf}
 use Rattle.rules.specs.Calls.{inPhase}
 use Rattle.rules.specs.AnyCall.{Call, wake, groundsOf, groundOf, resultOf, bufferOf, isWake, isRefused, orderOf}
 use Rattle.rules.specs.Moves.{Moves, TakesJob}
@@ -21,9 +20,9 @@ pub record Answered (s : State) (call : Call) : Type 0 where
   -- the ground is the first that holds of the call's grounds
   pub first : groundOf s call ≡ firstOf (groundsOf s call)
   -- these stand in document 01's order
-  pub order : map (λ (g : Ground). numberOf (g .refusal)) (groundsOf s call) ≡ orderOf call
-  -- the numbers go to document 01's last
-  pub numbered : groundOf s call ≤ lastRefusal
+  pub order : numbersOf (groundsOf s call) ≡ orderOf call
+  -- so a refusal's number is one of that order
+  pub numbered : (groundOf s call ≡ 0 → ⊥) → among (groundOf s call) (orderOf call) ≡ true
   -- where no ground holds, the reply is an answer
   pub answers : groundOf s call ≡ 0 → isRefused (resultOf s call .reply) ≡ false
   -- where one holds, the reply is the refusal with its number

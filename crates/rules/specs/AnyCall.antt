@@ -2,8 +2,9 @@
 use Prim.Native.Nat.{ℕ}
 use mathlib.Core.Bool.{Bool, true, false}
 use mathlib.Core.List.{List, [], _∷_}
+use Rattle.refusals.specs.Grounds.{Ground}
 use Rattle.rules.specs.Answers.{Reply, fresh, started, spoke, heard, share, dropped, refused}
-use Rattle.rules.specs.Grounds.{Ground, wakeGrounds, startGrounds, speakGrounds, hearGrounds, dropGrounds, wakeGround, startGround, speakGround, hearGround, dropGround}
+use Rattle.rules.specs.Grounds.{wakeGrounds, startGrounds, speakGrounds, hearGrounds, dropGrounds, wakeGround, startGround, speakGround, hearGround, dropGround}
 use Rattle.rules.specs.Calls.{Result, wakeRule, startRule, speakRule, hearRule, dropRule}
 use Rattle.rules.specs.declared.state.State.{State}
 

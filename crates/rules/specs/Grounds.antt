@@ -1,6 +1,6 @@
 -- The grounds of refusal of each call, in document 01's order. The first that holds counts; 0 where none does.
 use Prim.Native.Nat.{ℕ}
-use mathlib.Core.Bool.{Bool, true, not, _||_, cond}
+use mathlib.Core.Bool.{Bool, true, not, _||_}
 use mathlib.Core.List.{List, [], _∷_, _++_}
 use lib.Dec.{eqb, leb, ltb}
 use lib.ListN.{length, getD}
@@ -10,8 +10,7 @@ use Rattle.shares.specs.Side.{isSide}
 use Rattle.tape.specs.Order.{inOrder}
 use Rattle.protocol.specs.Work.{workLength}
 use Rattle.protocol.specs.Rounds.{roundWords}
-use Rattle.refusals.specs.Numbers.{numberOf}
-use Rattle.refusals.specs.declared.Refusal.{Refusal}
+use Rattle.refusals.specs.Grounds.{Ground, _when_, firstOf, joined}
 use Rattle.refusals.specs.declared.Refusal.the-variants.{Asleep, Width, Side, Tally, Busy, NoJob, Number, Spent, Share, Tape, Turn as NotDue, Room, Word}
 use Rattle.rules.specs.Tally.{tallyFits, tapesOf, isFresh}
 use Rattle.rules.specs.Modes.{modeOf, isAsleep, inJob, isDue}
@@ -19,25 +18,6 @@ use Rattle.rules.specs.declared.state.Turn.{Turn}
 use Rattle.rules.specs.declared.state.Turn.the-variants.{Speak, Hear}
 use Rattle.rules.specs.declared.state.Phase.{Phase}
 use Rattle.rules.specs.declared.state.State.{State}
-
--- a refusal, and whether its ground holds
-pub record Ground : Type 0 where
-  pub refusal : Refusal
-  pub holds : Bool
-
-infixl 10 _when_
-abbrev pub _when_ : Refusal → Bool → Ground
-refusal when holds = record { refusal = refusal; holds = holds }
-
--- the number of the first that holds
-abbrev pub firstOf : List Ground → ℕ
-firstOf [] = 0
-firstOf (g ∷ gs) = cond (g .holds) (numberOf (g .refusal)) (firstOf gs)
-
--- a call's grounds are joined from short lists, one for each thing that is looked at
-abbrev pub joined : List (List Ground) → List Ground
-joined [] = []
-joined (gs ∷ parts) = gs ++ joined parts
 
 -- every word of the list is below p
 abbrev pub wordsFit : ℕ → List ℕ → Bool

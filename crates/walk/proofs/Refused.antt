@@ -15,7 +15,7 @@ use Rattle.rules.specs.Answers.{replyOf, started, heard, share}
 use Rattle.rules.specs.Tally.{marked}
 use Rattle.rules.specs.Grounds.{startGround, hearGround}
 use Rattle.rules.specs.Calls.{Result, inPhase, partyOf, turned, unless, startRule, hearRule}
-use Rattle.rules.proofs.Chains.{decide}
+use Rattle.rules.proofs.Decide.{decide}
 use Rattle.rules.specs.declared.state.Turn.the-variants.{Speak}
 use Rattle.rules.specs.declared.state.Phase.the-variants.{Idle, Job}
 use Rattle.rules.specs.declared.state.State.{State}

@@ -1,9 +1,10 @@
 -- `limit_box::checks::start_check` meets its contract: the lists of grounds, one after another.
 use mathlib.Core.Path.{_≡_, sym, _∙_}
+use Rattle.refusals.specs.Grounds.{firstOf}
+use Rattle.refusals.specs.Checks.{groundOf}
 use Rattle.rules.specs.Modes.{modeOf}
-use Rattle.rules.specs.Grounds.{firstOf, idleGrounds, startParts, startGround}
+use Rattle.rules.specs.Grounds.{idleGrounds, startParts, startGround}
 use Rattle.rules.proofs.Passed.{idle-listed}
-use Rattle.limit_box.specs.Checks.{groundOf}
 use Rattle.limit_box.proofs.Chains.{decides, decided, then, then-passed}
 use borrow.Author.Needs.{needs}
 use Rattle.limit_box.proofs.checks.start_check.Statement.{statement}

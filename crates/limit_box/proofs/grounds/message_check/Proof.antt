@@ -1,6 +1,6 @@
 -- `limit_box::grounds::message_check` meets its contract: room for the turn's message.
 use mathlib.Core.Path.{ap}
-use Rattle.limit_box.specs.Checks.{groundOf}
+use Rattle.refusals.specs.Checks.{groundOf}
 use borrow.Author.Needs.{needs}
 use Rattle.limit_box.proofs.grounds.message_check.Statement.{statement}
 use Rattle.limit_box.proofs.grounds.message_check.Tie as tie

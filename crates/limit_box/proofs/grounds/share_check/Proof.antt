@@ -1,6 +1,6 @@
 -- `limit_box::grounds::share_check` meets its contract: the first share is p or more, or the second decides.
 use mathlib.Core.Path.{refl, ap}
-use Rattle.limit_box.specs.Checks.{groundOf}
+use Rattle.refusals.specs.Checks.{groundOf}
 use borrow.Author.Needs.{needs}
 use Rattle.limit_box.proofs.grounds.share_check.Statement.{statement}
 use Rattle.limit_box.proofs.grounds.share_check.Tie as tie

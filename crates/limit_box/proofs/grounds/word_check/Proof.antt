@@ -1,6 +1,6 @@
 -- `limit_box::grounds::word_check` meets its contract: the words decide.
 use mathlib.Core.Path.{ap}
-use Rattle.limit_box.specs.Checks.{groundOf}
+use Rattle.refusals.specs.Checks.{groundOf}
 use borrow.Author.Needs.{needs}
 use Rattle.limit_box.proofs.grounds.word_check.Statement.{statement}
 use Rattle.limit_box.proofs.grounds.word_check.Tie as tie

@@ -1,17 +1,12 @@
 -- Grounds in a chain: the first that holds counts, and 0 says that none does. The laws that join short lists of them.
-use Prim.Native.Nat.{ℕ, _<_, _≤_}
+use Prim.Native.Nat.{ℕ, _<_}
 use mathlib.Core.Path.{_≡_, refl}
 use mathlib.Core.Bool.{Bool, true, false, cond}
 use mathlib.Core.List.{List, [], _∷_, _++_}
 use native.Mathlib.Omega.{arith}
-use lib.Dec.{eqb}
-use borrow.Author.Tests.{eqb-true}
-use Rattle.refusals.specs.Numbers.{numberOf, lastRefusal}
+use Rattle.refusals.specs.Numbers.{numberOf}
+use Rattle.refusals.specs.Grounds.{Ground, firstOf, joined}
 use Rattle.refusals.proofs.Numbers.{numbered}
-use Rattle.rules.specs.Grounds.{Ground, firstOf, joined}
-use Rattle.rules.specs.Answers.{refused}
-use Rattle.rules.specs.Calls.{Result, unless}
-use Rattle.rules.specs.declared.state.State.{State}
 
 -- none of them holds
 abbrev pub None : List Ground → Type 0
@@ -23,7 +18,7 @@ pub pass : (g : Ground) (gs : List Ground) → firstOf (g ∷ gs) ≡ 0 → (g .
 pass g gs e = go (g .holds) e
   where
     go : (t : Bool) → cond t (numberOf (g .refusal)) (firstOf gs) ≡ 0 → (t ≡ false) × (firstOf gs ≡ 0)
-    go true z = absurd (omega (arith, z, numbered (g .refusal) .0))
+    go true z = absurd (omega (arith, z, numbered (g .refusal)))
     go false z = (refl, z)
 
 pub none : (gs : List Ground) → firstOf gs ≡ 0 → None gs
@@ -31,15 +26,6 @@ none [] e = tt
 none (g ∷ gs) e =
     let p = pass g gs e in
     (p .0, none gs (p .1))
-
--- the numbers go to document 01's last
-pub first-most : (gs : List Ground) → firstOf gs ≤ lastRefusal
-first-most [] = omega arith
-first-most (g ∷ gs) = go (g .holds) (first-most gs)
-  where
-    go : (t : Bool) → firstOf gs ≤ lastRefusal → cond t (numberOf (g .refusal)) (firstOf gs) ≤ lastRefusal
-    go true later = numbered (g .refusal) .1
-    go false later = later
 
 -- ---- one list after another
 
@@ -78,12 +64,3 @@ nones [] e = tt
 nones (gs ∷ parts) e =
     let both = both-none gs (joined parts) e in
     (none gs (both .0), nones parts (both .1))
-
--- refused, or not: what holds of a rule's result
-pub decide : (P : Result → Type 0) (k : ℕ) (s : State) (buffer : List ℕ) (ok : Result) → (k ≡ 0 → P ok)
-    → P (record { reply = refused k; state = s; buffer = buffer }) → P (unless k s buffer ok)
-decide P k s buffer ok passed failed = go (eqb k 0) refl
-  where
-    go : (t : Bool) → eqb k 0 ≡ t → P (cond t ok (record { reply = refused k; state = s; buffer = buffer }))
-    go true e = passed (eqb-true k 0 e)
-    go false e = failed

@@ -1,8 +1,8 @@
 -- What a call's checks come to: the number of the refusal, or 0 where the call goes on.
 use Prim.Native.Nat.{ℕ}
 use Rattle.refusals.specs.Numbers.{numberOf}
-use Rattle.limit_box.specs.declared.checks.Check.{Check}
-use Rattle.limit_box.specs.declared.checks.Check.the-variants.{Passed, Refused}
+use Rattle.refusals.specs.declared.Check.{Check}
+use Rattle.refusals.specs.declared.Check.the-variants.{Passed, Refused}
 
 abbrev pub groundOf : Check → ℕ
 groundOf Passed = 0

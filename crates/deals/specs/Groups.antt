@@ -1,0 +1,71 @@
+-- What the draws of a group become (document 02, P1). Groups are of three kinds, one for each section of a tape: 0, squares (a, q); 1, power groups
+-- (w, r, .., r^n); 2, triples (a, b, c). A group takes the draws after v, the last draw before it or, at the beginning, the seed.
+use Prim.Native.Nat.{ℕ, zero, suc, _+_, _-_, _*_, _%_, _^_}
+use mathlib.Core.Bool.{cond}
+use lib.Dec.{eqb, ltb}
+use Rattle.field.specs.Width.{modulus}
+use Rattle.field.specs.Subtraction.{minus}
+use Rattle.draws.specs.Draws.{draw, word}
+use Rattle.tape.specs.Layout.{squareCount, groupCount, tripleCount}
+
+-- how many groups of a kind a tape has
+abbrev pub groupsOf : ℕ → ℕ → ℕ
+groupsOf n zero = squareCount n
+groupsOf n (suc zero) = groupCount n
+groupsOf n (suc (suc kind)) = tripleCount n
+
+-- how many words each box has of a group
+abbrev pub groupLength : ℕ → ℕ → ℕ
+groupLength n zero = 2
+groupLength n (suc zero) = n + 1
+groupLength n (suc (suc kind)) = 3
+
+-- ---- the draws: first k of a power group, then box 1's words, then box 2's a, or a and b
+
+abbrev pub choices : ℕ → ℕ
+choices zero = 0
+choices (suc zero) = 1
+choices (suc (suc kind)) = 0
+
+abbrev pub freeWords : ℕ → ℕ
+freeWords zero = 1
+freeWords (suc zero) = 0
+freeWords (suc (suc kind)) = 2
+
+-- 3 for a square, n + 2 for a power group, 5 for a triple
+abbrev pub groupDraws : ℕ → ℕ → ℕ
+groupDraws n kind = choices kind + groupLength n kind + freeWords kind
+
+-- ---- what they become
+
+-- word j of the group at box 1
+abbrev pub firstWord : ℕ → ℕ → ℕ → ℕ → ℕ
+firstWord n kind v j = word n v (choices kind + suc j)
+
+-- word j at box 2, where it is drawn
+abbrev pub freeWord : ℕ → ℕ → ℕ → ℕ → ℕ
+freeWord n kind v j = word n v (choices kind + groupLength n kind + suc j)
+
+-- a is word 0 of both boxes, b word 1
+abbrev pub drawnSum : ℕ → ℕ → ℕ → ℕ → ℕ
+drawnSum n kind v j = firstWord n kind v j + freeWord n kind v j
+
+-- k of a power group
+abbrev pub exponent : ℕ → ℕ → ℕ
+exponent n v = draw v 1 % n
+
+-- what both boxes' words come to, where box 2's is not drawn: q = a², w = 2^((n − k) mod n), the powers of r = 2^k, c = a·b
+unfoldable pub total : ℕ → ℕ → ℕ → ℕ → ℕ
+total n zero v j = drawnSum n 0 v 0 * drawnSum n 0 v 0
+total n (suc zero) v zero = 2 ^ ((n - exponent n v) % n)
+total n (suc zero) v (suc j) = (2 ^ exponent n v) ^ suc j
+total n (suc (suc kind)) v j = drawnSum n 2 v 0 * drawnSum n 2 v 1
+
+-- word j at box 2: drawn, or what the equation leaves
+abbrev pub secondWord : ℕ → ℕ → ℕ → ℕ → ℕ
+secondWord n kind v j =
+    cond (ltb j (freeWords kind)) (freeWord n kind v j) (minus n (total n kind v j % modulus n) (firstWord n kind v j))
+
+-- word j of the group at the box of that side
+unfoldable pub groupWord : ℕ → ℕ → ℕ → ℕ → ℕ → ℕ
+groupWord n side kind v j = cond (eqb side 1) (firstWord n kind v j) (secondWord n kind v j)

@@ -1,0 +1,3 @@
+pub mod Groups
+pub mod Deals
+pub mod Dealing
