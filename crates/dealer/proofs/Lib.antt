@@ -1,2 +1,2 @@
-mod Stores
+pub mod Stores
 mod Trailers

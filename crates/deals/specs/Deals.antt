@@ -29,9 +29,11 @@ sectionWord n side kind v i =
 abbrev pub dealtSection : ℕ → ℕ → ℕ → ℕ → List ℕ
 dealtSection seed n side kind = tabulate (sectionLength n kind) (sectionWord n side kind (draw seed (drawsBefore n kind)))
 
+abbrev pub dealtBody : ℕ → ℕ → ℕ → List ℕ
+dealtBody seed n side = dealtSection seed n side 0 ++ dealtSection seed n side 1 ++ dealtSection seed n side 2
+
 unfoldable pub dealtTape : ℕ → ℕ → ℕ → ℕ → ℕ → List ℕ
-dealtTape seed n pair side number =
-    dealtSection seed n side 0 ++ dealtSection seed n side 1 ++ dealtSection seed n side 2 ++ trailer n pair side number
+dealtTape seed n pair side number = dealtBody seed n side ++ trailer n pair side number
 
 -- ---- the call
 

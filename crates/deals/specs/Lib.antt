@@ -1,3 +1,4 @@
 pub mod Groups
+pub mod Steps
 pub mod Deals
 pub mod Dealing

@@ -1,53 +1,83 @@
 // The groups of a section: box 1's words and some of box 2's are drawn, and the others are what the equations leave.
 ghost use mathlib.Core.Path.{_≡_};
-ghost use mathlib.Core.Bool.{true, cond};
-ghost use Prim.Native.Nat.{suc, _+_, _-_, _*_, _%_, _^_, _<_, _≤_};
-ghost use lib.Dec.{ltb};
+ghost use mathlib.Core.Bool.{true};
+ghost use Prim.Native.Nat.{ℕ, _+_, _-_, _*_, _^_, _<_, _≤_};
 ghost use lib.ListN.{length, getD};
 ghost use Rattle.lists.specs.Tabulate.{tabulate};
 ghost use Rattle.field.specs.Width.{listed, modulus};
 ghost use Rattle.field.specs.Subtraction.{minus};
 ghost use Rattle.tape.specs.Layout.{sectionLength};
-ghost use Rattle.draws.specs.Draws.{draw, word};
+ghost use Rattle.draws.specs.Draws.{draw};
 ghost use Rattle.deals.specs.Groups.{groupsOf, groupLength, groupDraws, groupWord};
+ghost use Rattle.deals.specs.Steps.{productLeft, drawnWords, productWords, powerAt};
 ghost use Rattle.deals.specs.Deals.{sectionWord};
 
-// A square (a, q) or a triple (a, b, c): the last word is the product of the first and the last but one. Box 1's words are drawn, then box 2's but
-// for its last.
+// Box 2's last word of a square (a, q) or a triple (a, b, c): what is left of the product of both boxes' first words and their last but one.
+fn product_left(n: u32, w1: &[u32], w2: &[u32]) -> u32
+    requires { ⌜ (listed n ≡ true) × (2 ≤ length (now w1)) × (length (now w2) ≡ length (now w1)) ⌝ }
+    requires below { ⌜ ((j : ℕ) → j < length (now w1) → getD (now w1) j 0 < modulus n)
+        × ((j : ℕ) → j < length (now w1) - 1 → getD (now w2) j 0 < modulus n) ⌝ }
+    ensures { λ r. ⌜ r ≡ productLeft n (now (w1 .entry)) (now (w2 .entry)) ⌝ }
+{
+    let last = w1.len() - 1;
+    let a = field::add(n, w1[0], w2[0]);
+    let b = field::add(n, w1[last - 1], w2[last - 1]);
+    field::sub(n, field::mul(n, a, b), w1[last])
+}
+
+// A square or a triple: box 1's words are drawn, then box 2's but for its last.
 fn product(n: u32, v: u32, w1: &mut [u32], w2: &mut [u32]) -> u32
     requires { ⌜ (listed n ≡ true) × (2 ≤ length (now w1)) × (length (now w2) ≡ length (now w1)) ⌝ }
+    ensures { λ r. ⌜ r ≡ draw v (length (now (w1 .entry)) + (length (now (w1 .entry)) - 1)) ⌝ }
+    ensures box1 { λ _. ⌜ now (w1 .exit) ≡ drawnWords n v (length (now (w1 .entry))) ⌝ }
+    ensures box2 { λ _. ⌜ now (w2 .exit) ≡ productWords n v (length (now (w1 .entry))) ⌝ }
 {
     let last = w1.len() - 1;
     let own = draws::fill(n, v, &mut *w1);
     let after = draws::fill(n, own, &mut w2[..last]);
-    let a = field::add(n, w1[0], w2[0]);
-    let b = field::add(n, w1[last - 1], w2[last - 1]);
-    w2[last] = field::sub(n, field::mul(n, a, b), w1[last]);
+    w2[last] = product_left(n, &*w1, &*w2);
     after
 }
 
 // Box 2's words of a power group, given box 1's: what is left of w, r, r^2, .., r^n.
 fn left_powers(n: u32, w: u32, r: u32, w1: &[u32], w2: &mut [u32])
-    requires { ⌜ (listed n ≡ true) × (w < modulus n) × (r < modulus n) ⌝ }
+    requires { ⌜ (listed n ≡ true) × (w < modulus n) × (r < modulus n) × (length (now w2) ≡ length (now w1)) ⌝ }
+    requires below { ⌜ ((j : ℕ) → j < length (now w1) → getD (now w1) j 0 < modulus n) ⌝ }
+    ensures { λ _. ⌜ now (w2 .exit) ≡ tabulate (length (now (w1 .entry))) (λ j. minus n (powerAt n w r j) (getD (now (w1 .entry)) j 0)) ⌝ }
 {
-    w2[0] = field::sub(n, w, w1[0]);
+    let mut total = w;
     let mut power: u32 = 1;
-    let mut j = 1;
+    let mut j = 0;
     while j < w1.len() {
+        w2[j] = field::sub(n, total, w1[j]);
         power = field::mul(n, power, r);
-        w2[j] = field::sub(n, power, w1[j]);
+        total = power;
         j += 1;
     }
+}
+
+// 2^k, for k below n.
+fn power_of_two(n: u32, k: u32) -> u32
+    requires { ⌜ (listed n ≡ true) × (k < n) ⌝ }
+    ensures { λ r. ⌜ r ≡ 2 ^ k ⌝ }
+    ensures below { λ r. ⌜ r < modulus n ⌝ }
+{
+    1u32 << k
 }
 
 // A power group: the first draw gives k, and so r = 2^k and w = 2^((n - k) mod n). Then box 1's words are drawn.
 fn powers(n: u32, v: u32, w1: &mut [u32], w2: &mut [u32]) -> u32
     requires { ⌜ (listed n ≡ true) × (length (now w1) ≡ n + 1) × (length (now w2) ≡ n + 1) ⌝ }
+    ensures { λ r. ⌜ r ≡ draw v (n + 2) ⌝ }
+    ensures box1 { λ _. ⌜ now (w1 .exit) ≡ tabulate (n + 1) (groupWord n 1 1 v) ⌝ }
+    ensures box2 { λ _. ⌜ now (w2 .exit) ≡ tabulate (n + 1) (groupWord n 2 1 v) ⌝ }
 {
     let first = draws::next(v);
     let k = first % n;
+    let w = power_of_two(n, (n - k) % n);
+    let r = power_of_two(n, k);
     let last = draws::fill(n, first, &mut *w1);
-    left_powers(n, 1u32 << ((n - k) % n), 1u32 << k, &*w1, w2);
+    left_powers(n, w, r, &*w1, w2);
     last
 }
 

@@ -4,10 +4,11 @@ use refusals::Refusal;
 ghost use mathlib.Core.Path.{_≡_};
 ghost use mathlib.Core.Bool.{true};
 ghost use lib.ListN.{length};
+ghost use lib.Seq.{sets};
 ghost use Rattle.field.specs.Width.{listed};
 ghost use Rattle.refusals.specs.Checks.{groundOf};
 ghost use Rattle.tape.specs.Layout.{tapeLength};
-ghost use Rattle.deals.specs.Deals.{dealtTape, dealGround, dealRule, outcome};
+ghost use Rattle.deals.specs.Deals.{dealtBody, dealtTape, dealGround, dealRule, outcome};
 
 mod groups;
 
@@ -31,29 +32,28 @@ fn deal_check(seed: u32, n: u32, t1: &[u32], t2: &[u32]) -> Check
     Check::Passed
 }
 
-// Both tapes: the sections in the body's order, each from the draws after the last one's, then the trailers.
+// The bodies of both tapes: a section after another, each from the draws after the last one's.
+fn bodies(seed: u32, n: u32, t1: &mut [u32], t2: &mut [u32])
+    requires { ⌜ (listed n ≡ true) × (length (now t1) ≡ tapeLength n) × (length (now t2) ≡ tapeLength n) ⌝ }
+    ensures { λ _. ⌜ (now (t1 .exit) ≡ sets (now (t1 .entry)) 0 (dealtBody seed n 1)) × (now (t2 .exit) ≡ sets (now (t2 .entry)) 0 (dealtBody seed n 2)) ⌝ }
+{
+    let mut last = seed;
+    let mut at = 0;
+    let mut kind = 0;
+    while kind < 3 {
+        let end = at + tape::section_words(n, kind);
+        last = groups::section(n, kind, last, &mut t1[at..end], &mut t2[at..end]);
+        at = end;
+        kind += 1;
+    }
+}
+
+// Both tapes.
 fn write(seed: u32, n: u32, pair: u32, number: u32, t1: &mut [u32], t2: &mut [u32])
     requires { ⌜ (listed n ≡ true) × (length (now t1) ≡ tapeLength n) × (length (now t2) ≡ tapeLength n) ⌝ }
     ensures { λ _. ⌜ (now (t1 .exit) ≡ dealtTape seed n pair 1 number) × (now (t2 .exit) ≡ dealtTape seed n pair 2 number) ⌝ }
 {
-    let powers = tape::section_start(n, tape::POWERS);
-    let triples = tape::section_start(n, tape::TRIPLES);
-    let body = tape::tape_words(n) - tape::TRAILER;
-    let v1 = groups::section(n, tape::SQUARES, seed, &mut t1[..powers], &mut t2[..powers]);
-    let v2 = groups::section(
-        n,
-        tape::POWERS,
-        v1,
-        &mut t1[powers..triples],
-        &mut t2[powers..triples],
-    );
-    groups::section(
-        n,
-        tape::TRIPLES,
-        v2,
-        &mut t1[triples..body],
-        &mut t2[triples..body],
-    );
+    bodies(seed, n, &mut *t1, &mut *t2);
     dealer::trailer(n, pair, 1, number, t1);
     dealer::trailer(n, pair, 2, number, t2);
 }

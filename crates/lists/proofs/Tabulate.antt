@@ -1,9 +1,9 @@
 -- The laws of tabulated lists.
 use Prim.Native.Nat.{ℕ, zero, suc, _+_, _<_}
 use mathlib.Core.Path.{_≡_, refl, sym, ap, _∙_}
-use mathlib.Core.List.{List, [], _∷_}
+use mathlib.Core.List.{List, [], _∷_, _++_, append-nil, append-assoc}
 use mathlib.Core.Logic.{⊎-elim}
-use native.Mathlib.Nat.{le-of-suc-le-suc, not-suc-le-zero, eq-or-lt-of-le}
+use native.Mathlib.Nat.{add-zero, add-suc, le-of-suc-le-suc, not-suc-le-zero, eq-or-lt-of-le}
 use native.Mathlib.Numerals.{add-one}
 use native.Mathlib.Omega.{arith}
 use lib.ListN.{length, getD, length-append, List·getD-append}
@@ -33,3 +33,10 @@ pub tabulated : (l : List ℕ) (n : ℕ) (f : ℕ → ℕ) → length l ≡ n �
 tabulated l n f e h =
     ext-getD 0 l (tabulate n f) (e ∙ sym (length-tabulate n f))
     (λ i less. h i (omega arith) ∙ sym (getD-tabulate n f i 0 (omega arith)))
+
+-- the first so many, then the rest
+pub tabulate-append : (m n : ℕ) (f : ℕ → ℕ) → tabulate (m + n) f ≡ tabulate m f ++ tabulate n (λ j. f (m + j))
+tabulate-append m zero f = rw (add-zero m) (sym (append-nil (tabulate m f)))
+tabulate-append m (suc n) f =
+    rw (add-suc m n) (ap (λ (l : List ℕ). l ++ (f (m + n) ∷ [])) (tabulate-append m n f))
+    ∙ append-assoc (tabulate m f) (tabulate n (λ j. f (m + j))) (f (m + n) ∷ [])

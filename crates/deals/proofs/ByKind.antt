@@ -1,0 +1,47 @@
+-- A group by its kind: a power group, or a square or a triple, which are one product of two or three words.
+use Prim.Native.Nat.{ℕ, zero, suc, _+_, _-_, _<_, _≤_}
+use mathlib.Core.Path.{_≡_, refl, ap, _∙_}
+use mathlib.Core.List.{List}
+use native.Mathlib.Omega.{arith}
+use Rattle.lists.specs.Tabulate.{tabulate}
+use Rattle.draws.specs.Draws.{draw}
+use Rattle.draws.proofs.Draws.{draw-after}
+use Rattle.deals.specs.Groups.{groupLength, groupDraws, total, groupWord}
+use Rattle.deals.specs.Steps.{drawnWords, productWords}
+
+-- what a group comes to: its last draw, and both boxes' words
+abbrev pub Group : ℕ → ℕ → ℕ → ℕ → List ℕ → List ℕ → Type 0
+Group n kind v last w1 w2 =
+    (last ≡ draw v (groupDraws n kind))
+    × ((w1 ≡ tabulate (groupLength n kind) (groupWord n 1 kind v)) × (w2 ≡ tabulate (groupLength n kind) (groupWord n 2 kind v)))
+
+pub power-group : (n kind v last : ℕ) (w1 w2 : List ℕ) → kind ≡ 1 → last ≡ draw v (n + 2)
+    → w1 ≡ tabulate (n + 1) (groupWord n 1 1 v) → w2 ≡ tabulate (n + 1) (groupWord n 2 1 v) → Group n kind v last w1 w2
+power-group n kind v last w1 w2 e drawn box1 box2 = rw e (drawn ∙ ap (draw v) (omega arith), (box1, box2))
+
+-- a product has two or three words
+pub product-long : (n kind : ℕ) → kind < 3 → (kind ≡ 1 → ⊥) → 2 ≤ groupLength n kind
+product-long n zero few other = omega arith
+product-long n (suc zero) few other = absurd (other refl)
+product-long n (suc (suc kind)) few other = omega arith
+
+-- box 2's draws come after box 1's
+square-words : (n v : ℕ) → productWords n v 2 ≡ tabulate 2 (groupWord n 2 0 v)
+unfolding groupWord total
+square-words n v = rw (draw-after v 2 1) refl
+
+triple-words : (n v : ℕ) → productWords n v 3 ≡ tabulate 3 (groupWord n 2 2 v)
+unfolding groupWord total
+triple-words n v = rw (draw-after v 3 1, draw-after v 3 2) refl
+
+product-is : (n kind v : ℕ) → kind < 3 → (kind ≡ 1 → ⊥) → let count = groupLength n kind in
+    Group n kind v (draw v (count + (count - 1))) (drawnWords n v count) (productWords n v count)
+unfolding groupWord
+product-is n zero v few other = (refl, (refl, square-words n v))
+product-is n (suc zero) v few other = absurd (other refl)
+product-is n (suc (suc zero)) v few other = (refl, (refl, triple-words n v))
+product-is n (suc (suc (suc kind))) v few other = absurd (omega (arith, few))
+
+pub product-group : (n kind v count last : ℕ) (w1 w2 : List ℕ) → kind < 3 → (kind ≡ 1 → ⊥) → count ≡ groupLength n kind
+    → last ≡ draw v (count + (count - 1)) → w1 ≡ drawnWords n v count → w2 ≡ productWords n v count → Group n kind v last w1 w2
+product-group n kind v count last w1 w2 few other e drawn box1 box2 = rw (drawn, box1, box2, e) (product-is n kind v few other)
