@@ -1,6 +1,6 @@
 -- The words of a square or a triple, once those that are drawn stand: box 1's all, box 2's but for its last.
-use Prim.Native.Nat.{ℕ, suc, _+_, _-_, _*_, _%_, _<_, _≤_}
-use mathlib.Core.Path.{_≡_, refl, sym, ap, _∙_}
+use Prim.Native.Nat.{ℕ, suc, _+_, _-_, _<_, _≤_}
+use mathlib.Core.Path.{_≡_, refl, sym}
 use mathlib.Core.Bool.{true}
 use mathlib.Core.List.{List, [], _∷_, _++_}
 use native.Mathlib.Nat.{mod-lt}
@@ -9,7 +9,6 @@ use lib.ListN.{length, getD, set, length-append, List·getD-append}
 use lib.Seq.{set-append-seam}
 use Rattle.lists.proofs.Tabulate.{length-tabulate, getD-tabulate}
 use Rattle.field.specs.Width.{listed, modulus}
-use Rattle.field.specs.Subtraction.{minus}
 use Rattle.field.proofs.Widths.{bounds}
 use Rattle.draws.specs.Draws.{draw, word}
 use Rattle.deals.specs.Steps.{drawnWords, productLeft}

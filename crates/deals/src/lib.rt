@@ -35,12 +35,13 @@ fn deal_check(seed: u32, n: u32, t1: &[u32], t2: &[u32]) -> Check
 // The bodies of both tapes: a section after another, each from the draws after the last one's.
 fn bodies(seed: u32, n: u32, t1: &mut [u32], t2: &mut [u32])
     requires { ⌜ (listed n ≡ true) × (length (now t1) ≡ tapeLength n) × (length (now t2) ≡ tapeLength n) ⌝ }
-    ensures { λ _. ⌜ (now (t1 .exit) ≡ sets (now (t1 .entry)) 0 (dealtBody seed n 1)) × (now (t2 .exit) ≡ sets (now (t2 .entry)) 0 (dealtBody seed n 2)) ⌝ }
+    ensures box1 { λ _. ⌜ now (t1 .exit) ≡ sets (now (t1 .entry)) 0 (dealtBody seed n 1) ⌝ }
+    ensures box2 { λ _. ⌜ now (t2 .exit) ≡ sets (now (t2 .entry)) 0 (dealtBody seed n 2) ⌝ }
 {
     let mut last = seed;
     let mut at = 0;
     let mut kind = 0;
-    while kind < 3 {
+    while kind < tape::SECTIONS {
         let end = at + tape::section_words(n, kind);
         last = groups::section(n, kind, last, &mut t1[at..end], &mut t2[at..end]);
         at = end;
@@ -51,7 +52,8 @@ fn bodies(seed: u32, n: u32, t1: &mut [u32], t2: &mut [u32])
 // Both tapes.
 fn write(seed: u32, n: u32, pair: u32, number: u32, t1: &mut [u32], t2: &mut [u32])
     requires { ⌜ (listed n ≡ true) × (length (now t1) ≡ tapeLength n) × (length (now t2) ≡ tapeLength n) ⌝ }
-    ensures { λ _. ⌜ (now (t1 .exit) ≡ dealtTape seed n pair 1 number) × (now (t2 .exit) ≡ dealtTape seed n pair 2 number) ⌝ }
+    ensures box1 { λ _. ⌜ now (t1 .exit) ≡ dealtTape seed n pair 1 number ⌝ }
+    ensures box2 { λ _. ⌜ now (t2 .exit) ≡ dealtTape seed n pair 2 number ⌝ }
 {
     bodies(seed, n, &mut *t1, &mut *t2);
     dealer::trailer(n, pair, 1, number, t1);

@@ -14,7 +14,7 @@ pub const POWERS: usize = 1;
 pub const TRIPLES: usize = 2;
 
 // How many sections there are.
-const SECTIONS: usize = 3;
+pub const SECTIONS: usize = 3;
 
 // The words of a trailer.
 pub const TRAILER: usize = 7;

@@ -33,7 +33,7 @@ pub fn is_refused(tried: Tried, number: u32) -> bool
 }
 
 // Whether every word is still the filler.
-fn untouched(words: &[u32]) -> bool
+pub fn untouched(words: &[u32]) -> bool
     ensures { λ r. ⌜ (r ≡ true → now (words .entry) ≡ filler (length (now (words .entry))))
         × (now (words .entry) ≡ filler (length (now (words .entry))) → r ≡ true) ⌝ }
 {

@@ -1,7 +1,8 @@
 // Walks one pair of boxes of width 3 through every refusal at each call that can give it, through cuts and drops at every
-// point of a job, and through a whole job, and prints what was answered.
+// point of a job, and through a whole job, then the test dealer through its refusals, and prints what was answered.
 mod calls;
 mod cuts;
+mod dealing;
 mod five;
 mod hears;
 mod job;
@@ -26,4 +27,5 @@ fn main() {
     outside::lines();
     cuts::lines();
     job::lines();
+    dealing::lines();
 }

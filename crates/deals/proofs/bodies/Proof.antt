@@ -1,5 +1,5 @@
 -- `deals::bodies` meets its contract: each turn writes one section, from the draws after the last one's.
-use Prim.Native.Nat.{ℕ, suc, _+_, _-_, _*_, _≤_}
+use Prim.Native.Nat.{ℕ, _+_, _-_, _*_, _≤_}
 use mathlib.Core.Path.{_≡_, refl, sym, ap, ap₂, _∙_}
 use mathlib.Core.List.{List, _++_}
 use native.Mathlib.Nat.{add-sub-cancel-left}

@@ -1,7 +1,6 @@
 -- `deals::deal_check` meets its contract: each exit is a ground, and the last one that there is none.
 use mathlib.Core.Path.{_≡_, sym, _∙_}
 use mathlib.Core.Bool.{true}
-use native.Mathlib.Omega.{arith}
 use borrow.Author.Needs.{needs}
 use borrow.Author.Tests.{not-true, not-false}
 use Rattle.field.specs.Width.{listed}

@@ -1,5 +1,5 @@
 -- `deals::groups::group` meets its contract: the group of its kind.
-use mathlib.Core.Path.{_≡_, sym, ap, _∙_}
+use mathlib.Core.Path.{sym, ap, _∙_}
 use native.Mathlib.Omega.{arith}
 use borrow.Author.Needs.{needs}
 use Rattle.deals.specs.Groups.{groupLength}

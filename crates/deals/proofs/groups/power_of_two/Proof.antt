@@ -1,10 +1,10 @@
 -- `deals::groups::power_of_two` meets its contract: 2^k is at most half of 2^n, so it is below p and the shift loses nothing.
-use Prim.Native.Nat.{ℕ, suc, _+_, _*_, _%_, _^_, _<_, _≤_}
+use Prim.Native.Nat.{ℕ, suc, _*_, _%_, _^_, _<_, _≤_}
 use mathlib.Core.Path.{_≡_, ap, _∙_}
 use mathlib.Core.Bool.{true}
 use native.Mathlib.Nat.{one-mul, mod-eq-of-lt, pow-suc}
 use native.Mathlib.Omega.{arith}
-use lib.Pow.{pow-pos, pow-mono}
+use lib.Pow.{pow-mono}
 use Rattle.field.specs.Width.{listed, modulus}
 use Rattle.field.proofs.Widths.{bounds}
 use Rattle.deals.proofs.groups.power_of_two.Statement.{statement}
