@@ -5,10 +5,11 @@ ghost use mathlib.Core.Bool.{true};
 ghost use lib.ListN.{length};
 ghost use Rattle.field.specs.Width.{listed};
 ghost use Rattle.tape.specs.Layout.{tapeLength};
+ghost use Rattle.tape.specs.Dealt.{Dealt};
 
 mod work;
 
-// Where the generator of the tapes begins.
+// What the tapes are dealt from.
 const SEED: u32 = 2463534242;
 
 fn say(name: &[u8], number: u64) {
@@ -27,11 +28,19 @@ fn sizes(n: u32)
     io::write_all(1, b" words\n");
 }
 
-// On tapes of random words, as boxes get them: on plain ones, mostly zeros, a branch on a word would always go the same way.
+// Both boxes' tapes. What the dealer answers is not looked at: by its contract it does not refuse.
+fn deal(n: u32, t1: &mut [u32], t2: &mut [u32])
+    requires { ⌜ (listed n ≡ true) × (length (now t1) ≡ tapeLength n) × (length (now t2) ≡ tapeLength n) ⌝ }
+    ensures { λ _. ⌜ Dealt n 1 0 (now (t1 .exit)) (now (t2 .exit)) ⌝ }
+{
+    deals::deal(SEED, n, work::PAIR, work::NUMBER, t1, t2);
+}
+
+// On dealt tapes, as boxes get them: on plain ones, mostly zeros, a branch on a word would always go the same way.
 fn run(n: u32, count: u32, jobs: bool, t1: &mut [u32], t2: &mut [u32])
     requires { ⌜ (listed n ≡ true) × (length (now t1) ≡ tapeLength n) × (length (now t2) ≡ tapeLength n) ⌝ }
 {
-    dealer::random::deal(n, work::PAIR, work::NUMBER, SEED, &mut *t1, &mut *t2);
+    deal(n, &mut *t1, &mut *t2);
     if jobs {
         say(b"jobs: ", work::jobs(n, count, &*t1, &*t2) as u64);
         say(b" of ", count as u64);

@@ -1,4 +1,4 @@
-// Tapes for programs that run both boxes in one memory: the trailer of any tape, the plain tapes of document 01's plainrun, and random ones.
+// Tapes for programs that run both boxes in one memory: the trailer of any tape, and the plain tapes of document 01's plainrun.
 ghost use mathlib.Core.Path.{_≡_};
 ghost use mathlib.Core.Bool.{true, _&&_, cond};
 ghost use Prim.Native.Nat.{_≤_};
@@ -9,8 +9,6 @@ ghost use Rattle.field.specs.Width.{listed};
 ghost use Rattle.lists.specs.Tabulate.{tabulate};
 ghost use Rattle.tape.specs.Layout.{bodyLength, tapeLength, trailer as tail};
 ghost use Rattle.tape.specs.Plain.{plainWord, plainTape};
-
-pub mod random;
 
 // The seven words after the body.
 pub fn trailer(n: u32, pair: u32, side: u32, number: u32, tape: &mut [u32])

@@ -10,13 +10,11 @@ use Rattle.lists.proofs.Sums.{sum-equal}
 use Rattle.lists.proofs.Tests.{and-both}
 use Rattle.field.specs.Width.{listed, modulus}
 use Rattle.tape.specs.Dealt.{Dealt}
-use Rattle.tape.specs.Plain.{plainTape}
-use Rattle.tape.proofs.Plains.{plain-dealt}
 use Rattle.encoding.specs.Matching.{indicator}
 use Rattle.exchange.specs.declared.Shares.{Shares}
 use Rattle.exchange.specs.declared.Verdict.{Verdict}
 use Rattle.exchange.proofs.Fresh.{fresh-share-refusal, fresh-answer}
-use Rattle.exhaustive.specs.Inputs.{comparison, jobAt, agreesAt, rightAt, rightOf, plainAt, plainRight}
+use Rattle.exhaustive.specs.Inputs.{comparison, jobAt, agreesAt, rightAt, rightOf}
 use Rattle.exhaustive.proofs.Small.{small, share1-below, share2-below}
 
 -- ---- from what a job gave
@@ -53,11 +51,3 @@ module _ (n : ℕ) (width : listed n ≡ true) (most : n ≤ 5) where
         sum-equal (p * p) (rightAt p n x1 x2 t1 t2) 1
         (λ i l. ap indicator (dealt-agrees (record { x = x1; y = i / p }) (record { x = x2; y = i % p }) lx1 (share1-below l some) lx2 (share2-below i some)))
         ∙ omega arith
-
-  pub plain-all : plainRight n ≡ modulus n * modulus n * (modulus n * modulus n)
-  unfolding plainRight
-  plain-all =
-      let p = modulus n in
-      let some = small width most refl .some in
-      sum-equal (p * p) (plainAt p n) (p * p)
-      (λ i l. dealt-all (plainTape n 7 1 0) (plainTape n 7 2 0) (plain-dealt n 7 0 width) (i / p) (i % p) (share1-below l some) (share2-below i some))

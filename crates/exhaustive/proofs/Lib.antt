@@ -1,2 +1,3 @@
 pub mod Small
 pub mod Agrees
+pub mod Lent

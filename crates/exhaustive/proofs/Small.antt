@@ -2,7 +2,7 @@
 use Prim.Native.Nat.{ℕ, _+_, _*_, _/_, _%_, _^_, _<_, _≤_}
 use mathlib.Core.Bool.{true}
 use mathlib.Core.Path.{_≡_, subst}
-use native.Mathlib.Nat.{le-refl, mul-le-mul, mod-lt, div-lt-iff-lt-mul}
+use native.Mathlib.Nat.{mul-le-mul, mod-lt, div-lt-iff-lt-mul}
 use native.Mathlib.Omega.{arith}
 use lib.Pow.{pow-mono}
 use Rattle.field.specs.Width.{listed, modulus}
@@ -25,17 +25,12 @@ small {n} {p} l most e =
       pairs = mul-le-mul few few;
     }
 
--- a count of at most p * p in each of at most p * p turns
-pub counted : {right i p m : ℕ} → p ≡ m → right ≤ i * (m * m) → i ≤ p * p → right ≤ m * m * (m * m)
-counted {right} {i} {p} {m} e most le =
-    let turns : i ≤ m * m = subst (λ x. i ≤ x * x) e le in
-    omega (arith, most, mul-le-mul turns (le-refl (m * m)))
-
--- so few that one turn more fits
-pub fits : {right i p m t : ℕ} → p ≡ m → p * p ≤ 961 → right ≤ i * (m * m) → i ≤ p * p → t ≤ m * m → right + t ≤ 924482
-fits {right} {i} {p} {m} {t} e few most le one =
+-- each of p * p turns counts p * p: so few that one turn more fits
+pub fits : {right i p m t : ℕ} → p ≡ m → p * p ≤ 961 → right ≡ i * (m * m) → i < p * p → t ≡ m * m → right + t ≤ 923521
+fits {right} {i} {p} {m} {t} e few told less one =
     let all : m * m ≤ 961 = subst (λ x. x * x ≤ 961) e few in
-    omega (arith, counted e most le, mul-le-mul all all, one, all)
+    let turns : i + 1 ≤ 961 = omega (arith, few, less) in
+    omega (arith, told, one, mul-le-mul turns all)
 
 -- the two shares of input i
 pub share1-below : {i p : ℕ} → i < p * p → 0 < p → i / p < p

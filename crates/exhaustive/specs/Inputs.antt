@@ -1,11 +1,12 @@
 -- What is counted: the inputs for which both boxes take the job and answer as an ordinary comparison does.
 use Prim.Native.Nat.{ℕ, _+_, _*_, _/_, _%_}
-use mathlib.Core.Bool.{Bool, _&&_}
+use mathlib.Core.Bool.{Bool, _&&_, cond}
 use mathlib.Core.List.{List}
 use lib.Dec.{eqb, ltb}
 use Rattle.lists.specs.Tabulate.{sum}
 use Rattle.field.specs.Width.{modulus}
 use Rattle.tape.specs.Plain.{plainTape}
+use Rattle.deals.specs.Deals.{dealtTape}
 use Rattle.encoding.specs.Matching.{indicator}
 use Rattle.exchange.specs.declared.Shares.{Shares}
 use Rattle.exchange.specs.Jobs.{Ended}
@@ -32,10 +33,22 @@ rightAt p n x1 x2 t1 t2 i = indicator (agreesAt n (record { x = x1; y = i / p })
 unfoldable pub rightOf : ℕ → ℕ → ℕ → List ℕ → List ℕ → ℕ
 rightOf n x1 x2 t1 t2 = sum (modulus n * modulus n) (rightAt (modulus n) n x1 x2 t1 t2)
 
--- the same for input i of x, on the plain tapes
-abbrev pub plainAt : ℕ → ℕ → ℕ → ℕ
-plainAt p n i = rightOf n (i / p) (i % p) (plainTape n 7 1 0) (plainTape n 7 2 0)
+-- a box's tape: the plain one, or the one that is dealt from a seed
+unfoldable pub tapeOf : Bool → ℕ → ℕ → ℕ → List ℕ
+tapeOf plain n seed side = cond plain (plainTape n 7 side 0) (dealtTape seed n 7 side 0)
 
--- how many of all x1, x2, y1 and y2, on the plain tapes
-unfoldable pub plainRight : ℕ → ℕ
-plainRight n = sum (modulus n * modulus n) (plainAt (modulus n) n)
+-- the seed for x1 and x2: never 0, and for shares below 31 never twice the same
+abbrev pub seedOf : ℕ → ℕ → ℕ
+seedOf x1 x2 = 1 + 31 * x1 + x2
+
+-- how many of all y1 and y2, on the tapes for x1 and x2
+abbrev pub rightWith : Bool → ℕ → ℕ → ℕ → ℕ
+rightWith plain n x1 x2 = rightOf n x1 x2 (tapeOf plain n (seedOf x1 x2) 1) (tapeOf plain n (seedOf x1 x2) 2)
+
+-- the same for input i of x
+abbrev pub rightOn : Bool → ℕ → ℕ → ℕ → ℕ
+rightOn plain p n i = rightWith plain n (i / p) (i % p)
+
+-- how many of all x1, x2, y1 and y2
+unfoldable pub allRight : Bool → ℕ → ℕ
+allRight plain n = sum (modulus n * modulus n) (rightOn plain (modulus n) n)

@@ -9,8 +9,7 @@ ghost use lib.ListN.{length};
 ghost use Rattle.field.specs.Width.{listed, modulus};
 ghost use Rattle.tape.specs.Layout.{tapeLength};
 ghost use Rattle.tape.specs.Dealt.{Dealt};
-ghost use Rattle.tape.specs.Plain.{plainTape};
-ghost use Rattle.exhaustive.specs.Inputs.{comparison, agreesAt, rightOf, plainRight};
+ghost use Rattle.exhaustive.specs.Inputs.{comparison, agreesAt, rightOf, allRight};
 
 // The ordinary comparison.
 fn expected(p: u32, box1: Shares, box2: Shares) -> u32
@@ -39,7 +38,6 @@ fn agrees(n: u32, box1: Shares, box2: Shares, t1: &[u32], t2: &[u32]) -> bool
 fn right_of(n: u32, x1: u32, x2: u32, t1: &[u32], t2: &[u32]) -> u64
     requires { ⌜ (listed n ≡ true) × (n ≤ 5) × (x1 < modulus n) × (x2 < modulus n) ⌝ }
     ensures { λ r. ⌜ r ≡ rightOf n x1 x2 (now (t1 .entry)) (now (t2 .entry)) ⌝ }
-    ensures most { λ r. ⌜ r ≤ modulus n * modulus n ⌝ }
     ensures dealt { λ r. ⌜ (Dealt n 7 0 (now (t1 .entry)) (now (t2 .entry)) → r ≡ modulus n * modulus n) ⌝ }
 {
     let p = field::modulus_of(n);
@@ -56,47 +54,21 @@ fn right_of(n: u32, x1: u32, x2: u32, t1: &[u32], t2: &[u32]) -> u64
     right
 }
 
-// How many answers were right, and the generator's next state.
-struct Turn {
-    right: u64,
-    seed: u32,
-}
-
-// A pair of tapes for one x1 and x2.
-fn with_tapes(
-    n: u32,
-    plain: bool,
-    seed: u32,
-    x1: u32,
-    x2: u32,
-    t1: &mut [u32],
-    t2: &mut [u32],
-) -> Turn
-    requires { ⌜ (listed n ≡ true) × (n ≤ 5) × (x1 < modulus n) × (x2 < modulus n) ⌝ }
-    requires { ⌜ (length (now t1) ≡ tapeLength n) × (length (now t2) ≡ tapeLength n) ⌝ }
-    ensures { λ r. ⌜ r .right ≡ rightOf n x1 x2 (now (t1 .exit)) (now (t2 .exit)) ⌝ }
-    ensures most { λ r. ⌜ r .right ≤ modulus n * modulus n ⌝ }
-    ensures plain { λ r. ⌜ (plain ≡ true → (r .seed ≡ seed) × (now (t1 .exit) ≡ plainTape n 7 1 0) × (now (t2 .exit) ≡ plainTape n 7 2 0)) ⌝ }
-{
-    let next = crate::tapes::pair(n, plain, seed, &mut *t1, &mut *t2);
-    let right = right_of(n, x1, x2, &*t1, &*t2);
-    Turn { right, seed: next }
-}
-
-// All inputs of a width, p^4 of them: on plain tapes, where all are right, or on random ones.
+// All inputs of a width, p^4 of them, on plain tapes or on dealt ones: all are right.
 pub fn right(n: u32, plain: bool, t1: &mut [u32], t2: &mut [u32]) -> u64
     requires { ⌜ (listed n ≡ true) × (n ≤ 5) × (length (now t1) ≡ tapeLength n) × (length (now t2) ≡ tapeLength n) ⌝ }
-    ensures { λ r. ⌜ (plain ≡ true → (r ≡ plainRight n) × (r ≡ modulus n * modulus n * (modulus n * modulus n))) ⌝ }
-    ensures most { λ r. ⌜ r ≤ modulus n * modulus n * (modulus n * modulus n) ⌝ }
+    ensures { λ r. ⌜ r ≡ allRight plain n ⌝ }
+    ensures all { λ r. ⌜ r ≡ modulus n * modulus n * (modulus n * modulus n) ⌝ }
 {
     let p = field::modulus_of(n);
-    let mut seed: u32 = 2463534242;
     let mut right: u64 = 0;
     let mut i = 0;
     while i < p * p {
-        let turn = with_tapes(n, plain, seed, i / p, i % p, &mut *t1, &mut *t2);
-        seed = turn.seed;
-        right += turn.right;
+        let x1 = i / p;
+        let x2 = i % p;
+        let seed = crate::tapes::seed_of(x1, x2);
+        crate::tapes::pair(n, plain, seed, &mut *t1, &mut *t2);
+        right += right_of(n, x1, x2, &*t1, &*t2);
         i += 1;
     }
     right

@@ -1,7 +1,7 @@
 -- `exhaustive::inputs::right_of` meets its contract. The loop's invariant: the inputs passed that were right are counted.
 use Prim.Native.Nat.{ℕ, _-_, _*_, _/_, _%_, _<_, _≤_}
 use mathlib.Core.Logic.{⊎-elim}
-use mathlib.Core.Path.{_≡_, refl, sym, ap, subst, _∙_}
+use mathlib.Core.Path.{_≡_, refl, sym, ap, _∙_}
 use native.Mathlib.Omega.{arith}
 use borrow.Author.Needs.{needs}
 use Rattle.lists.specs.Tabulate.{sum}
@@ -102,13 +102,8 @@ returns c =
     let counted : l .loop .right ≡ rightOf (a .n) (a .x1) (a .x2) (a .t1 .now) (a .t2 .now) =
     inv .2
     ∙ ap (λ (k : ℕ). sum k (rightAt (m .modulus-of .result) (a .n) (a .x1) (a .x2) (a .t1 .now) (a .t2 .now))) all
-    ∙ ap (λ (p : ℕ). sum (p * p) (rightAt p (a .n) (a .x1) (a .x2) (a .t1 .now) (a .t2 .now))) e in (
-      counted,
-      (
-        subst (λ x. l .loop .right ≤ x * x) e (omega (arith, inv .0, inv .1)),
-        λ dealt. counted ∙ dealt-all (a .n) (s .pre .0) (s .pre .1) (a .t1 .now) (a .t2 .now) dealt (a .x1) (a .x2) (s .pre .2) (s .pre .3),
-      ),
-    )
+    ∙ ap (λ (p : ℕ). sum (p * p) (rightAt p (a .n) (a .x1) (a .x2) (a .t1 .now) (a .t2 .now))) e in
+    (counted, λ dealt. counted ∙ dealt-all (a .n) (s .pre .0) (s .pre .1) (a .t1 .now) (a .t2 .now) dealt (a .x1) (a .x2) (s .pre .2) (s .pre .3))
 
 pub right-of-spec : {M : Type 1} → statement M
 right-of-spec =
