@@ -3,3 +3,4 @@ pub mod Runs
 pub mod Readings
 pub mod Transcripts
 pub mod Jobs
+pub mod Deals

@@ -105,7 +105,7 @@ read-step : (t : Bool) (c : Cursor) (v : ℕ) (vs : List ℕ) (n : ℕ) → cond
 read-step true c v vs n ok long = ap suc (long ok)
 read-step false c v vs n ok long = absurd (false≢true ok)
 
-read-all : (n : ℕ) (text : List ℕ) (from : ℕ) → readTo n text from .ok ≡ true → length (numbersFrom n text from) ≡ n
+pub read-all : (n : ℕ) (text : List ℕ) (from : ℕ) → readTo n text from .ok ≡ true → length (numbersFrom n text from) ≡ n
 unfolding readTo numbersFrom
 read-all zero text from ok = refl
 read-all (suc n) text from ok =

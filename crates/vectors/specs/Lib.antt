@@ -1,3 +1,4 @@
 pub mod Numbers
 pub mod Due
 pub mod Job
+pub mod Deal

@@ -5,9 +5,8 @@ use exchange::Heard;
 use exchange::Shares;
 ghost use mathlib.Core.Path.{_≡_};
 ghost use mathlib.Core.Bool.{true};
-ghost use mathlib.Core.List.{[], _∷_, _++_};
-ghost use Prim.Native.Nat.{_≤_};
-ghost use lib.ListN.{length, take};
+ghost use mathlib.Core.List.{[], _∷_};
+ghost use lib.ListN.{length};
 ghost use Rattle.protocol.specs.Rounds.{message};
 ghost use Rattle.rules.specs.Answers.{replyOf};
 ghost use Rattle.rules.specs.Calls.{outcome, partyOf};
@@ -262,20 +261,8 @@ fn compared(
     let s1 = boxes.box1;
     let words = compare::words::words_of(s1.n, round);
     let heard = exchange::round(number, round, boxes, t1, t2, w1, w2, &mut o1, &mut o2);
-    let read = both_same(text, from, words, &o1, &o2);
+    let read = crate::numbers::both_same(text, from, words, &o1, &o2);
     Round { heard, read }
-}
-
-// Whether the next numbers are both messages.
-fn both_same(text: &[u8], from: usize, words: usize, o1: &[u32], o2: &[u32]) -> Cursor
-    requires { ⌜ (words ≤ length (now o1)) × (words ≤ length (now o2)) ⌝ }
-    ensures { λ r. ⌜ r ≡ spelled (now (text .entry)) from (take words (now (o1 .entry)) ++ take words (now (o2 .entry))) ⌝ }
-{
-    let c = crate::numbers::same(text, from, &o1[..words]);
-    if !c.ok {
-        return c;
-    }
-    crate::numbers::same(text, c.at, &o2[..words])
 }
 
 // Whether the next numbers are the shares of what both boxes answered.

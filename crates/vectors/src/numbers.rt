@@ -1,7 +1,8 @@
 // Decimal numbers of a text, one after another.
 ghost use mathlib.Core.Path.{_≡_};
+ghost use mathlib.Core.List.{_++_};
 ghost use Prim.Native.Nat.{_≤_};
-ghost use lib.ListN.{length};
+ghost use lib.ListN.{length, take};
 ghost use lib.Seq.{sets};
 ghost use Rattle.vectors.specs.Numbers.{isDigit, past, nextAt, numbersFrom, readTo, spelled};
 
@@ -101,4 +102,16 @@ pub fn same(text: &[u8], from: usize, words: &[u32]) -> Cursor
         i += 1;
     }
     Cursor { at, ok: true }
+}
+
+// Whether the next numbers are the first so many words of both, one after the other.
+pub fn both_same(text: &[u8], from: usize, words: usize, first: &[u32], second: &[u32]) -> Cursor
+    requires { ⌜ (words ≤ length (now first)) × (words ≤ length (now second)) ⌝ }
+    ensures { λ r. ⌜ r ≡ spelled (now (text .entry)) from (take words (now (first .entry)) ++ take words (now (second .entry))) ⌝ }
+{
+    let c = same(text, from, &first[..words]);
+    if !c.ok {
+        return c;
+    }
+    same(text, c.at, &second[..words])
 }

@@ -1,12 +1,12 @@
--- `vectors::job::both_same` meets its contract: both parts are within their messages, and the second is read where the first ended.
+-- `vectors::numbers::both_same` meets its contract: both parts are within their slices, and the second is read where the first ended.
 use mathlib.Core.Path.{sym, _∙_}
 use borrow.Author.Needs.{needs}
 use borrow.Author.Tests.{not-true, not-false}
 use lib.ListN.{take}
 use lib.Seq.{length-take-le}
 use Rattle.vectors.proofs.Readings.{spelled-first, spelled-both}
-use Rattle.vectors.proofs.job.both_same.Statement.{statement}
-use Rattle.vectors.proofs.job.both_same.Tie as tie
+use Rattle.vectors.proofs.numbers.both_same.Statement.{statement}
+use Rattle.vectors.proofs.numbers.both_same.Tie as tie
 
 abbrev start : tie.After-same → tie.Start
 start t = t .before .before .before .before .before
@@ -21,7 +21,8 @@ returns : tie.Need-returns
 returns c =
     let t = c .before .before in
     let a = start t .args in
-    sym (spelled-first (a .text .now) (a .from) (take (a .words) (a .o1 .now)) (take (a .words) (a .o2 .now)) (t .same .result) (t .same .ensures) (not-true _ (c .if1 .taken)))
+    sym (spelled-first (a .text .now) (a .from) (take (a .words) (a .first .now)) (take (a .words) (a .second .now))
+    (t .same .result) (t .same .ensures) (not-true _ (c .if1 .taken)))
 
 slice-aggregate-same-2 : tie.Need-slice-aggregate-same-2
 slice-aggregate-same-2 c = sym (length-take-le _ _ (start (c .before .before .before) .pre .1))
@@ -34,8 +35,9 @@ returns-2 c =
     let e = c .before .before in
     let t = e .before .before in
     let a = start t .args in
-    let both = spelled-both (a .text .now) (a .from) (take (a .words) (a .o1 .now)) (take (a .words) (a .o2 .now)) (t .same .result) (t .same .ensures) (not-false _ (e .if1 .left)) in
-    c .same2 .ensures ∙ sym both
+    c .same2 .ensures
+    ∙ sym (spelled-both (a .text .now) (a .from) (take (a .words) (a .first .now)) (take (a .words) (a .second .now))
+    (t .same .result) (t .same .ensures) (not-false _ (e .if1 .left)))
 
 pub both-same-spec : {M : Type 1} → statement M
 both-same-spec =

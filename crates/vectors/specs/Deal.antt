@@ -1,0 +1,40 @@
+-- What a text must say of a test deal: the numbers that the dealer is asked with, then both tapes, as its rule gives them.
+use Prim.Native.Nat.{ℕ}
+use mathlib.Core.Path.{_≡_}
+use mathlib.Core.Bool.{Bool, true, _&&_}
+use mathlib.Core.List.{List, [], _∷_, _++_}
+use lib.Dec.{eqb}
+use lib.ListN.{getD, replicate}
+use Rattle.field.specs.Width.{listed}
+use Rattle.tape.specs.Layout.{tapeLength}
+use Rattle.deals.specs.Deals.{Deal, dealRule}
+use Rattle.vectors.specs.Numbers.{numbersFrom, readTo, spelled}
+
+-- the deal into two blank buffers of a tape's length
+unfoldable pub blankDeal : ℕ → ℕ → ℕ → ℕ → Deal
+blankDeal seed n pair number =
+    let blank : List ℕ = replicate (tapeLength n) 0 in
+    dealRule seed n pair number blank blank
+
+-- it is not refused, and the text goes on with box 1's tape and box 2's
+unfoldable pub dealTold : List ℕ → ℕ → ℕ → ℕ → ℕ → ℕ → Bool
+dealTold text from seed n pair number =
+    let deal = blankDeal seed n pair number in
+    listed n && eqb (deal .refusal) 0 && spelled text from (deal .tape1 ++ deal .tape2) .ok
+
+-- a text has seed, n, pair and tape number, then both tapes
+unfoldable pub dealAgreed : List ℕ → Bool
+dealAgreed text =
+    let head = readTo 4 text 0 in
+    let h = numbersFrom 4 text 0 in
+    head .ok && dealTold text (head .at) (getD h 0 0) (getD h 1 0) (getD h 2 0) (getD h 3 0)
+
+-- the numbers at the front of a text
+abbrev pub headed : List ℕ → ℕ → ℕ → ℕ → ℕ → Type 0
+headed text seed n pair number = numbersFrom 4 text 0 ≡ seed ∷ n ∷ pair ∷ number ∷ []
+
+-- there is a text with these numbers that agrees
+pub record AgreeingDeal (seed n pair number : ℕ) : Type 0 where
+  pub text : List ℕ
+  pub names : headed text seed n pair number
+  pub agrees : dealAgreed text ≡ true
