@@ -1,11 +1,12 @@
 -- A list whose front was written part by part.
-use Prim.Native.Nat.{ℕ, _+_, _≤_}
+use Prim.Native.Nat.{ℕ, _+_, _-_, _≤_}
 use mathlib.Core.Path.{_≡_, refl, sym, ap, ap₂, _∙_}
 use mathlib.Core.List.{List, [], _++_, append-assoc, append-nil}
+use native.Mathlib.Nat.{add-sub-cancel-left}
 use native.Mathlib.Omega.{arith}
 use borrow.Rule.Slice.PartMut.{putMid}
 use lib.ListN.{length, take, drop, length-append, length-drop, drop-of-length-le}
-use lib.Seq.{take-at, drop-at, drop-drop}
+use lib.Seq.{length-take-le, take-at, drop-at, drop-drop}
 
 -- the words of the front, then the rest as it was
 pub record Front (front old l : List ℕ) : Type 0 where
@@ -22,20 +23,30 @@ module _ {front old l : List ℕ} (h : Front front old l) where
       ∙ length-append front (drop (length front) old)
       ∙ omega (arith, length-drop (length front) old, h .within)
 
+  pub front-fits : (end : ℕ) → end ≤ length old → end ≤ length l
+  front-fits end room = omega (arith, front-long, room)
+
+  -- the part that is lent to be written
+  pub part-long : (at count : ℕ) → at + count ≤ length old → length (take (at + count - at) (drop at l)) ≡ count
+  part-long at count room =
+      length-take-le (at + count - at) (drop at l) (omega (arith, length-drop at l, front-long, room))
+      ∙ add-sub-cancel-left at count
+
   -- one part more
-  pub front-more : (at k : ℕ) (part longer : List ℕ) → length front ≡ at → k ≡ length part → at + length part ≤ length old
-      → longer ≡ front ++ part → Front longer old (putMid at k l part)
-  front-more at k part longer there whole room e =
+  pub front-more : (at count : ℕ) (part longer : List ℕ) → length front ≡ at → length part ≡ count → at + count ≤ length old
+      → longer ≡ front ++ part → Front longer old (putMid at (at + count - at) l part)
+  front-more at count part longer there size room e =
       let before : take at l ≡ front = ap (take at) (h .same) ∙ take-at front (drop (length front) old) at there in
-      let after : drop k (drop at l) ≡ drop (at + length part) old =
-      ap₂ drop whole (ap (drop at) (h .same) ∙ drop-at front (drop (length front) old) at there ∙ ap (λ (j : ℕ). drop j old) there)
-      ∙ drop-drop (length part) at old in
-      let long : length longer ≡ at + length part = ap length e ∙ length-append front part ∙ ap (λ (j : ℕ). j + length part) there in
+      let after : drop (at + count - at) (drop at l) ≡ drop (at + count) old =
+      ap₂ drop (add-sub-cancel-left at count)
+      (ap (drop at) (h .same) ∙ drop-at front (drop (length front) old) at there ∙ ap (λ (j : ℕ). drop j old) there)
+      ∙ drop-drop count at old in
+      let long : length longer ≡ at + count = ap length e ∙ length-append front part ∙ ap₂ (λ (i j : ℕ). i + j) there size in
       record {
         within = omega (arith, long, room);
         same =
             ap₂ (λ (first rest : List ℕ). first ++ (part ++ rest)) before after
-            ∙ sym (append-assoc front part (drop (at + length part) old))
+            ∙ sym (append-assoc front part (drop (at + count) old))
             ∙ ap₂ (λ (first : List ℕ) (j : ℕ). first ++ drop j old) (sym e) (sym long);
       }
 

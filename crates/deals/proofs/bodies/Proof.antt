@@ -2,13 +2,12 @@
 use Prim.Native.Nat.{ℕ, _+_, _-_, _*_, _≤_}
 use mathlib.Core.Path.{_≡_, refl, sym, ap, ap₂, _∙_}
 use mathlib.Core.List.{List, _++_}
-use native.Mathlib.Nat.{add-sub-cancel-left}
 use native.Mathlib.Numerals.{add-one}
 use native.Mathlib.Omega.{arith}
 use borrow.Author.Needs.{needs}
 use borrow.Rule.Slice.PartMut.{putMid}
-use lib.ListN.{length, take, drop, length-drop}
-use lib.Seq.{length-take-le, sets}
+use lib.ListN.{length}
+use lib.Seq.{sets}
 use Rattle.lists.specs.Tabulate.{tabulate}
 use Rattle.lists.proofs.Sets.{sets-front}
 use Rattle.tape.specs.Layout.{sectionLength, sectionStart, bodyLength}
@@ -18,7 +17,7 @@ use Rattle.draws.proofs.Draws.{draw-none, draw-after}
 use Rattle.deals.specs.Groups.{groupsOf, groupDraws}
 use Rattle.deals.specs.Deals.{drawsBefore, sectionWord, dealtSection, dealtBody}
 use Rattle.deals.proofs.Places.{sections, section-long, sections-long}
-use Rattle.deals.proofs.Fronts.{Front, front-none, front-long, front-more}
+use Rattle.deals.proofs.Fronts.{Front, front-none, front-long, front-fits, part-long, front-more}
 use Rattle.deals.proofs.bodies.Statement.{statement}
 use Rattle.deals.proofs.bodies.Tie as tie
 
@@ -66,17 +65,6 @@ module _ (w : tie.After-section-words Inv-loop μ-loop) where
   room : (old : List ℕ) → length old ≡ bodyLength n + 7 → l .loop .at + words ≤ length old
   room old long = omega (arith, section-within n kind (w .before .loop-test .taken), l .loop .inv .there, words-are, long)
 
-  end-fits : (whole old : List ℕ) → length whole ≡ length old → length old ≡ bodyLength n + 7 → l .loop .at + words ≤ length whole
-  end-fits whole old same long = omega (arith, same, room old long)
-
-  -- the part that is lent for a section
-  part-long : (whole old : List ℕ) → length whole ≡ length old → length old ≡ bodyLength n + 7
-      → length (take (l .loop .at + words - l .loop .at) (drop (l .loop .at) whole)) ≡ sectionLength n kind
-  part-long whole old same long =
-      length-take-le _ (drop (l .loop .at) whole) (omega (arith, length-drop (l .loop .at) whole, same, room old long))
-      ∙ add-sub-cancel-left (l .loop .at) words
-      ∙ words-are
-
   -- what is written there
   turn-part : (side : ℕ) (part : List ℕ) → part ≡ tabulate (sectionLength n kind) (sectionWord n side kind (l .loop .last))
       → part ≡ dealtSection (start .args .seed) n side kind
@@ -90,8 +78,7 @@ module _ (w : tie.After-section-words Inv-loop μ-loop) where
       let seed = start .args .seed in
       let at = l .loop .at in
       let long : length part ≡ words = ap length written ∙ section-long seed n side kind ∙ sym words-are in
-      front-more h at _ part _ (sections-long seed n side kind ∙ sym (l .loop .inv .there)) (add-sub-cancel-left at words ∙ sym long)
-      (omega (arith, long, room old fits))
+      front-more h at words part _ (sections-long seed n side kind ∙ sym (l .loop .inv .there)) long (room old fits)
       (ap (sections seed n side) (add-one kind) ∙ ap (λ (last : List ℕ). sections seed n side kind ++ last) (sym written))
 
 returns : tie.Need-returns Inv-loop μ-loop
@@ -135,8 +122,8 @@ section-requires c κs =
     let h = l w .loop .inv in (
       s .pre .0,
       w .before .loop-test .taken,
-      part-long w (l w .loop .t1) (s .args .t1 .now) (front-long (h .box1)) (s .pre .1),
-      part-long w (l w .loop .t2) (s .args .t2 .now) (front-long (h .box2)) (s .pre .2),
+      part-long (h .box1) (l w .loop .at) (words w) (room w (s .args .t1 .now) (s .pre .1)) ∙ words-are w,
+      part-long (h .box2) (l w .loop .at) (words w) (room w (s .args .t2 .now) (s .pre .2)) ∙ words-are w,
     )
 
 add-end : tie.Need-add-end Inv-loop μ-loop
@@ -149,12 +136,12 @@ mul-section-2 : tie.Need-mul-section-2 Inv-loop μ-loop
 mul-section-2 c = mul-section (c .before)
 
 part-section-end : tie.Need-part-section-end Inv-loop μ-loop
-part-section-end c = end-fits c (l c .loop .t1) (start c .args .t1 .now) (front-long (l c .loop .inv .box1)) (start c .pre .1)
+part-section-end c = front-fits (l c .loop .inv .box1) (l c .loop .at + words c) (room c (start c .args .t1 .now) (start c .pre .1))
 
 part-section-end-2 : tie.Need-part-section-end-2 Inv-loop μ-loop
 part-section-end-2 c =
     let w = c .before in
-    end-fits w (l w .loop .t2) (start w .args .t2 .now) (front-long (l w .loop .inv .box2)) (start w .pre .2)
+    front-fits (l w .loop .inv .box2) (l w .loop .at + words w) (room w (start w .args .t2 .now) (start w .pre .2))
 
 same-length : tie.Need-same-length Inv-loop μ-loop
 same-length c = front-long (c .before .loop .inv .box1)

@@ -2,12 +2,11 @@
 use Prim.Native.Nat.{ℕ, zero, suc, _+_, _-_, _*_, _<_, _≤_}
 use mathlib.Core.Path.{_≡_, sym, ap, _∙_}
 use mathlib.Core.List.{List, _++_}
-use native.Mathlib.Nat.{suc-mul, add-sub-cancel-left, mul-le-mul-right, lt-of-mul-lt-mul-right, eq-of-mul-eq-mul-right}
+use native.Mathlib.Nat.{suc-mul, mul-le-mul-right, lt-of-mul-lt-mul-right, eq-of-mul-eq-mul-right}
 use native.Mathlib.Omega.{arith}
 use borrow.Author.Needs.{needs}
 use borrow.Rule.Slice.PartMut.{putMid}
-use lib.ListN.{length, take, drop, length-drop}
-use lib.Seq.{length-take-le}
+use lib.ListN.{length}
 use Rattle.tape.specs.Layout.{sectionLength}
 use Rattle.lists.specs.Tabulate.{tabulate}
 use Rattle.lists.proofs.Tabulate.{length-tabulate, tabulate-append}
@@ -16,7 +15,7 @@ use Rattle.draws.proofs.Draws.{draw-none, draw-after}
 use Rattle.deals.specs.Groups.{groupsOf, groupLength, groupDraws, groupWord}
 use Rattle.deals.specs.Deals.{sectionWord}
 use Rattle.deals.proofs.Places.{section-groups, group-part}
-use Rattle.deals.proofs.Fronts.{Front, front-none, front-long, front-more, front-all}
+use Rattle.deals.proofs.Fronts.{Front, front-none, front-long, front-fits, part-long, front-more, front-all}
 use Rattle.deals.proofs.groups.section.Statement.{statement}
 use Rattle.deals.proofs.groups.section.Tie as tie
 
@@ -77,16 +76,6 @@ module _ (t : tie.In-loop Inv-loop μ-loop) where
   room2 : l .loop .at + words ≤ length (start .args .w2 .now)
   room2 = omega (arith, room, start .pre .2, start .pre .3)
 
-  end-fits : (whole old : List ℕ) → length whole ≡ length old → l .loop .at + words ≤ length old → l .loop .at + words ≤ length whole
-  end-fits whole old long fits = omega (arith, long, fits)
-
-  -- the part that is lent for a group
-  part-long : (whole old : List ℕ) → length whole ≡ length old → l .loop .at + words ≤ length old
-      → length (take (l .loop .at + words - l .loop .at) (drop (l .loop .at) whole)) ≡ words
-  part-long whole old long fits =
-      length-take-le _ (drop (l .loop .at) whole) (omega (arith, length-drop (l .loop .at) whole, long, fits))
-      ∙ add-sub-cancel-left (l .loop .at) words
-
   -- what is written there
   turn-part : (side : ℕ) (part : List ℕ) → let n = start .args .n in let kind = start .args .kind in
       part ≡ tabulate (groupLength n kind) (groupWord n side kind (l .loop .last))
@@ -105,7 +94,7 @@ module _ (t : tie.In-loop Inv-loop μ-loop) where
       let at = l .loop .at in
       let f = sectionWord (start .args .n) side (start .args .kind) (start .args .v) in
       let long : length part ≡ words = ap length written ∙ length-tabulate words (λ j. f (at + j)) in
-      front-more h at _ part _ (length-tabulate at f) (add-sub-cancel-left at words ∙ sym long) (omega (arith, long, fits))
+      front-more h at words part _ (length-tabulate at f) long fits
       (tabulate-append at words f ∙ ap (λ (rest : List ℕ). tabulate at f ++ rest) (sym written))
 
 returns : tie.Need-returns Inv-loop μ-loop
@@ -160,8 +149,8 @@ group-requires c κs =
     let h = l t .loop .inv in (
       s .pre .0,
       s .pre .1,
-      part-long t (l t .loop .w1) (s .args .w1 .now) (front-long (h .box1)) (room t) ∙ words-are t,
-      part-long t (l t .loop .w2) (s .args .w2 .now) (front-long (h .box2)) (room2 t) ∙ words-are t,
+      part-long (h .box1) (l t .loop .at) (words t) (room t) ∙ words-are t,
+      part-long (h .box2) (l t .loop .at) (words t) (room2 t) ∙ words-are t,
     )
 
 group-words-requires : tie.Need-group-words-requires Inv-loop μ-loop
@@ -180,7 +169,7 @@ part-group-start : tie.Need-part-group-start Inv-loop μ-loop
 part-group-start c = search needs
 
 part-group-end : tie.Need-part-group-end Inv-loop μ-loop
-part-group-end c = end-fits c (l c .loop .w1) (start c .args .w1 .now) (front-long (l c .loop .inv .box1)) (room c)
+part-group-end c = front-fits (l c .loop .inv .box1) (l c .loop .at + words c) (room c)
 
 mul-group-2 : tie.Need-mul-group-2 Inv-loop μ-loop
 mul-group-2 c = mul-group (c .before)
@@ -194,7 +183,7 @@ part-group-start-2 c = search needs
 part-group-end-2 : tie.Need-part-group-end-2 Inv-loop μ-loop
 part-group-end-2 c =
     let t = c .before in
-    end-fits t (l t .loop .w2) (start t .args .w2 .now) (front-long (l t .loop .inv .box2)) (room2 t)
+    front-fits (l t .loop .inv .box2) (l t .loop .at + words t) (room2 t)
 
 loop-less : tie.Need-loop-less Inv-loop μ-loop
 loop-less c =
