@@ -18,7 +18,7 @@ use Rattle.tape.proofs.Orders.{in-order}
 use Rattle.deals.specs.Groups.{freeWords, drawnSum, exponent, total, groupWord}
 use Rattle.deals.specs.Deals.{dealtTape, dealGround, dealRule}
 use Rattle.deals.specs.Dealing.{Dealing}
-use Rattle.deals.proofs.Grounds.{no-ground}
+use Rattle.deals.proofs.Grounds.{seed-ground, no-ground}
 use Rattle.deals.proofs.Places.{Holds, each-place, beforeGroup, tape-long, trailer-at, body-at, letter}
 use Rattle.deals.proofs.Equations.{section-below, both-drawn, both-left, root-total, power-total, inverse-total}
 
@@ -95,6 +95,10 @@ module _ (seed n pair number : ℕ) (t1 t2 : List ℕ) where
       ≡ record { refusal = 0; tape1 = dealtTape seed n pair 1 number; tape2 = dealtTape seed n pair 2 number }
   unfolding dealRule
   deal-taken some width long1 long2 = rw (no-ground seed n t1 t2 (λ none. omega (arith, some, none)) width long1 long2)
+
+  pub deal-seedless : seed ≡ 0 → dealRule seed n pair number t1 t2 .refusal ≡ 14
+  unfolding dealRule
+  deal-seedless none = rw (seed-ground seed n t1 t2 none)
 
   deal-refused : (dealGround seed n t1 t2 ≡ 0 → ⊥)
       → dealRule seed n pair number t1 t2 ≡ record { refusal = dealGround seed n t1 t2; tape1 = t1; tape2 = t2 }

@@ -1,14 +1,14 @@
 -- When a text tells a deal, by what was found of it.
-use Prim.Native.Nat.{ℕ, zero, suc}
-use mathlib.Core.Path.{_≡_, refl, sym, ap, _∙_}
-use mathlib.Core.Bool.{true, false, cond}
+use Prim.Native.Nat.{ℕ, _<_}
+use mathlib.Core.Path.{_≡_, refl, sym, ap, ap₂, _∙_}
+use mathlib.Core.Bool.{Bool, true, false, not, _&&_, and-false}
 use mathlib.Core.List.{List, [], _∷_, _++_}
 use native.Mathlib.Omega.{arith}
-use borrow.Author.Tests.{ne-eqb}
+use native.Mathlib.Nat.{pos-of-ne-zero}
+use borrow.Author.Tests.{eqb-true, eqb-false}
 use lib.Dec.{eqb}
-use lib.ListN.{length, getD, replicate, length-replicate, drop-of-length-le}
+use lib.ListN.{length, getD, drop-of-length-le}
 use lib.Seq.{drop-cons}
-use Rattle.lists.proofs.Tests.{and-false}
 use Rattle.field.specs.Width.{listed}
 use Rattle.refusals.specs.Numbers.{numberOf}
 use Rattle.refusals.specs.Checks.{groundOf}
@@ -17,60 +17,55 @@ use Rattle.refusals.specs.declared.Check.{Check}
 use Rattle.refusals.specs.declared.Check.the-variants.{Passed, Refused}
 use Rattle.refusals.proofs.Numbers.{numbered}
 use Rattle.tape.specs.Layout.{tapeLength}
-use Rattle.deals.specs.Deals.{Deal, dealGround, dealRule, outcome}
+use Rattle.deals.specs.Deals.{Deal, dealtTape, dealRule, outcome}
+use Rattle.deals.proofs.Dealing.{deal-taken, deal-seedless}
 use Rattle.vectors.specs.declared.numbers.Cursor.{Cursor}
 use Rattle.vectors.specs.Numbers.{numbersFrom, readTo, spelled}
-use Rattle.vectors.specs.Deal.{blankDeal, dealTold, dealAgreed, headed}
+use Rattle.vectors.specs.Deal.{dealTold, dealAgreed, headed}
 use Rattle.vectors.proofs.Readings.{read-all}
 
--- ---- a deal into two buffers of a tape's length
+-- ---- a deal of a listed width into two buffers of a tape's length, and the call that left new1 and new2 there
 
-ground-chosen : (g : ℕ) (d e : Deal) → d .refusal ≡ 0 → e .refusal ≡ g → cond (eqb g 0) d e .refusal ≡ g
-ground-chosen zero d e none some = none
-ground-chosen (suc g) d e none some = rw (ne-eqb (suc g) 0 (λ no. omega (arith, no))) some
+module _ (seed n pair number : ℕ) (t1 t2 : List ℕ) (width : listed n ≡ true)
+    (long1 : length t1 ≡ tapeLength n) (long2 : length t2 ≡ tapeLength n)
+    (check : Check) (new1 new2 : List ℕ) (call : outcome check new1 new2 ≡ dealRule seed n pair number t1 t2) where
+  -- every seed but 0 is taken
+  taken : eqb seed 0 ≡ false
+      → outcome check new1 new2 ≡ record { refusal = 0; tape1 = dealtTape seed n pair 1 number; tape2 = dealtTape seed n pair 2 number }
+  taken some =
+      let above : 0 < seed = pos-of-ne-zero (eqb-false seed 0 some) in
+      call ∙ deal-taken seed n pair number t1 t2 above width long1 long2
 
--- a deal's refusal is its ground
-refusal-ground : (seed n pair number : ℕ) (t1 t2 : List ℕ) → dealRule seed n pair number t1 t2 .refusal ≡ dealGround seed n t1 t2
-unfolding dealRule
-refusal-ground seed n pair number t1 t2 = ground-chosen (dealGround seed n t1 t2) _ _ refl refl
+  pub deal-refused : (text : List ℕ) (from : ℕ) (refusal : Refusal) → check ≡ Refused refusal → false ≡ dealTold text from seed n pair number
+  unfolding dealTold
+  deal-refused text from refusal is = go (eqb seed 0) refl
+    where
+      go : (t : Bool) → eqb seed 0 ≡ t
+          → false ≡ (not t && listed n && spelled text from (dealtTape seed n pair 1 number ++ dealtTape seed n pair 2 number) .ok)
+      go true none = refl
+      go false some =
+          let zero : numberOf refusal ≡ 0 = ap groundOf (sym is) ∙ ap (λ (d : Deal). d .refusal) (taken some) in
+          absurd (omega (arith, zero, numbered refusal))
 
-module _ (seed n pair number : ℕ) (t1 t2 : List ℕ) (long1 : length t1 ≡ tapeLength n) (long2 : length t2 ≡ tapeLength n) where
-  -- what they hold is no ground
-  same-ground : dealGround seed n t1 t2 ≡ dealGround seed n (replicate (tapeLength n) 0) (replicate (tapeLength n) 0)
-  unfolding dealGround
-  same-ground = rw (long1, long2, length-replicate {A = ℕ} (tapeLength n) 0)
-
-  -- so it is refused just where one into blank buffers is
-  refused-same : blankDeal seed n pair number .refusal ≡ dealRule seed n pair number t1 t2 .refusal
-  unfolding blankDeal
-  refused-same = refusal-ground seed n pair number _ _ ∙ sym (refusal-ground seed n pair number t1 t2 ∙ same-ground)
-
-  -- where it is not, the two give the same
-  deal-same : dealRule seed n pair number t1 t2 .refusal ≡ 0 → dealRule seed n pair number t1 t2 ≡ blankDeal seed n pair number
-  unfolding dealRule blankDeal
-  deal-same none =
-      let ground : dealGround seed n t1 t2 ≡ 0 = sym (refusal-ground seed n pair number t1 t2) ∙ none in
-      rw (← same-ground, ground)
-
-  -- of a call that left new1 and new2 there
-  module _ (text : List ℕ) (from : ℕ) (check : Check) (new1 new2 : List ℕ) (e : outcome check new1 new2 ≡ dealRule seed n pair number t1 t2) where
-    ground : groundOf check ≡ dealRule seed n pair number t1 t2 .refusal
-    ground = ap (λ (d : Deal). d .refusal) e
-
-    pub deal-refused : (refusal : Refusal) → check ≡ Refused refusal → false ≡ dealTold text from seed n pair number
-    unfolding dealTold
-    deal-refused refusal is =
-        let numbered-so : blankDeal seed n pair number .refusal ≡ numberOf refusal = refused-same ∙ sym ground ∙ ap groundOf is in
-        rw (numbered-so, and-false (listed n) (ne-eqb (numberOf refusal) 0 (λ none. omega (arith, none, numbered refusal))))
-
-    pub deal-told : (c : Cursor) → listed n ≡ true → check ≡ Passed → c ≡ spelled text from (new1 ++ new2)
-        → c .ok ≡ dealTold text from seed n pair number
-    unfolding dealTold
-    deal-told c width is told = rw (width, ← deal-same (sym ground ∙ ap groundOf is), ← e, is, told)
+  pub deal-told : (text : List ℕ) (from : ℕ) (c : Cursor) → check ≡ Passed → c ≡ spelled text from (new1 ++ new2)
+      → c .ok ≡ dealTold text from seed n pair number
+  unfolding dealTold
+  deal-told text from c is told = go (eqb seed 0) refl
+    where
+      go : (t : Bool) → eqb seed 0 ≡ t
+          → c .ok ≡ (not t && listed n && spelled text from (dealtTape seed n pair 1 number ++ dealtTape seed n pair 2 number) .ok)
+      go true none =
+          let refused : _≡_ {A = ℕ} 0 14 =
+          ap groundOf (sym is) ∙ ap (λ (d : Deal). d .refusal) call ∙ deal-seedless seed n pair number t1 t2 (eqb-true seed 0 none) in
+          absurd (omega (arith, refused))
+      go false some =
+          let deal = taken some in
+          rw (width, told)
+          (ap₂ (λ (x y : List ℕ). spelled text from (x ++ y) .ok) (ap (λ (d : Deal). d .tape1) deal) (ap (λ (d : Deal). d .tape2) deal))
 
 pub deal-unlisted : (text : List ℕ) (from seed n pair number : ℕ) → listed n ≡ false → false ≡ dealTold text from seed n pair number
 unfolding dealTold
-deal-unlisted text from seed n pair number e = rw e
+deal-unlisted text from seed n pair number e = rw (e, and-false (not (eqb seed 0))) refl
 
 -- ---- a text, of which c read the four numbers at the front
 

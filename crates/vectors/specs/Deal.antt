@@ -1,26 +1,18 @@
 -- What a text must say of a test deal: the numbers that the dealer is asked with, then both tapes, as its rule gives them.
 use Prim.Native.Nat.{ℕ}
 use mathlib.Core.Path.{_≡_}
-use mathlib.Core.Bool.{Bool, true, _&&_}
+use mathlib.Core.Bool.{Bool, true, not, _&&_}
 use mathlib.Core.List.{List, [], _∷_, _++_}
 use lib.Dec.{eqb}
-use lib.ListN.{getD, replicate}
+use lib.ListN.{getD}
 use Rattle.field.specs.Width.{listed}
-use Rattle.tape.specs.Layout.{tapeLength}
-use Rattle.deals.specs.Deals.{Deal, dealRule}
+use Rattle.deals.specs.Deals.{dealtTape}
 use Rattle.vectors.specs.Numbers.{numbersFrom, readTo, spelled}
 
--- the deal into two blank buffers of a tape's length
-unfoldable pub blankDeal : ℕ → ℕ → ℕ → ℕ → Deal
-blankDeal seed n pair number =
-    let blank : List ℕ = replicate (tapeLength n) 0 in
-    dealRule seed n pair number blank blank
-
--- it is not refused, and the text goes on with box 1's tape and box 2's
+-- the dealer refuses neither the seed nor the width, and the text goes on with box 1's tape and box 2's
 unfoldable pub dealTold : List ℕ → ℕ → ℕ → ℕ → ℕ → ℕ → Bool
 dealTold text from seed n pair number =
-    let deal = blankDeal seed n pair number in
-    listed n && eqb (deal .refusal) 0 && spelled text from (deal .tape1 ++ deal .tape2) .ok
+    not (eqb seed 0) && listed n && spelled text from (dealtTape seed n pair 1 number ++ dealtTape seed n pair 2 number) .ok
 
 -- a text has seed, n, pair and tape number, then both tapes
 unfoldable pub dealAgreed : List ℕ → Bool

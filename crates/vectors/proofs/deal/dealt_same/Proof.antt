@@ -63,9 +63,8 @@ returns-3 c =
     let d = told .before .before .before .before in
     let b = blanks d in
     let v = start d .args in
-    deal-told (v .seed) (v .n) (v .pair) (v .number) _ _ (cut1 b .whole) (cut2 b .whole) (v .text .now) (v .from)
-    (d .deal .result) (new1 d) (new2 d) (d .deal .ensures)
-    (c .both-same .result) (width (b .before .before .before)) (told .enum-told2 .given .1)
+    deal-told (v .seed) (v .n) (v .pair) (v .number) _ _ (width (b .before .before .before)) (cut1 b .whole) (cut2 b .whole)
+    (d .deal .result) (new1 d) (new2 d) (d .deal .ensures) (v .text .now) (v .from) (c .both-same .result) (told .enum-told2 .given .1)
     (c .both-same .ensures ∙ ap₂ (λ (x y : List ℕ). spelled (v .text .now) (v .from) (x ++ y)) (front1 d) (front2 d))
 
 returns : tie.Need-returns
@@ -78,8 +77,8 @@ returns-2 c =
     let d = c .before .before .before .before in
     let b = blanks d in
     let v = start d .args in
-    deal-refused (v .seed) (v .n) (v .pair) (v .number) _ _ (cut1 b .whole) (cut2 b .whole) (v .text .now) (v .from)
-    (d .deal .result) (new1 d) (new2 d) (d .deal .ensures) _ (c .enum-told .given .1)
+    deal-refused (v .seed) (v .n) (v .pair) (v .number) _ _ (width (b .before .before .before)) (cut1 b .whole) (cut2 b .whole)
+    (d .deal .result) (new1 d) (new2 d) (d .deal .ensures) (v .text .now) (v .from) _ (c .enum-told .given .1)
 
 is-listed-requires : tie.Need-is-listed-requires
 is-listed-requires c κs = search needs
