@@ -5,8 +5,6 @@ ghost use Prim.Native.Nat.{_<_};
 ghost use lib.ListN.{length};
 ghost use Rattle.rules.specs.Tally.{tallyFits, tapesOf, isFresh, freshCount};
 
-const LONGEST: usize = 65536;
-
 const FRESH: u8 = 255;
 
 const SPENT: u8 = 0;
@@ -15,7 +13,7 @@ const SPENT: u8 = 0;
 pub fn tally_fits(length: usize) -> bool
     ensures { λ r. ⌜ r ≡ tallyFits length ⌝ }
 {
-    1 <= length && length <= LONGEST
+    1 <= length && length <= crate::LONGEST_TALLY
 }
 
 // How many tapes a tally of that length has marks for.

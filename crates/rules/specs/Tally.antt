@@ -6,8 +6,9 @@ use lib.Dec.{eqb, leb}
 use lib.ListN.{length, getD, set}
 use Rattle.lists.specs.Tabulate.{sum}
 
+-- document 02, P2: no tally is longer (document 01 has 65,536)
 abbrev pub longestTally : ℕ
-longestTally = 65536
+longestTally = 2920
 
 -- a tally's length is in the paper's range
 unfoldable pub tallyFits : ℕ → Bool

@@ -10,6 +10,7 @@ use Rattle.tape.specs.Layout.{tapeLength}
 use Rattle.protocol.specs.Products.{Party, party}
 use Rattle.protocol.specs.Rounds.{lastRound, message}
 use Rattle.protocol.specs.Exchange.{Both, exchanged, answerOwn, answerOthers}
+use Rattle.rules.specs.Tally.{longestTally}
 use Rattle.exchange.specs.Opening.{refusalOf, begun}
 use Rattle.exchange.specs.Boxes.{works}
 use Rattle.exchange.specs.Memory.{blankWork}
@@ -30,7 +31,7 @@ transcript box1 box2 w = messagesTo box1 box2 w lastRound ++ (answerOwn box1 box
 
 -- a tally of which no tape is used
 unfoldable pub unusedTally : List ℕ
-unusedTally = replicate 65536 255
+unusedTally = replicate longestTally 255
 
 -- a box comes to the job and is not refused
 abbrev pub comes : ℕ → ℕ → ℕ → ℕ → ℕ → ℕ → List ℕ → Bool

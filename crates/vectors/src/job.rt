@@ -9,6 +9,7 @@ ghost use mathlib.Core.List.{[], _∷_};
 ghost use lib.ListN.{length};
 ghost use Rattle.protocol.specs.Rounds.{message};
 ghost use Rattle.rules.specs.Answers.{replyOf};
+ghost use Rattle.rules.specs.Tally.{longestTally};
 ghost use Rattle.rules.specs.Calls.{outcome, partyOf};
 ghost use Rattle.exchange.specs.Opening.{shareOf};
 ghost use Rattle.exchange.specs.Boxes.{heardAfter, works};
@@ -136,10 +137,10 @@ fn on_tapes(
 }
 
 // The tally of a pair of which no tape is used.
-fn unused_tally() -> [u8; 65536]
-    ensures { λ r. ⌜ (length r ≡ 65536) × (r ≡ unusedTally) ⌝ }
+fn unused_tally() -> [u8; limit_box::LONGEST_TALLY]
+    ensures { λ r. ⌜ (length r ≡ longestTally) × (r ≡ unusedTally) ⌝ }
 {
-    [255; 65536]
+    [255; limit_box::LONGEST_TALLY]
 }
 
 // Both boxes come to the job. One that is refused doesn't agree.

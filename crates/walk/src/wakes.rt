@@ -14,18 +14,18 @@ fn states_and_words() {
 
 // No byte, the longest tally, and one byte more.
 fn tallies() {
-    let longest = [255u8; 65536];
-    let longer = [255u8; 65537];
+    let longest = [255u8; 2920];
+    let longer = [255u8; 2921];
     line(
         b"wake, tally of 0 bytes: ",
         wake(states::asleep(), 3, 1, &longest[..0]),
     );
     line(
-        b"wake, tally of 65536 bytes: ",
+        b"wake, tally of 2920 bytes: ",
         wake(states::asleep(), 3, 1, &longest),
     );
     line(
-        b"wake, tally of 65537 bytes: ",
+        b"wake, tally of 2921 bytes: ",
         wake(states::asleep(), 3, 1, &longer),
     );
 }
