@@ -32,7 +32,7 @@ fn kept_words() {
     line(b"n 4:", 4, 1, 4, due);
     line(b"side 3:", 3, 3, 4, due);
     line(b"tally 0:", 3, 1, 0, due);
-    line(b"tally 2920, in range:", 3, 1, 2920, due);
+    line(b"in range, tally 2920:", 3, 1, 2920, due);
     line(b"tally 2921:", 3, 1, 2921, due);
     line(b"n 4, idle:", 4, 1, 4, Phase::Idle);
 }
