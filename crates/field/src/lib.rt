@@ -40,19 +40,25 @@ fn both(a: bool, b: bool) -> bool
     a && b
 }
 
-// Whether all of the words are below p. Each is read whatever the others are, so that several can be read at a time.
+// Whether all of the words are below a bound. Each is read whatever the others are, so that several can be read at a time.
+pub fn all_below(bound: u32, words: &[u32]) -> bool
+    ensures { λ r. ⌜ r ≡ every (length (now (words .entry))) (λ i. ltb (getD (now (words .entry)) i 0) bound) ⌝ }
+{
+    let mut all = true;
+    let mut i = 0;
+    while i < words.len() {
+        all = both(all, words[i] < bound);
+        i += 1;
+    }
+    all
+}
+
+// Whether all of the words are below p.
 pub fn all_in_range(n: u32, words: &[u32]) -> bool
     requires { ⌜ listed n ≡ true ⌝ }
     ensures { λ r. ⌜ r ≡ every (length (now (words .entry))) (λ i. ltb (getD (now (words .entry)) i 0) (modulus n)) ⌝ }
 {
-    let p = modulus_of(n);
-    let mut all = true;
-    let mut i = 0;
-    while i < words.len() {
-        all = both(all, words[i] < p);
-        i += 1;
-    }
-    all
+    all_below(modulus_of(n), words)
 }
 
 // One step of the reduction: 2^n is 1 modulo p, so the words above and below bit n are added.
@@ -102,7 +108,7 @@ pub fn reduce_wide(n: u32, x: u64) -> u32
 }
 
 pub fn add(n: u32, a: u32, b: u32) -> u32
-    requires { ⌜ (listed n ≡ true) × (a < modulus n) × (b < modulus n) ⌝ }
+    requires { ⌜ (listed n ≡ true) × (a < modulus n) × (b ≤ modulus n) ⌝ }
     ensures { λ r. ⌜ r ≡ (a + b) % modulus n ⌝ }
     ensures below { λ r. ⌜ r < modulus n ⌝ }
 {

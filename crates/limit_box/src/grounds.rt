@@ -151,7 +151,7 @@ fn message_fits(n: u32, turn: Turn, length: usize) -> bool
     }
 }
 
-// The incoming words are below p.
+// The incoming words can be read.
 pub fn word_check(earlier: Check, n: u32, incoming: &[u32]) -> Check
     requires { ⌜ (groundOf earlier ≡ 0 → listed n ≡ true) ⌝ }
     ensures { λ r. ⌜ groundOf r ≡ thenGround earlier (firstOf (wordGrounds n (now (incoming .entry)))) ⌝ }
@@ -162,10 +162,10 @@ pub fn word_check(earlier: Check, n: u32, incoming: &[u32]) -> Check
     when(earlier, !words_fit(n, incoming), Refusal::Word)
 }
 
-// Whether every incoming word is below p.
+// Whether no incoming word is above p.
 fn words_fit(n: u32, words: &[u32]) -> bool
     requires { ⌜ listed n ≡ true ⌝ }
     ensures { λ r. ⌜ r ≡ wordsFit n (now (words .entry)) ⌝ }
 {
-    field::all_in_range(n, words)
+    shares::all_legible(n, words)
 }

@@ -20,6 +20,10 @@ every-at (suc n) f e k l =
     (λ less. every-at n f (and-left (every n f) (f n) e) k less)
     (eq-or-lt-of-le (le-of-suc-le-suc l))
 
+pub every-same : (n : ℕ) (f g : ℕ → Bool) → ((k : ℕ) → k < n → f k ≡ g k) → every n f ≡ every n g
+every-same zero f g h = refl
+every-same (suc n) f g h = rw (every-same n f g (λ k l. h k (omega arith)), h n (omega arith)) refl
+
 -- one index at which the test fails is enough
 pub every-fails : (n : ℕ) (f : ℕ → Bool) (k : ℕ) → k < n → f k ≡ false → every n f ≡ false
 every-fails zero f k l e = absurd (not-suc-le-zero l)

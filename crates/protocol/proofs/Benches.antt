@@ -3,6 +3,7 @@ use mathlib.Core.Path.{_≡_, refl}
 use Rattle.field.specs.Subtraction.{minus}
 use Rattle.field.specs.Width.{modulus}
 use Rattle.shares.specs.Side.{other}
+use Rattle.shares.specs.Reading.{read}
 use Rattle.shares.specs.Share.{constantShare, opened, squareShare, productShare}
 use Rattle.tape.specs.Layout.{section}
 use Rattle.tape.specs.Dealt.{squarePair}
@@ -20,7 +21,7 @@ use Rattle.protocol.specs.Exchange.{exchanged, sentOwn, sentOthers, answ
 use Rattle.protocol.specs.Bench.{wrapAt, lowSumAt, lowAt, halfAt, lessAt, given, expected}
 
 pub bench : given ≡ expected
-unfolding modulus other constantShare minus opened squareShare productShare section squarePair plainTape
+unfolding modulus other constantShare minus read opened squareShare productShare section squarePair plainTape
     rangeCode pointCode levelCode sameBits coefficient polynomial complement exclusive held
     openLeft openRight openings closed closing bitDifference squareClosing matchCount levelMatch wrapShare
     squareWord lowProducts lowSum levelProducts wrapProducts halfShare halfProduct lastLeft lastRight lastProduct

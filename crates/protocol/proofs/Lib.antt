@@ -9,6 +9,7 @@ pub mod Halves
 pub mod Sums
 pub mod Values
 pub mod ByRound
+pub mod AsRead
 pub mod Below
 pub mod Slots
 pub mod Stages

@@ -20,6 +20,7 @@ use Rattle.field.proofs.Congruences.{cong-refl, cong-eq, _⊙_, cong-mod, cong-
 use Rattle.field.proofs.Sums.{cong-sum}
 use Rattle.shares.specs.Side.{other}
 use Rattle.shares.specs.Share.{constantShare, opened}
+use Rattle.shares.proofs.Reading.{opened-sum}
 use Rattle.shares.proofs.Products.{opened-both}
 use Rattle.tape.specs.Layout.{section, squareCount, groupCount}
 use Rattle.tape.specs.Dealt.{Matched}
@@ -147,7 +148,6 @@ module _ {n pair number side : ℕ} {t1 t2 : List ℕ} (m : Matched n pair numbe
       (levelMatch n side (levelOpened n v1 (message otherBox v2 3) (t * n + i)) (section n 1 t1) (t * n + i)
       + levelMatch n (other side) (levelOpened n v2 (message ownBox v1 3) (t * n + i)) (section n 1 t2) (t * n + i))
       (indicator (eqb (levelCode n side (doubled n x1 y1 t) i) (levelCode n (other side) (doubled n x2 y2 t) i)))
-  unfolding opened
   level-total-3 t i lt li same =
       let g = t * n + i in
       let less : g < groupCount n = group-index n t i lt li in
@@ -155,7 +155,7 @@ module _ {n pair number side : ℕ} {t1 t2 : List ℕ} (m : Matched n pair numbe
       let c1 = levelCode n side (doubled n x1 y1 t) i in
       let c2 = levelCode n (other side) (doubled n x2 y2 t) i in
       rw (levels-heard otherBox v2 g less, levels-heard ownBox v1 g less, opened-both n (held n v2 g) (held n v1 g))
-      (level-total m g d (1 + shared g) less (cong-mod ⊙ same)
+      (level-total m g d (1 + shared g) less (cong-eq (opened-sum n (held n v1 g) (held n v2 g)) ⊙ cong-mod ⊙ same)
       ⊙ cong-eq (rw (digits-div t li, digits-mod t li) refl)
       ⊙ level-match n c1 c2 l
       (code-fits n side (doubled n x1 y1 t) i l (doubled-below n l x1 y1 t) li)

@@ -6,3 +6,4 @@ pub mod Spoken
 mod Refusals
 mod Moves
 pub mod Answering
+pub mod AsRead

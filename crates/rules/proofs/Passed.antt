@@ -9,10 +9,9 @@ use lib.ListN.{length, getD, List·getD-eq-default}
 use borrow.Author.Tests.{ltb-true, ltb-false, leb-true, eqb-true, not-false}
 use Rattle.lists.proofs.Every.{every-at}
 use Rattle.field.specs.Width.{listed, modulus}
-use Rattle.field.proofs.Widths.{bounds}
 use Rattle.shares.specs.Side.{isSide}
+use Rattle.shares.specs.Reading.{legible}
 use Rattle.tape.specs.Order.{inOrder}
-use Rattle.protocol.specs.Words.{Below}
 use Rattle.protocol.specs.Work.{workLength}
 use Rattle.protocol.specs.Rounds.{roundWords}
 use Rattle.refusals.specs.Grounds.{firstOf}
@@ -156,11 +155,12 @@ hear-passed s number round tape work incoming e =
     }
 
 -- a word past the end reads as 0
-pub words-below : (n : ℕ) (words : List ℕ) → listed n ≡ true → wordsFit n words ≡ true → Below (modulus n) words
-words-below n words l e = record { at = λ i. go i (ltb i (length words)) refl }
+pub words-most : (n : ℕ) (words : List ℕ) → wordsFit n words ≡ true → (i : ℕ) → getD words i 0 ≤ modulus n
+unfolding legible
+words-most n words e i = go (ltb i (length words)) refl
   where
-    go : (i : ℕ) (t : Bool) → ltb i (length words) ≡ t → getD words i 0 < modulus n
-    go i true less =
-        ltb-true (getD words i 0) (modulus n)
-        (every-at (length words) (λ k. ltb (getD words k 0) (modulus n)) e i (ltb-true i (length words) less))
-    go i false past = rw (List·getD-eq-default words 0 (ltb-false i (length words) past)) (omega (arith, bounds l))
+    go : (t : Bool) → ltb i (length words) ≡ t → getD words i 0 ≤ modulus n
+    go true less =
+        leb-true (getD words i 0) (modulus n)
+        (every-at (length words) (λ k. legible n (getD words k 0)) e i (ltb-true i (length words) less))
+    go false past = rw (List·getD-eq-default words 0 (ltb-false i (length words) past)) (omega arith)

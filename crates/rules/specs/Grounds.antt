@@ -7,6 +7,7 @@ use lib.ListN.{length, getD}
 use Rattle.lists.specs.Every.{every}
 use Rattle.field.specs.Width.{listed, modulus}
 use Rattle.shares.specs.Side.{isSide}
+use Rattle.shares.specs.Reading.{legible}
 use Rattle.tape.specs.Order.{inOrder}
 use Rattle.protocol.specs.Work.{workLength}
 use Rattle.protocol.specs.Rounds.{roundWords}
@@ -19,9 +20,9 @@ use Rattle.rules.specs.declared.state.Turn.the-variants.{Speak, Hear}
 use Rattle.rules.specs.declared.state.Phase.{Phase}
 use Rattle.rules.specs.declared.state.State.{State}
 
--- every word of the list is below p
+-- every word of a message can be read: none is above p (document 02, P3)
 abbrev pub wordsFit : ℕ → List ℕ → Bool
-wordsFit n words = every (length words) (λ i. ltb (getD words i 0) (modulus n))
+wordsFit n words = every (length words) (λ i. legible n (getD words i 0))
 
 -- ---- what is looked at
 

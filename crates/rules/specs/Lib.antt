@@ -6,3 +6,4 @@ pub mod Calls
 pub mod AnyCall
 pub mod Moves
 pub mod Answering
+pub mod AsRead

@@ -1,2 +1,3 @@
 pub mod Sides
+pub mod Reading
 pub mod Products

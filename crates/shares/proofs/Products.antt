@@ -1,6 +1,6 @@
 -- With a dealt square or Beaver triple, the two boxes' shares add up to the square or the product. `side` is either box.
 use Prim.Native.Nat.{ℕ, _+_, _-_, _*_, _%_, _<_, _≤_}
-use mathlib.Core.Path.{_≡_, ap}
+use mathlib.Core.Path.{_≡_, sym, ap, _∙_}
 use mathlib.Core.Bool.{true}
 use native.Mathlib.Nat.{mod-lt, add-comm}
 use native.Mathlib.Omega.{arith}
@@ -12,6 +12,7 @@ use Rattle.field.proofs.Congruences.{cong-refl, cong-eq, _⊙_, cong-mod, cong-
 use Rattle.shares.specs.Side.{isSide, other}
 use Rattle.shares.specs.Share.{masked, opened, squareShare, productShare}
 use Rattle.shares.proofs.Sides.{constant-total}
+use Rattle.shares.proofs.Reading.{opened-sum}
 
 pub product-share-below : (n side e f a b c : ℕ) → listed n ≡ true → productShare n side e f a b c < modulus n
 unfolding productShare
@@ -21,15 +22,14 @@ product-share-below n side e f a b c l = mod-lt _ (omega (arith, bounds l))
 
 -- both boxes open the same value
 pub opened-both : (n s h : ℕ) → opened n s h ≡ opened n h s
-unfolding opened
-opened-both n s h = ap (λ (x : ℕ). x % modulus n) (add-comm s h)
+opened-both n s h = opened-sum n s h ∙ ap (λ (x : ℕ). x % modulus n) (add-comm s h) ∙ sym (opened-sum n h s)
 
 -- what is opened, with the two mask words, adds up to the value
 pub opened-plus : (n v1 v2 a1 a2 : ℕ) → a1 ≤ modulus n → a2 ≤ modulus n
     → Cong (modulus n) (a1 + a2 + opened n (masked n v1 a1) (masked n v2 a2)) (v1 + v2)
-unfolding opened
 opened-plus n v1 v2 a1 a2 l1 l2 =
-    cong-add cong-refl cong-mod
+    cong-eq (ap (λ (x : ℕ). a1 + a2 + x) (opened-sum n (masked n v1 a1) (masked n v2 a2)))
+    ⊙ cong-add cong-refl cong-mod
     ⊙ cong-eq {b = (a1 + masked n v1 a1) + (a2 + masked n v2 a2)} (omega arith)
     ⊙ cong-add (plus-minus n v1 a1 l1) (plus-minus n v2 a2 l2)
 

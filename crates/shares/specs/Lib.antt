@@ -1,2 +1,3 @@
 pub mod Side
+pub mod Reading
 pub mod Share

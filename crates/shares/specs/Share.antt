@@ -1,9 +1,11 @@
--- The share products of document 01, "The field and the shares", as one box works them out. All words are below p.
+-- The share products of document 01, "The field and the shares", as one box works them out. All words are below p, but for one from the
+-- line, which is read first.
 use Prim.Native.Nat.{ℕ, _+_, _*_, _%_}
 use mathlib.Core.Bool.{cond}
 use lib.Dec.{eqb}
 use Rattle.field.specs.Width.{modulus}
 use Rattle.field.specs.Subtraction.{minus}
+use Rattle.shares.specs.Reading.{read}
 
 -- a box's share of a public constant: box 1 alone adds it
 unfoldable pub constantShare : ℕ → ℕ → ℕ
@@ -13,9 +15,9 @@ constantShare side c = cond (eqb side 1) c 0
 abbrev pub masked : ℕ → ℕ → ℕ → ℕ
 masked n v a = minus n v a
 
--- an opened value: the word that was sent and the word that was heard
+-- an opened value: the word that was sent and the word that was heard, read
 unfoldable pub opened : ℕ → ℕ → ℕ → ℕ
-opened n sent heard = (sent + heard) % modulus n
+opened n sent heard = (sent + read n heard) % modulus n
 
 -- the share of v², from the opened e = v − a and the dealt square (a, q)
 unfoldable pub squareShare : ℕ → ℕ → ℕ → ℕ → ℕ → ℕ

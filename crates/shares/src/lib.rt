@@ -2,8 +2,11 @@
 ghost use mathlib.Core.Path.{_≡_};
 ghost use mathlib.Core.Bool.{true};
 ghost use Prim.Native.Nat.{_*_, _%_, _<_, _≤_};
+ghost use lib.ListN.{length, getD};
+ghost use Rattle.lists.specs.Every.{every};
 ghost use Rattle.field.specs.Width.{listed, modulus};
 ghost use Rattle.shares.specs.Side.{isSide};
+ghost use Rattle.shares.specs.Reading.{legible};
 ghost use Rattle.shares.specs.Share.{constantShare, masked, opened, squareShare, productShare};
 
 // Whether the number is a box's side.
@@ -30,9 +33,17 @@ pub fn mask(n: u32, v: u32, a: u32) -> u32
     field::sub(n, v, a)
 }
 
-// The opened value. Every word from the line is read here.
+// Whether all of the words can be read from the line: none is above p.
+pub fn all_legible(n: u32, words: &[u32]) -> bool
+    requires { ⌜ listed n ≡ true ⌝ }
+    ensures { λ r. ⌜ r ≡ every (length (now (words .entry))) (λ i. legible n (getD (now (words .entry)) i 0)) ⌝ }
+{
+    field::all_below(field::modulus_of(n) + 1, words)
+}
+
+// The opened value. Every word from the line is read here: p counts as 0 without a branch, since the sum is reduced.
 pub fn open(n: u32, sent: u32, heard: u32) -> u32
-    requires { ⌜ (listed n ≡ true) × (sent < modulus n) × (heard < modulus n) ⌝ }
+    requires { ⌜ (listed n ≡ true) × (sent < modulus n) × (heard ≤ modulus n) ⌝ }
     ensures { λ r. ⌜ r ≡ opened n sent heard ⌝ }
     ensures below { λ r. ⌜ r < modulus n ⌝ }
 {

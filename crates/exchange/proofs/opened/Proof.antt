@@ -1,5 +1,6 @@
 -- `exchange::opened` meets its contract: an out that is too short is refused, and otherwise the two answer shares are added.
 use Prim.Native.Nat.{ℕ, _+_, _%_, _<_}
+use native.Mathlib.Nat.{le-of-lt}
 use mathlib.Core.Path.{_≡_, sym, ap, ap₂, subst, _∙_}
 use mathlib.Core.Bool.{true}
 use borrow.Author.Needs.{needs}
@@ -103,7 +104,7 @@ add-requires c κs =
     let listed2 = ranged (v .boxes .box2) (s .pre .0 .1 .ranged) .width in (
       width s,
       rw (share1 (c .before)) (subst (λ (n : ℕ). answerOwn (box1 s) (box2 s) (first s) < modulus n) width1 (own-below (box1 s) (box2 s) (first s) listed1)),
-      rw (share2 c) (subst (λ (n : ℕ). answerOthers (box1 s) (box2 s) (first s) < modulus n) width2 (others-below (box1 s) (box2 s) (first s) listed2)),
+      le-of-lt (rw (share2 c) (subst (λ (n : ℕ). answerOthers (box1 s) (box2 s) (first s) < modulus n) width2 (others-below (box1 s) (box2 s) (first s) listed2))),
     )
 
 same-length-3 : tie.Need-same-length-3

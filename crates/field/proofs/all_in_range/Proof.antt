@@ -1,9 +1,6 @@
--- `field::all_in_range` meets its contract: what is kept is the test of the words read so far.
-use Prim.Native.Nat.{_-_, _≤_}
-use mathlib.Core.Path.{_≡_, refl, ap, _∙_}
-use mathlib.Core.Bool.{Bool, _&&_}
-use native.Mathlib.Numerals.{add-one}
-use native.Mathlib.Omega.{arith}
+-- `field::all_in_range` meets its contract.
+use Prim.Native.Nat.{ℕ}
+use mathlib.Core.Path.{ap, _∙_}
 use borrow.Author.Needs.{needs}
 use lib.Dec.{ltb}
 use lib.ListN.{length, getD}
@@ -11,57 +8,16 @@ use Rattle.lists.specs.Every.{every}
 use Rattle.field.proofs.all_in_range.Statement.{statement}
 use Rattle.field.proofs.all_in_range.Tie as tie
 
-abbrev Inv-loop : tie.InvT-loop
-Inv-loop n words p all₀ i₀ all i = (i ≤ length words) × (all ≡ every i (λ k. ltb (getD words k 0) p))
-
-abbrev μ-loop : tie.MeasureT-loop
-μ-loop n words p all₀ i₀ all i = length words - i
-
-modulus-of-requires : tie.Need-modulus-of-requires Inv-loop μ-loop
+modulus-of-requires : tie.Need-modulus-of-requires
 modulus-of-requires c κs = search needs
 
-loop-holds : tie.Need-loop-holds Inv-loop μ-loop
-loop-holds c = (omega arith, refl)
+all-below-requires : tie.Need-all-below-requires
+all-below-requires c κs = search needs
 
-mul-both : tie.Need-mul-both Inv-loop μ-loop
-mul-both c = search needs
-
-shared-slice-read-both : tie.Need-shared-slice-read-both Inv-loop μ-loop
-shared-slice-read-both c = search needs
-
-both-requires : tie.Need-both-requires Inv-loop μ-loop
-both-requires c κs = search needs
-
-add-i : tie.Need-add-i Inv-loop μ-loop
-add-i c = search needs
-
-loop-less : tie.Need-loop-less Inv-loop μ-loop
-loop-less c = omega arith
-
-loop-again : tie.Need-loop-again Inv-loop μ-loop
-loop-again c =
-    let l = c .before .before .before in
-    let word = getD (l .before .before .before .args .words .now) (l .loop .i) 0 in
-    let p = l .before .modulus-of .result in
-    (omega arith, rw add-one (c .both .ensures ∙ ap (λ (b : Bool). b && ltb word p) (l .loop .inv .1)))
-
-returns : tie.Need-returns Inv-loop μ-loop
+returns : tie.Need-returns
 returns c =
-    let end : c .before .loop .i ≡ length (c .before .before .before .before .args .words .now) = omega (arith, c .before .loop .inv .0, c .loop-test .left) in
-    rw (← end, ← c .before .before .modulus-of .ensures) (c .before .loop .inv .1)
+    let words = c .before .before .before .args .words .now in
+    c .all-below .ensures ∙ ap (λ (p : ℕ). every (length words) (λ i. ltb (getD words i 0) p)) (c .before .modulus-of .ensures)
 
 pub all-in-range-spec : {M : Type 1} → statement M
-all-in-range-spec =
-    tie.close
-    (tie.spec
-    Inv-loop
-    μ-loop
-    modulus-of-requires
-    loop-holds
-    mul-both
-    shared-slice-read-both
-    both-requires
-    add-i
-    loop-less
-    loop-again
-    returns)
+all-in-range-spec = tie.close (tie.spec modulus-of-requires all-below-requires returns)

@@ -6,7 +6,7 @@ use Rattle.protocol.specs.Products.{party}
 use Rattle.protocol.specs.Rounds.{afterHearing, replyTo}
 use Rattle.rules.specs.Grounds.{hearGround}
 use Rattle.rules.specs.Calls.{partyOf, hearRule}
-use Rattle.rules.proofs.Passed.{HearPassed, hear-passed, words-below}
+use Rattle.rules.proofs.Passed.{HearPassed, hear-passed, words-most}
 use Rattle.limit_box.proofs.Outcomes.{refused-outcome, passed-ground, last-outcome, more-outcome}
 use Rattle.limit_box.proofs.HandedOn.{given}
 use borrow.Author.Needs.{needs}
@@ -70,7 +70,7 @@ hear-requires c κs =
     let go = passed told in
     let g = given _ _ (go .turn) (c .before .shares-in .ensures) in (
       (g .sided, g .x-fits, g .y-fits, g .readable, go .room),
-      record { below = words-below (a .state .n) (a .incoming .now) (go .turn .sound .width) (go .words); long = omega (arith, go .long) },
+      record { most = words-most (a .state .n) (a .incoming .now) (go .words); long = omega (arith, go .long) },
     )
 
 in-phase-requires : tie.Need-in-phase-requires

@@ -2,6 +2,7 @@
 use Prim.Native.Nat.{ℕ, _+_, _*_, _%_}
 use mathlib.Core.Path.{_≡_}
 use mathlib.Core.List.{List, [], _∷_}
+use native.Mathlib.Nat.{le-of-lt}
 use native.Mathlib.Omega.{arith}
 use lib.ListN.{getD}
 use Rattle.lists.specs.Tabulate.{tabulate}
@@ -64,7 +65,7 @@ array-read-add-2 c = search needs
 add-requires : tie.Need-add-requires
 add-requires c κs =
     let s = start c in
-    (s .pre .0 .2 .width, s .pre .0 .0 .at 0, s .pre .0 .1 .at 0)
+    (s .pre .0 .2 .width, s .pre .0 .0 .at 0, le-of-lt (s .pre .0 .1 .at 0))
 
 array-read-exclusive-of : tie.Need-array-read-exclusive-of
 array-read-exclusive-of c = search needs
@@ -83,7 +84,7 @@ array-read-add-4 c = search needs
 add-requires-2 : tie.Need-add-requires-2
 add-requires-2 c κs =
     let s = start (c .before .before) in
-    (s .pre .0 .2 .width, s .pre .0 .0 .at 1, s .pre .0 .1 .at 1)
+    (s .pre .0 .2 .width, s .pre .0 .0 .at 1, le-of-lt (s .pre .0 .1 .at 1))
 
 array-read-exclusive-of-2 : tie.Need-array-read-exclusive-of-2
 array-read-exclusive-of-2 c = search needs
@@ -102,7 +103,7 @@ array-read-add-6 c = search needs
 add-requires-3 : tie.Need-add-requires-3
 add-requires-3 c κs =
     let s = start (c .before .before .before .before) in
-    (s .pre .0 .2 .width, s .pre .0 .0 .at 2, s .pre .0 .1 .at 2)
+    (s .pre .0 .2 .width, s .pre .0 .0 .at 2, le-of-lt (s .pre .0 .1 .at 2))
 
 array-read-exclusive-of-3 : tie.Need-array-read-exclusive-of-3
 array-read-exclusive-of-3 c = search needs

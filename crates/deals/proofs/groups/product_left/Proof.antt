@@ -43,7 +43,7 @@ add-requires : tie.Need-add-requires
 add-requires c κs =
     let s = c .before .before .before .before in
     let p = s .pre in
-    (p .0 .0, p .1 .0 0 (omega (arith, p .0 .1)), p .1 .1 0 (omega (arith, p .0 .1)))
+    (p .0 .0, p .1 .0 0 (omega (arith, p .0 .1)), le-of-lt (p .1 .1 0 (omega (arith, p .0 .1))))
 
 sub-add : tie.Need-sub-add
 sub-add c = search needs
@@ -67,7 +67,7 @@ add-requires-2 : tie.Need-add-requires-2
 add-requires-2 c κs =
     let s = c .before .before .before .before .before .before .before in
     let p = s .pre in
-    (p .0 .0, p .1 .0 _ (omega (arith, p .0 .1)), p .1 .1 _ (omega (arith, p .0 .1)))
+    (p .0 .0, p .1 .0 _ (omega (arith, p .0 .1)), le-of-lt (p .1 .1 _ (omega (arith, p .0 .1))))
 
 mul-requires : tie.Need-mul-requires
 mul-requires c κs = search needs

@@ -71,7 +71,7 @@ open-requires c κs =
     let r = c .before in
     let t = r .before .before in
     let s = start t in
-    (s .pre .0 .0, r .reduce .ensures .1, s .pre .1 .1 .1 .below .at (s .args .test * s .args .n + t .before .loop .i))
+    (s .pre .0 .0, r .reduce .ensures .1, s .pre .1 .1 .1 .most (s .args .test * s .args .n + t .before .loop .i))
 
 level-match-requires : tie.Need-level-match-requires Inv-loop μ-loop
 level-match-requires c κs =

@@ -40,7 +40,7 @@ shared-slice-read-open c = search needs
 open-requires : tie.Need-open-requires
 open-requires c κs =
     let s = c .before .before .before .before .before .before in
-    (s .pre .0 .0, c .before .mask .ensures .1, s .pre .1 .1 .below .at _)
+    (s .pre .0 .0, c .before .mask .ensures .1, s .pre .1 .1 .most _)
 
 mask-requires-2 : tie.Need-mask-requires-2
 mask-requires-2 c κs =
@@ -59,7 +59,7 @@ shared-slice-read-open-2 c = search needs
 open-requires-2 : tie.Need-open-requires-2
 open-requires-2 c κs =
     let s = c .before .before .before .before .before .before .before .before .before in
-    (s .pre .0 .0, c .before .mask2 .ensures .1, s .pre .1 .1 .below .at _)
+    (s .pre .0 .0, c .before .mask2 .ensures .1, s .pre .1 .1 .most _)
 
 mul-product : tie.Need-mul-product
 mul-product c = search needs

@@ -13,7 +13,7 @@ shared-slice-read-open c = search needs
 open-requires : tie.Need-open-requires
 open-requires c κs =
     let s = c .before .before .before in
-    (s .pre .0 .0, s .pre .0 .1, s .pre .1 .below .at _)
+    (s .pre .0 .0, s .pre .0 .1, s .pre .1 .most _)
 
 mul-square : tie.Need-mul-square
 mul-square c = search needs
