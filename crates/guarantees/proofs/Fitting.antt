@@ -1,15 +1,15 @@
--- The words spoken in a run are below p, for the width that they were spoken under and so for any larger one.
+-- The words spoken in a run can be read by a box of the width that they were spoken under, and so of any larger one.
 use Prim.Native.Nat.{ℕ, zero, suc, _≤_}
 use mathlib.Core.Path.{_≡_, refl, sym, subst}
 use mathlib.Core.Bool.{true}
 use mathlib.Core.List.{List, [], _∷_, _++_}
 use native.Mathlib.Omega.{arith}
-use borrow.Author.Tests.{lt-ltb, ltb-true}
-use lib.Dec.{ltb}
+use borrow.Author.Tests.{le-leb, leb-true}
 use lib.ListN.{length, getD}
 use lib.Pow.{pow-mono}
 use Rattle.lists.proofs.Every.{every-intro, every-at}
 use Rattle.field.specs.Width.{modulus}
+use Rattle.shares.specs.Reading.{legible}
 use Rattle.rules.specs.Grounds.{wordsFit, speakGround}
 use Rattle.protocol.specs.Rounds.{message}
 use Rattle.rules.specs.Calls.{partyOf, speakRule}
@@ -31,7 +31,7 @@ abbrev pub Fitting : List Event → Type 0
 Fitting log = (k : ℕ) → FitsFrom (eventAt log k)
 
 fits-none : (n : ℕ) → wordsFit n [] ≡ true
-fits-none n = every-intro 0 (λ i. ltb (getD {A = ℕ} [] i 0) (modulus n)) (λ i less. absurd (omega (arith, less)))
+fits-none n = every-intro 0 (λ i. legible n (getD {A = ℕ} [] i 0)) (λ i less. absurd (omega (arith, less)))
 
 pub fitting-first : Fitting []
 fitting-first k n h = fits-none n
@@ -49,12 +49,12 @@ fitting-after w box2 m e old new = fitting-more (w .log) e old new
 -- ---- speaking
 
 wider : (m n : ℕ) (words : List ℕ) → m ≤ n → wordsFit m words ≡ true → wordsFit n words ≡ true
-unfolding modulus
+unfolding modulus legible
 wider m n words le fits =
-    every-intro (length words) (λ i. ltb (getD words i 0) (modulus n))
+    every-intro (length words) (λ i. legible n (getD words i 0))
     (λ i less.
-    let below = ltb-true (getD words i 0) (modulus m) (every-at (length words) (λ j. ltb (getD words j 0) (modulus m)) fits i less) in
-    lt-ltb (getD words i 0) (modulus n) (omega (arith, below, pow-mono le)))
+    let most = leb-true (getD words i 0) (modulus m) (every-at (length words) (λ j. legible m (getD words j 0)) fits i less) in
+    le-leb (getD words i 0) (modulus n) (omega (arith, most, pow-mono le)))
 
 speak-fits : (s : State) (number round : ℕ) (tape work out : List ℕ)
     → let r = speakRule s number round tape work out in

@@ -28,10 +28,11 @@ use Rattle.guarantees.specs.Boxes.{Box, box1, box2, sideOf, otherBox}
 use Rattle.guarantees.specs.Keys.{Key, keyAt}
 use Rattle.guarantees.specs.Outcomes.{Kind, opening, message, answer, plain, kindOf}
 use Rattle.guarantees.specs.Entries.{Lent, dealt, Incoming, Step, wake, start, speak, hear, drop, cut, cutStart}
-use Rattle.guarantees.specs.Run.{Lending, Setting, Memory, Said, replied, Event, World, memoryOf, after, afterCut, cutSaid, eventAt, tapeWords, incomingWords, spokenWords, stepped}
+use Rattle.guarantees.specs.Run.{Lending, Setting, Memory, Said, replied, Event, World, memoryOf, after, afterCut, cutSaid, eventAt, tapeWords, lineWords, incomingWords, spokenWords, stepped}
 use Rattle.guarantees.specs.Premises.{TrueMessage, Keeps}
 use Rattle.guarantees.specs.Jobs.{partyAt, sentBy, answerBy}
 use Rattle.guarantees.proofs.Outcomes.{cut-plain}
+use Rattle.guarantees.proofs.Deliveries.{ground-lent, rule-lent}
 use Rattle.guarantees.proofs.Jobs.{InOrder, holding, sent-is, holding-next, answer-is, holding-room}
 use Rattle.rules.proofs.Spoken.{spoken-front}
 use Rattle.rules.proofs.Decide.{decide}
@@ -257,9 +258,10 @@ module _ (g : Setting) (book : Box → Key → Lending) where
 
   -- ---- hear
 
-  pub record Heard (b : Box) (m : Memory) (number round : ℕ) (incoming : List ℕ) (r : Result) : Type 0 where
+  -- `lent` is what the event has of the words
+  pub record Heard (b : Box) (m : Memory) (number round : ℕ) (lent : List ℕ) (r : Result) : Type 0 where
     pub holds : Holds b (record { state = r .state; work = r .buffer; tally = m .tally })
-    pub answer : Conforms (record { box = b; key = keyAt (m .state) number; round = round; said = replied (r .reply); spoken = []; incoming = incoming }) (kindOf (replied (r .reply)))
+    pub answer : Conforms (record { box = b; key = keyAt (m .state) number; round = round; said = replied (r .reply); spoken = []; incoming = lent }) (kindOf (replied (r .reply)))
 
   module _ (b : Box) (m : Memory) (number round : ℕ) (tape incoming : List ℕ) (j : Going b m number round (Hear round) tape)
       (true-words : incoming ≡ sentBy (g .tapes) book (otherBox b) (keyAt (m .state) number) round) where
@@ -287,7 +289,7 @@ module _ (g : Setting) (book : Box → Key → Lending) where
         (sentBy (g .tapes) book (otherBox b) (keyAt (m .state) number) lastRound) live
         ∙ sym (answer-is (g .tapes) book b (keyAt (m .state) number)))
 
-    hear-goes : Heard b m number round incoming
+    hear-goes : (lent : List ℕ) → Heard b m number round lent
         (cond (eqb round lastRound)
         (record {
           reply = share (answerShare (partyOf (m .state) tape) (m .work) incoming);
@@ -299,13 +301,13 @@ module _ (g : Setting) (book : Box → Key → Lending) where
           state = inPhase (m .state) (turned (m .state .phase) (Speak (round + 1)));
           buffer = afterHearing (partyOf (m .state) tape) (m .work) round incoming;
         }))
-    hear-goes = go (eqb round lastRound) refl
+    hear-goes lent = go (eqb round lastRound) refl
       where
         work′ : List ℕ
         work′ = afterHearing (partyOf (m .state) tape) (m .work) round incoming
 
         go : (t : Bool) → eqb round lastRound ≡ t
-            → Heard b m number round incoming
+            → Heard b m number round lent
             (cond t
             (record { reply = share (answerShare (partyOf (m .state) tape) (m .work) incoming); state = inPhase (m .state) Idle; buffer = work′ })
             (record { reply = heard; state = inPhase (m .state) (turned (m .state .phase) (Speak (round + 1))); buffer = work′ }))
@@ -333,18 +335,18 @@ module _ (g : Setting) (book : Box → Key → Lending) where
               answer = refl;
             }
 
-  hear-holds : (pair : ℕ) (orders : InOrder g pair) (b : Box) (m : Memory) (number round : ℕ) (lent : Lent) (incoming : List ℕ) → Holds b m
+  hear-holds : (pair : ℕ) (orders : InOrder g pair) (b : Box) (m : Memory) (number round : ℕ) (lent : Lent) (incoming words : List ℕ) → Holds b m
       → (hearGround (m .state) number round (tapeWords g lent) (m .work) incoming ≡ 0
       → (lent ≡ dealt b number (m .state .n)) × (incoming ≡ sentBy (g .tapes) book (otherBox b) (keyAt (m .state) number) round))
-      → Heard b m number round incoming (hearRule (m .state) number round (tapeWords g lent) (m .work) incoming)
+      → Heard b m number round words (hearRule (m .state) number round (tapeWords g lent) (m .work) incoming)
   unfolding hearRule
-  hear-holds pair orders b m number round lent incoming h keeps =
-      decide (Heard b m number round incoming) (hearGround (m .state) number round (tapeWords g lent) (m .work) incoming) (m .state) (m .work) _
+  hear-holds pair orders b m number round lent incoming words h keeps =
+      decide (Heard b m number round words) (hearGround (m .state) number round (tapeWords g lent) (m .work) incoming) (m .state) (m .work) _
       (λ zero-ground.
       let p = hear-passed (m .state) number round (tapeWords g lent) (m .work) incoming zero-ground in
       let k = keeps zero-ground in
       hear-goes b m number round (tapeWords g lent) incoming
-      (going pair orders b m number round (Hear round) lent h (p .turn .awake) (p .turn .due) (p .turn .ordered) (k .0)) (k .1))
+      (going pair orders b m number round (Hear round) lent h (p .turn .awake) (p .turn .due) (p .turn .ordered) (k .0)) (k .1) words)
       (record { holds = kept b m (m .tally) h; answer = refl })
 
   -- ---- the log and the worlds
@@ -370,11 +372,11 @@ module _ (g : Setting) (book : Box → Key → Lending) where
 
   -- a true message is the exchange's
   true-message : (w : World) (b : Box) (key : Key) (round : ℕ) (incoming : Incoming) → Invariant w → TrueMessage (w .log) b key round incoming
-      → incomingWords (w .log) incoming ≡ sentBy (g .tapes) book (otherBox b) key round
+      → lineWords (w .log) incoming ≡ sentBy (g .tapes) book (otherBox b) key round
   true-message w b key round incoming f t =
       let e = eventAt (w .log) (t .place) in
       let told : Uttered e = subst (λ (s : Said). Conforms e (kindOf s)) (t .uttered) (f .events (t .place)) in
-      ap (incomingWords (w .log)) (t .named) ∙ told .words ∙ rw (t .by, t .under, t .rounded)
+      ap (lineWords (w .log)) (t .named) ∙ told .words ∙ rw (t .by, t .under, t .rounded)
 
   -- calls that say nothing of an exchange
   quiet-wake : (m : Memory) (n side p : ℕ) (e : Event) → e .spoken ≡ []
@@ -398,7 +400,7 @@ module _ (g : Setting) (book : Box → Key → Lending) where
   cut-conforms s e none = subst (Conforms e) (sym (cut-plain s)) none
 
   -- one entry
-  pub invariant-next : (pair : ℕ) (orders : InOrder g pair) (place : ℕ) (w : World) (b : Box) (step : Step) → Invariant w → Keeps g w b step → Booked place w b step
+  pub invariant-next : (pair : ℕ) (orders : InOrder g pair) (place : ℕ) (w : World) (b : Box) (step : Step) → Invariant w → Keeps g place w b step → Booked place w b step
       → Invariant (stepped g place w b step)
   unfolding stepped
   invariant-next pair orders place w b (wake n side p) f keeps booked =
@@ -410,10 +412,14 @@ module _ (g : Setting) (book : Box → Key → Lending) where
       let r = speak-holds pair orders b (memoryOf w b) number round lent out (f .each b) keeps in
       after-invariant w b _ _ f (r .holds) (r .words)
   invariant-next pair orders place w b (hear number round lent incoming) f keeps booked =
-      let r = hear-holds pair orders b (memoryOf w b) number round lent (incomingWords (w .log) incoming) (f .each b)
+      let m = memoryOf w b in
+      let r =
+      subst (Heard b m number round (incomingWords g place (m .state) (w .log) incoming))
+      (sym (rule-lent g place m (w .log) number round lent incoming))
+      (hear-holds pair orders b m number round lent (lineWords (w .log) incoming) _ (f .each b)
       (λ zero-ground.
-      let k = keeps zero-ground in
-      (k .0, true-message w b (keyAt (memoryOf w b .state) number) round incoming f (k .1))) in
+      let k = keeps (ground-lent g place m (w .log) number round lent incoming ∙ zero-ground) in
+      (k .0, true-message w b (keyAt (m .state) number) round incoming f (k .1)))) in
       after-invariant w b _ _ f (r .holds) (r .answer)
   invariant-next pair orders place w b drop f keeps booked =
       after-invariant w b _ _ f (drop-holds b (memoryOf w b) (f .each b)) (quiet-drop (memoryOf w b) _ refl)

@@ -1,6 +1,7 @@
 pub mod LowEquivalence
 pub mod Outcomes
 pub mod Jobs
+pub mod Deliveries
 pub mod Logs
 pub mod Once
 pub mod Invariant

@@ -180,7 +180,7 @@ marked-next g place w b (speak number round lent out) h =
     dull-after w b _ _ h refl (speak-opens (m .state) number round (tapeWords g lent) (m .work) out) (λ k f. f)
 marked-next g place w b (hear number round lent incoming) h =
     let m = memoryOf w b in
-    dull-after w b _ _ h refl (hear-opens (m .state) number round (tapeWords g lent) (m .work) (incomingWords (w .log) incoming)) (λ k f. f)
+    dull-after w b _ _ h refl (hear-opens (m .state) number round (tapeWords g lent) (m .work) (incomingWords g place (m .state) (w .log) incoming)) (λ k f. f)
 marked-next g place w b drop h = dull-after w b _ _ h refl (drop-opens (memoryOf w b .state)) (λ k f. f)
 marked-next g place w b (cut room) h = dull-after w b _ _ h refl (ap isOpening (cut-plain (memoryOf w b .state))) (λ k f. f)
 marked-next g place w b (cutStart number lent value room) h =
@@ -241,7 +241,7 @@ one-more g place w b (start number lent) =
 one-more g place w b (speak number round lent out) =
     dull-more w b _ _ (speak-opens (memoryOf w b .state) number round (tapeWords g lent) (memoryOf w b .work) out)
 one-more g place w b (hear number round lent incoming) =
-    dull-more w b _ _ (hear-opens (memoryOf w b .state) number round (tapeWords g lent) (memoryOf w b .work) (incomingWords (w .log) incoming))
+    dull-more w b _ _ (hear-opens (memoryOf w b .state) number round (tapeWords g lent) (memoryOf w b .work) (incomingWords g place (memoryOf w b .state) (w .log) incoming))
 one-more g place w b drop = dull-more w b _ _ (drop-opens (memoryOf w b .state))
 one-more g place w b (cut room) = dull-more w b _ _ (ap isOpening (cut-plain (memoryOf w b .state)))
 one-more g place w b (cutStart number lent value room) = dull-more w b _ _ (ap isOpening (cut-plain (memoryOf w b .state)))

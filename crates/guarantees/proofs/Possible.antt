@@ -1,6 +1,6 @@
--- Two lists that meet the premises: the checker runs them.
+-- Lists that meet the premises: the checker runs them.
 use Prim.Native.Nat.{ℕ, suc, _+_}
-use mathlib.Core.Path.{_≡_, refl}
+use mathlib.Core.Path.{_≡_, refl, ap}
 use mathlib.Core.Bool.{Bool, true, false, _&&_, false≢true}
 use mathlib.Core.List.{List, [], _∷_}
 use mathlib.Core.Logic.{inr}
@@ -11,6 +11,7 @@ use Rattle.lists.proofs.Tests.{and-left, and-right}
 use Rattle.field.specs.Subtraction.{minus}
 use Rattle.field.specs.Width.{listed, modulus}
 use Rattle.shares.specs.Side.{isSide, other as otherSide}
+use Rattle.shares.specs.Reading.{read, legible, delivered}
 use Rattle.shares.specs.Share.{constantShare, opened, squareShare, productShare}
 use Rattle.tape.specs.Layout.{section}
 use Rattle.tape.specs.Order.{trailerFits, bodyInRange, inOrder}
@@ -26,6 +27,7 @@ use Rattle.protocol.specs.Squares.{bitDifference, squareClosing, matchCount}
 use Rattle.protocol.specs.Levels.{levelMatch, wrapShare}
 use Rattle.protocol.specs.Rounds.{squareWord, lowProducts, lowSum, levelProducts, wrapProducts, halfShare}
 use Rattle.protocol.specs.Rounds.{halfProduct, lastLeft, lastRight, lastProduct, answerShare, roundWords, message, afterHearing}
+use Rattle.rules.specs.Answers.{share}
 use Rattle.rules.specs.Tally.{tallyFits, tapesOf, isFresh, marked, cutMarked, freshCount}
 use Rattle.rules.specs.Modes.{inRange, modeOf, isAsleep}
 use Rattle.rules.specs.Grounds.{wakeGround, startGround, speakGround, hearGround}
@@ -34,12 +36,12 @@ use Rattle.guarantees.specs.Boxes.{Box, box1, box2, otherBox}
 use Rattle.guarantees.specs.Keys.{Key, keyAt}
 use Rattle.guarantees.specs.Outcomes.{kindOf}
 use Rattle.guarantees.specs.Entries.{Lent, dealt, loose, Incoming, spokenAt, other, Step, wake, start, speak, hear, drop, cut, cutStart, Entry}
-use Rattle.guarantees.specs.Run.{Lending, Setting, Memory, Event, World, memoryOf, eventAt, stepped}
+use Rattle.guarantees.specs.Run.{Lending, Setting, Memory, Said, replied, Event, World, memoryOf, eventAt, stepped, run}
 use Rattle.guarantees.specs.Premises.{TrueMessage, Keeps, Meets, AtFirst, InBoth, Compatible, AllCompatible}
 use Rattle.guarantees.specs.Maps.{sameBox}
-use Rattle.guarantees.specs.Comparison.{Valid, byBox, worldOf, settingOf, events}
-use Rattle.guarantees.specs.Possible.{pairNumber, sharesOf, sharesAnew, plainSet, plainCommon, zeros, lastHears, whole, again}
-use Rattle.guarantees.specs.Possible.{CutInMark, AnswersAt, RightSum, Possible}
+use Rattle.guarantees.specs.Comparison.{Valid, Loose, byBox, worldOf, settingOf}
+use Rattle.guarantees.specs.Possible.{pairNumber, sharesOf, sharesAnew, plainSet, plainCommon, zeros, tape0, lastHears, whole, again}
+use Rattle.guarantees.specs.Possible.{CutInMark, AnswersAt, RightSum, Possible, ZerosRespelled}
 use Rattle.guarantees.proofs.Once.{same-box}
 use Rattle.guarantees.proofs.Outcomes.{isMessage, message-of}
 
@@ -111,18 +113,18 @@ keepsTest w b drop = true
 keepsTest w b (cut room) = true
 keepsTest w b (cutStart number lent value room) = true
 
-keeps-tested : (g : Setting) (w : World) (b : Box) (s : Step) → keepsTest w b s ≡ true → Keeps g w b s
-keeps-tested g w b (wake n side p) e = tt
-keeps-tested g w b (start number lent) e = tt
-keeps-tested g w b (speak number round lent out) e = λ _. own-tape b number (memoryOf w b .state .n) lent e
-keeps-tested g w b (hear number round lent incoming) e =
+keeps-tested : (g : Setting) (place : ℕ) (w : World) (b : Box) (s : Step) → keepsTest w b s ≡ true → Keeps g place w b s
+keeps-tested g place w b (wake n side p) e = tt
+keeps-tested g place w b (start number lent) e = tt
+keeps-tested g place w b (speak number round lent out) e = λ _. own-tape b number (memoryOf w b .state .n) lent e
+keeps-tested g place w b (hear number round lent incoming) e =
     let key = keyAt (memoryOf w b .state) number in
     let own = ownTape b number (memoryOf w b .state .n) lent in
     let said = trueTest (w .log) b key round incoming in
     λ _. (own-tape b number (memoryOf w b .state .n) lent (and-left own said e), true-message (w .log) b key round incoming (and-right own said e))
-keeps-tested g w b drop e = tt
-keeps-tested g w b (cut room) e = tt
-keeps-tested g w b (cutStart number lent value room) e = tt
+keeps-tested g place w b drop e = tt
+keeps-tested g place w b (cut room) e = tt
+keeps-tested g place w b (cutStart number lent value room) e = tt
 
 abbrev meetsTest : Setting → ℕ → World → List Entry → Bool
 meetsTest g place w [] = true
@@ -134,7 +136,7 @@ meets-tested g place w (e ∷ es) t =
     let here = keepsTest w (e .box) (e .step) in
     let step-consistent = stepped g place w (e .box) (e .step) in
     let later = meetsTest g (suc place) step-consistent es in
-    (keeps-tested g w (e .box) (e .step) (and-left here later t), meets-tested g (suc place) step-consistent es (and-right here later t))
+    (keeps-tested g place w (e .box) (e .step) (and-left here later t), meets-tested g (suc place) step-consistent es (and-right here later t))
 
 -- ---- a computed test of the second shares: all in range
 
@@ -193,98 +195,107 @@ module _ (shares′ : Box → ℕ → Lending) (g : Setting) where
       let later = allTest (suc place) step-consistent es in
       (compatible-tested place w (e .box) (e .step) (and-left here later t), all-tested (suc place) step-consistent es (and-right here later t))
 
--- ---- the two lists
+-- ---- the lists
 
 plain-valid : (entries : List Entry) (b : Box) → Valid (plainCommon entries b) b (plainSet b)
 unfolding otherSide
 plain-valid entries box1 number n width = plain-dealt n pairNumber number width
 plain-valid entries box2 number n width = matched-swap (plain-dealt n pairNumber number width)
 
-at-first : (entries : List Entry) (b : Box) → AtFirst (worldOf (plainCommon entries b) zeros)
+at-first : (entries : List Entry) (free : Loose) (b : Box) → AtFirst (worldOf (plainCommon entries b) free)
 unfolding listed inRange modeOf
-at-first entries b = record { asleep = asleep; no-events = refl }
+at-first entries free b = record { asleep = asleep; no-events = refl }
   where
-    asleep : (d : Box) → isAsleep (modeOf (memoryOf (worldOf (plainCommon entries b) zeros) d .state)) ≡ true
+    asleep : (d : Box) → isAsleep (modeOf (memoryOf (worldOf (plainCommon entries b) free) d .state)) ≡ true
     asleep box1 = refl
     asleep box2 = refl
 
-abbrev plainSetting : List Entry → Box → Setting
-plainSetting entries b = settingOf (plainCommon entries b) b (plainSet b) (sharesOf b) zeros
+abbrev plainSetting : List Entry → Bool → Box → Setting
+plainSetting entries respelled b = settingOf (plainCommon entries b) b (plainSet b) (sharesOf b) (zeros respelled)
 
-abbrev plainWorld : List Entry → Box → World
-plainWorld entries b = worldOf (plainCommon entries b) zeros
+abbrev plainWorld : List Entry → Bool → Box → World
+plainWorld entries respelled b = worldOf (plainCommon entries b) (zeros respelled)
+
+-- what is said at a place of a log
+record Told : Type 0 where
+  box : Box
+  key : Key
+  said : Said
+
+abbrev toldAt : List Event → ℕ → Told
+toldAt log place = record { box = eventAt log place .box; key = eventAt log place .key; said = eventAt log place .said }
 
 -- what is computed of a list
-record ByRun (entries : List Entry) (place : ℕ) (b : Box) : Type 0 where
-  meeting : meetsTest (plainSetting entries b) 0 (plainWorld entries b) entries ≡ true
-  ranging : allTest (byBox b sharesAnew (sharesOf (otherBox b))) (plainSetting entries b) 0 (plainWorld entries b) entries ≡ true
-  answer1 : AnswersAt (events (plainCommon entries b) b (plainSet b) (sharesOf b) zeros) place box1 2
-  answer2 : AnswersAt (events (plainCommon entries b) b (plainSet b) (sharesOf b) zeros) (place + 1) box2 6
+record Summary : Type 0 where
+  meets : Bool
+  ranges : Bool
+  answer1 : Told
+  answer2 : Told
 
-whole-run : (b : Box) → ByRun whole (lastHears 2) b
-unfolding modulus listed isSide otherSide constantShare minus opened squareShare productShare section trailerFits bodyInRange inOrder plainTape
+abbrev summary : List Entry → Bool → ℕ → Box → Summary
+summary entries respelled place b =
+    let g = plainSetting entries respelled b in
+    let w = plainWorld entries respelled b in
+    let log = run g 0 w entries .log in
+    record {
+      meets = meetsTest g 0 w entries;
+      ranges = allTest (byBox b sharesAnew (sharesOf (otherBox b))) g 0 w entries;
+      answer1 = toldAt log place;
+      answer2 = toldAt log (place + 1);
+    }
+
+abbrev expected : Summary
+expected =
+    record {
+      meets = true;
+      ranges = true;
+      answer1 = record { box = box1; key = tape0; said = replied (share 2) };
+      answer2 = record { box = box2; key = tape0; said = replied (share 6) };
+    }
+
+-- the first list with zeros as they are spoken, and with zeros respelled; the second list
+computed : (b : Box)
+    → (summary whole false (lastHears 2) b ≡ expected) × ((summary whole true (lastHears 2) b ≡ expected) × (summary again false (lastHears 4) b ≡ expected))
+unfolding modulus listed isSide otherSide constantShare minus read legible delivered opened squareShare productShare
+    section trailerFits bodyInRange inOrder plainTape
     rangeCode pointCode levelCode coefficient polynomial complement exclusive held
     openLeft openRight openings closed closing bitDifference squareClosing matchCount levelMatch wrapShare
     squareWord lowProducts lowSum levelProducts wrapProducts halfShare halfProduct lastLeft lastRight lastProduct
     answerShare roundWords message afterHearing
     tallyFits tapesOf isFresh marked cutMarked freshCount inRange modeOf
-    wakeGround startGround speakGround hearGround wakeRule startRule speakRule hearRule stepped whole
-whole-run box1 =
-    record {
-      meeting = refl;
-      ranging = refl;
-      answer1 = record { box = refl; key = refl; said = refl };
-      answer2 = record { box = refl; key = refl; said = refl };
-    }
-whole-run box2 =
-    record {
-      meeting = refl;
-      ranging = refl;
-      answer1 = record { box = refl; key = refl; said = refl };
-      answer2 = record { box = refl; key = refl; said = refl };
-    }
+    wakeGround startGround speakGround hearGround wakeRule startRule speakRule hearRule stepped whole again
+computed box1 = (refl, (refl, refl))
+computed box2 = (refl, (refl, refl))
 
-again-run : (b : Box) → ByRun again (lastHears 4) b
-unfolding modulus listed isSide otherSide constantShare minus opened squareShare productShare section trailerFits bodyInRange inOrder plainTape
-    rangeCode pointCode levelCode coefficient polynomial complement exclusive held
-    openLeft openRight openings closed closing bitDifference squareClosing matchCount levelMatch wrapShare
-    squareWord lowProducts lowSum levelProducts wrapProducts halfShare halfProduct lastLeft lastRight lastProduct
-    answerShare roundWords message afterHearing
-    tallyFits tapesOf isFresh marked cutMarked freshCount inRange modeOf
-    wakeGround startGround speakGround hearGround wakeRule startRule speakRule hearRule stepped again
-again-run box1 =
-    record {
-      meeting = refl;
-      ranging = refl;
-      answer1 = record { box = refl; key = refl; said = refl };
-      answer2 = record { box = refl; key = refl; said = refl };
-    }
-again-run box2 =
-    record {
-      meeting = refl;
-      ranging = refl;
-      answer1 = record { box = refl; key = refl; said = refl };
-      answer2 = record { box = refl; key = refl; said = refl };
-    }
+answers-at : (log : List Event) (place : ℕ) (b : Box) (v : ℕ) → toldAt log place ≡ record { box = b; key = tape0; said = replied (share v) }
+    → AnswersAt log place b v
+answers-at log place b v e =
+    record { box = ap (λ (t : Told). t .box) e; key = ap (λ (t : Told). t .key) e; said = ap (λ (t : Told). t .said) e }
 
-from-run : (entries : List Entry) (place : ℕ) (b : Box) → ByRun entries place b → Possible entries place b
-from-run entries place b c =
+from-run : (entries : List Entry) (respelled : Bool) (place : ℕ) (b : Box) → summary entries respelled place b ≡ expected
+    → Possible entries respelled place b
+from-run entries respelled place b c =
+    let g = plainSetting entries respelled b in
+    let w = plainWorld entries respelled b in
     record {
       valid = plain-valid entries b;
       premises = record {
-        asleep = at-first entries b;
-        meets = meets-tested (plainSetting entries b) 0 (plainWorld entries b) entries (c .meeting);
-        compatible = all-tested (byBox b sharesAnew (sharesOf (otherBox b))) (plainSetting entries b) 0 (plainWorld entries b) entries (c .ranging);
+        asleep = at-first entries (zeros respelled) b;
+        meets = meets-tested g 0 w entries (ap (λ (s : Summary). s .meets) c);
+        compatible = all-tested (byBox b sharesAnew (sharesOf (otherBox b))) g 0 w entries (ap (λ (s : Summary). s .ranges) c);
       };
-      answer1 = c .answer1;
-      answer2 = c .answer2;
+      answer1 = answers-at _ place box1 2 (ap (λ (s : Summary). s .answer1) c);
+      answer2 = answers-at _ (place + 1) box2 6 (ap (λ (s : Summary). s .answer2) c);
     }
 
-pub whole-possible : (b : Box) → Possible whole (lastHears 2) b
-whole-possible b = from-run whole (lastHears 2) b (whole-run b)
+pub whole-possible : (b : Box) → Possible whole false (lastHears 2) b
+whole-possible b = from-run whole false (lastHears 2) b (computed b .0)
 
-pub again-possible : (b : Box) → Possible again (lastHears 4) b
-again-possible b = from-run again (lastHears 4) b (again-run b)
+pub respelled-possible : (b : Box) → Possible whole true (lastHears 2) b
+respelled-possible b = from-run whole true (lastHears 2) b (computed b .1 .0)
+
+pub again-possible : (b : Box) → Possible again false (lastHears 4) b
+again-possible b = from-run again false (lastHears 4) b (computed b .1 .1)
 
 pub right-sum : RightSum
 unfolding modulus
@@ -294,3 +305,9 @@ pub cut-in-mark : CutInMark
 unfolding modulus listed isSide trailerFits bodyInRange inOrder plainTape tallyFits tapesOf isFresh freshCount inRange modeOf
     wakeGround startGround wakeRule stepped again
 cut-in-mark = refl
+
+pub zeros-respelled : ZerosRespelled
+unfolding modulus listed isSide otherSide constantShare minus delivered section trailerFits bodyInRange inOrder plainTape
+    rangeCode pointCode levelCode complement openLeft openRight openings bitDifference squareWord lowProducts roundWords message
+    tallyFits tapesOf isFresh marked freshCount inRange modeOf wakeGround startGround speakGround wakeRule startRule speakRule stepped whole
+zeros-respelled = (refl, refl)

@@ -129,7 +129,7 @@ module _ (w w′ : World) (k : LowEquivalent w w′) where
 
 -- with the same grounds of refusal the second run keeps to what the first keeps to
 pub keeps-too : (g g′ : Setting) (place : ℕ) (w w′ : World) (k : LowEquivalent w w′) (c : Box) (step : Step) → SameGround g g′ place w w′ c step
-    → Keeps g w c step → Keeps g′ w′ c step
+    → Keeps g place w c step → Keeps g′ place w′ c step
 keeps-too g g′ place w w′ k c (wake n side p) f h = tt
 keeps-too g g′ place w w′ k c (start number lent) f h = tt
 keeps-too g g′ place w w′ k c (speak number round lent out) f h = λ ground. h (f ∙ ground) ∙ ap (dealt c number) (k .memories c .state .n)

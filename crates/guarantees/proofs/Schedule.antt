@@ -17,7 +17,7 @@ use Rattle.rules.specs.declared.state.State.{State}
 use Rattle.guarantees.specs.Boxes.{Box}
 use Rattle.guarantees.specs.Keys.{Key, keyAt}
 use Rattle.guarantees.specs.Entries.{Incoming, spokenAt, other, Step, wake, start, speak, hear, drop, cut, cutStart, Entry}
-use Rattle.guarantees.specs.Run.{Setting, Memory, Event, World, memoryOf, eventAt, tapeWords, incomingWords, stepped, run}
+use Rattle.guarantees.specs.Run.{Setting, Memory, Event, World, memoryOf, eventAt, tapeWords, lineWords, stepped, run}
 use Rattle.guarantees.specs.View.{covered}
 use Rattle.guarantees.specs.Premises.{TrueMessage, Keeps, Meets, Compatible, AllCompatible}
 use Rattle.guarantees.specs.AnyTapes.{NotWider, Narrow, AllNarrow}
@@ -27,6 +27,7 @@ use Rattle.guarantees.proofs.LowModes.{asleep-same, job-same, due-same}
 use Rattle.guarantees.proofs.Refusals.{OrderAlike, speak-same, hear-same}
 use Rattle.guarantees.proofs.StepConsistency.{SameGround, step-consistent}
 use Rattle.guarantees.proofs.Outcomes.{message-of, uncover-message}
+use Rattle.guarantees.proofs.Deliveries.{ground-lent}
 use Rattle.guarantees.proofs.Fitting.{Fitting, fitting-next}
 use Rattle.guarantees.proofs.Jobs.{InOrder}
 use Rattle.guarantees.proofs.SameGrounds.{order-same, start-ground, compatible-back, key-same, true-too, true-back, keeps-too}
@@ -103,13 +104,13 @@ module _ (g g′ : Setting) (pair : ℕ) (orders : InOrder g pair) (orders′ : 
 
   -- a true message fits
   true-fits : (log : List Event) → Fitting log → (c : Box) (key : Key) (round : ℕ) (incoming : Incoming) → TrueMessage log c key round incoming
-      → wordsFit (key .width) (incomingWords log incoming) ≡ true
+      → wordsFit (key .width) (lineWords log incoming) ≡ true
   true-fits log fits c key round incoming t =
       rw (t .named) (fits (t .place) (key .width) (λ told. le-of-eq (ap (λ (k : Key). k .width) (t .under))))
 
   -- both runs heard as many words
   long-same : (w w′ : World) → LowEquivalent w w′ → (incoming : Incoming)
-      → length (incomingWords (w .log) incoming) ≡ length (incomingWords (w′ .log) incoming)
+      → length (lineWords (w .log) incoming) ≡ length (lineWords (w′ .log) incoming)
   long-same w w′ k (spokenAt place) = k .events place .long
   long-same w w′ k (other words) = refl
 
@@ -119,14 +120,14 @@ module _ (g g′ : Setting) (pair : ℕ) (orders : InOrder g pair) (orders′ : 
   Below w w′ c (start number lent) = Unit {0}
   Below w w′ c (speak number round lent out) = Unit {0}
   Below w w′ c (hear number round lent incoming) =
-      hearGround (memoryOf w′ c .state) number round (tapeWords g′ lent) (memoryOf w′ c .work) (incomingWords (w′ .log) incoming) ≡ 0
-      → wordsFit (memoryOf w c .state .n) (incomingWords (w .log) incoming) ≡ true
+      hearGround (memoryOf w′ c .state) number round (tapeWords g′ lent) (memoryOf w′ c .work) (lineWords (w′ .log) incoming) ≡ 0
+      → wordsFit (memoryOf w c .state .n) (lineWords (w .log) incoming) ≡ true
   Below w w′ c drop = Unit {0}
   Below w w′ c (cut room) = Unit {0}
   Below w w′ c (cutStart number lent value room) = Unit {0}
 
   same-ground : (place : ℕ) (w w′ : World) (c : Box) (step : Step) → Comparable w w′ → Compatible (g′ .shares) g place w c step
-      → Keeps g w c step → Below w w′ c step → SameGround g g′ place w w′ c step
+      → Keeps g place w c step → Below w w′ c step → SameGround g g′ place w w′ c step
   same-ground place w w′ c (wake n side p) j h keeps below = tt
   same-ground place w w′ c (start number lent) j h keeps below = start-ground g g′ pair orders orders′ w w′ (j .low) place c number lent (h .0) (h .1)
   same-ground place w w′ c (speak number round lent out) j h keeps below =
@@ -136,10 +137,13 @@ module _ (g g′ : Setting) (pair : ℕ) (orders : InOrder g pair) (orders′ : 
   same-ground place w w′ c (hear number round lent incoming) j h keeps below =
       let s = memoryOf w c .state in
       let t = j .low .memories c in
-      hear-alike number round _ _ _ _ _ _ (t .state) (t .room) (order-same g g′ pair orders orders′ (s .n) (s .pair) (s .side) number lent)
+      let spelled = ground-lent g place (memoryOf w c) (w .log) number round lent incoming in
+      spelled
+      ∙ hear-alike number round _ _ _ _ _ _ (t .state) (t .room) (order-same g g′ pair orders orders′ (s .n) (s .pair) (s .side) number lent)
       (long-same w w′ (j .low) incoming)
-      (λ taken. true-fits (w′ .log) (j .fits′) c (keyAt s number) round incoming (true-too w w′ (j .low) c _ _ round incoming refl (keeps taken .1)))
+      (λ taken. true-fits (w′ .log) (j .fits′) c (keyAt s number) round incoming (true-too w w′ (j .low) c _ _ round incoming refl (keeps (spelled ∙ taken) .1)))
       below
+      ∙ sym (ground-lent g′ place (memoryOf w′ c) (w′ .log) number round lent incoming)
   same-ground place w w′ c drop j h keeps below = tt
   same-ground place w w′ c (cut room) j h keeps below = tt
   same-ground place w w′ c (cutStart number lent value room) j h keeps below =
@@ -156,14 +160,14 @@ module _ (g g′ : Setting) (pair : ℕ) (orders : InOrder g pair) (orders′ : 
 
   -- ---- both runs meet the premises
 
-  true-below : (place : ℕ) (w w′ : World) (c : Box) (step : Step) → Comparable w w′ → Keeps g′ w′ c step → Below w w′ c step
+  true-below : (place : ℕ) (w w′ : World) (c : Box) (step : Step) → Comparable w w′ → Keeps g′ place w′ c step → Below w w′ c step
   true-below place w w′ c (wake n side p) j keeps = tt
   true-below place w w′ c (start number lent) j keeps = tt
   true-below place w w′ c (speak number round lent out) j keeps = tt
   true-below place w w′ c (hear number round lent incoming) j keeps =
       λ taken.
       true-fits (w .log) (j .fits) c (keyAt (memoryOf w c .state) number) round incoming
-      (true-back w w′ (j .low) c _ _ round incoming (key-same (j .low) c number) (keeps taken .1))
+      (true-back w w′ (j .low) c _ _ round incoming (key-same (j .low) c number) (keeps (ground-lent g′ place (memoryOf w′ c) (w′ .log) number round lent incoming ∙ taken) .1))
   true-below place w w′ c drop j keeps = tt
   true-below place w w′ c (cut room) j keeps = tt
   true-below place w w′ c (cutStart number lent value room) j keeps = tt
@@ -188,37 +192,38 @@ module _ (g g′ : Setting) (pair : ℕ) (orders : InOrder g pair) (orders′ : 
       least (m .count) (m .is))
 
   -- so a hear is refused with 13 for other words only, which are the same in both runs
-  narrow-below : (w w′ : World) (c : Box) (step : Step) → Comparable w w′ → Narrow g w c step → Below w w′ c step
-  narrow-below w w′ c (wake n side p) j narrow = tt
-  narrow-below w w′ c (start number lent) j narrow = tt
-  narrow-below w w′ c (speak number round lent out) j narrow = tt
-  narrow-below w w′ c (hear number round lent (spokenAt place)) j narrow = λ taken. go (wordsFit (m .state .n) incoming) refl taken
+  narrow-below : (place : ℕ) (w w′ : World) (c : Box) (step : Step) → Comparable w w′ → Narrow g place w c step → Below w w′ c step
+  narrow-below place w w′ c (wake n side p) j narrow = tt
+  narrow-below place w w′ c (start number lent) j narrow = tt
+  narrow-below place w w′ c (speak number round lent out) j narrow = tt
+  narrow-below place w w′ c (hear number round lent (spokenAt from)) j narrow = λ taken. go (wordsFit (m .state .n) incoming) refl taken
     where
       m : Memory
       m = memoryOf w c
 
       incoming : List ℕ
-      incoming = eventAt (w .log) place .spoken
+      incoming = eventAt (w .log) from .spoken
 
       go : (b : Bool) → wordsFit (m .state .n) incoming ≡ b
-          → hearGround (memoryOf w′ c .state) number round (tapeWords g′ lent) (memoryOf w′ c .work) (eventAt (w′ .log) place .spoken) ≡ 0
+          → hearGround (memoryOf w′ c .state) number round (tapeWords g′ lent) (memoryOf w′ c .work) (eventAt (w′ .log) from .spoken) ≡ 0
           → wordsFit (m .state .n) incoming ≡ true
       go true fits taken = fits
       go false unfit taken =
           let t = j .low .memories c in
-          narrow-fits (w .log) (j .fits) (m .state .n) place
+          narrow-fits (w .log) (j .fits) (m .state .n) from
           (narrow
-          (hear-thirteen number round _ _ _ _ incoming _ (t .state) (t .room)
+          (ground-lent g place (memoryOf w c) (w .log) number round lent (spokenAt from)
+          ∙ hear-thirteen number round _ _ _ _ incoming _ (t .state) (t .room)
           (order-same g g′ pair orders orders′ (m .state .n) (m .state .pair) (m .state .side) number lent)
-          (j .low .events place .long) taken unfit))
-  narrow-below w w′ c (hear number round lent (other words)) j narrow =
+          (j .low .events from .long) taken unfit))
+  narrow-below place w w′ c (hear number round lent (other words)) j narrow =
       λ taken. rw (j .low .memories c .state .n) (hear-passed (memoryOf w′ c .state) number round _ _ words taken .words)
-  narrow-below w w′ c drop j narrow = tt
-  narrow-below w w′ c (cut room) j narrow = tt
-  narrow-below w w′ c (cutStart number lent value room) j narrow = tt
+  narrow-below place w w′ c drop j narrow = tt
+  narrow-below place w w′ c (cut room) j narrow = tt
+  narrow-below place w w′ c (cutStart number lent value room) j narrow = tt
 
-  narrow-too : (place : ℕ) (w w′ : World) (c : Box) (step : Step) → LowEquivalent w w′ → SameGround g g′ place w w′ c step → Narrow g w c step
-      → Narrow g′ w′ c step
+  narrow-too : (place : ℕ) (w w′ : World) (c : Box) (step : Step) → LowEquivalent w w′ → SameGround g g′ place w w′ c step → Narrow g place w c step
+      → Narrow g′ place w′ c step
   narrow-too place w w′ c (wake n side p) k f narrow = tt
   narrow-too place w w′ c (start number lent) k f narrow = tt
   narrow-too place w w′ c (speak number round lent out) k f narrow = tt
@@ -241,7 +246,7 @@ module _ (g g′ : Setting) (pair : ℕ) (orders : InOrder g pair) (orders′ : 
       → Meets g place w es → AllNarrow g place w es → Lasts es place w′
   lasts [] place w w′ j compatible meets narrow = record { meets = tt; compatible = tt; narrow = tt }
   lasts (e ∷ es) place w w′ j compatible meets narrow =
-      let f = same-ground place w w′ (e .box) (e .step) j (compatible .0) (meets .0) (narrow-below w w′ (e .box) (e .step) j (narrow .0)) in
+      let f = same-ground place w w′ (e .box) (e .step) j (compatible .0) (meets .0) (narrow-below place w w′ (e .box) (e .step) j (narrow .0)) in
       let rest = lasts es (suc place) _ _ (comparable-next place w w′ (e .box) (e .step) j f) (compatible .1) (meets .1) (narrow .1) in
       record {
         meets = (keeps-too g g′ place w w′ (j .low) (e .box) (e .step) f (meets .0), rest .meets);

@@ -40,8 +40,8 @@ SameGround g g′ place w w′ b (speak number round lent out) =
     speakGround (memoryOf w b .state) number round (tapeWords g lent) (memoryOf w b .work) out
     ≡ speakGround (memoryOf w′ b .state) number round (tapeWords g′ lent) (memoryOf w′ b .work) out
 SameGround g g′ place w w′ b (hear number round lent incoming) =
-    hearGround (memoryOf w b .state) number round (tapeWords g lent) (memoryOf w b .work) (incomingWords (w .log) incoming)
-    ≡ hearGround (memoryOf w′ b .state) number round (tapeWords g′ lent) (memoryOf w′ b .work) (incomingWords (w′ .log) incoming)
+    hearGround (memoryOf w b .state) number round (tapeWords g lent) (memoryOf w b .work) (incomingWords g place (memoryOf w b .state) (w .log) incoming)
+    ≡ hearGround (memoryOf w′ b .state) number round (tapeWords g′ lent) (memoryOf w′ b .work) (incomingWords g′ place (memoryOf w′ b .state) (w′ .log) incoming)
 SameGround g g′ place w w′ b drop = Unit {0}
 SameGround g g′ place w w′ b (cut room) = Unit {0}
 SameGround g g′ place w w′ b (cutStart number lent value room) =
@@ -225,7 +225,8 @@ step-consistent g g′ place w w′ b (hear number round lent incoming) k same-g
     let t = k .memories b in
     let r =
     hear-low (t .state) number round (tapeWords g lent) (tapeWords g′ lent) (memoryOf w b .work) (memoryOf w′ b .work)
-    (incomingWords (w .log) incoming) (incomingWords (w′ .log) incoming) (t .room) same-ground in
+    (incomingWords g place (memoryOf w b .state) (w .log) incoming) (incomingWords g′ place (memoryOf w′ b .state) (w′ .log) incoming)
+    (t .room) same-ground in
     after-low b k
     (record { state = r .state; tally = t .tally; room = r .buffer })
     (record { box = refl; key = ap (jobKey number) (t .state .n); round = refl; said = r .reply; long = refl })

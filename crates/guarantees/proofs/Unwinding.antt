@@ -1,18 +1,20 @@
 -- The unwinding of two runs, entry by entry: each keeps its invariant, both stay low-equivalent, and the words spoken and heard are the same.
 use Prim.Native.Nat.{ℕ, zero, suc, _<_}
-use mathlib.Core.Path.{_≡_, refl, sym, ap, subst, _∙_}
+use mathlib.Core.Path.{_≡_, refl, sym, ap, ap₂, subst, _∙_}
 use mathlib.Core.Bool.{Bool, true, false, false≢true}
 use mathlib.Core.List.{List, [], _∷_, _++_, map}
 use native.Mathlib.Omega.{arith}
 use lib.ListN.{length}
 use Rattle.field.specs.Width.{listed}
+use Rattle.shares.specs.Reading.{readWords, delivered}
+use Rattle.shares.proofs.Reading.{delivered-read}
 use Rattle.protocol.specs.Rounds.{lastRound}
 use Rattle.rules.specs.Grounds.{wordsFit}
 use Rattle.guarantees.specs.Boxes.{Box, box1, box2, otherBox}
 use Rattle.guarantees.specs.Keys.{Key}
 use Rattle.guarantees.specs.Outcomes.{Kind, opening, message, answer, plain, kindOf}
 use Rattle.guarantees.specs.Entries.{Incoming, spokenAt, other, Step, wake, start, speak, hear, drop, cut, cutStart}
-use Rattle.guarantees.specs.Run.{Lending, Setting, Memory, Said, Event, World, memoryOf, after, eventAt, incomingWords, stepped}
+use Rattle.guarantees.specs.Run.{Lending, Setting, Memory, Said, Event, World, memoryOf, after, eventAt, lineWords, stepped}
 use Rattle.guarantees.specs.Premises.{Keeps, Compatible}
 use Rattle.guarantees.specs.View.{seen, view}
 use Rattle.guarantees.proofs.LowEquivalence.{LowEvent, LowEquivalent}
@@ -20,6 +22,7 @@ use Rattle.guarantees.specs.Jobs.{sentBy, answerBy}
 use Rattle.guarantees.proofs.Refusals.{speak-same, hear-same}
 use Rattle.guarantees.proofs.StepConsistency.{SameGround, step-consistent}
 use Rattle.guarantees.proofs.Outcomes.{isMessage, kind-same, uncover, share-is, said-at}
+use Rattle.guarantees.proofs.Deliveries.{ground-lent}
 use Rattle.guarantees.proofs.Jobs.{InOrder}
 use Rattle.guarantees.proofs.SameGrounds.{order-same, start-ground, keeps-too}
 use Rattle.guarantees.proofs.Invariant.{Uttered, Answered, Conforms, Invariant, Booked, invariant-next}
@@ -50,23 +53,27 @@ view-same b (e ∷ log) (e′ ∷ log′) long each =
     ap (λ (d : Event). d ∷ map (seen b) log) (each zero)
     ∙ ap (λ (l : List Event). seen b e′ ∷ l) (view-same b log log′ (omega (arith, long)) (λ k. each (suc k)))
 
-abbrev IncomingSame : List Event → List Event → Type 0
-IncomingSame log log′ = (k : ℕ) → eventAt log k .incoming ≡ eventAt log′ k .incoming
+-- the words heard, after the reading
+abbrev heardWords : Event → List ℕ
+heardWords e = readWords (e .key .width) (e .incoming)
 
-incoming-more : (log log′ : List Event) (e e′ : Event) → length log ≡ length log′ → IncomingSame log log′ → e .incoming ≡ e′ .incoming
-    → IncomingSame (log ++ (e ∷ [])) (log′ ++ (e′ ∷ []))
-incoming-more [] [] e e′ long old new zero = new
-incoming-more [] [] e e′ long old new (suc k) = refl
-incoming-more [] (d′ ∷ log′) e e′ long old new k = absurd (omega (arith, long))
-incoming-more (d ∷ log) [] e e′ long old new k = absurd (omega (arith, long))
-incoming-more (d ∷ log) (d′ ∷ log′) e e′ long old new zero = old zero
-incoming-more (d ∷ log) (d′ ∷ log′) e e′ long old new (suc k) =
-    incoming-more log log′ e e′ (omega (arith, long)) (λ i. old (suc i)) new k
+abbrev HeardSame : List Event → List Event → Type 0
+HeardSame log log′ = (k : ℕ) → heardWords (eventAt log k) ≡ heardWords (eventAt log′ k)
 
-incoming-after : (w w′ : World) (c : Box) (m m′ : Memory) (e e′ : Event) → length (w .log) ≡ length (w′ .log)
-    → IncomingSame (w .log) (w′ .log) → e .incoming ≡ e′ .incoming → IncomingSame (after w c m e .log) (after w′ c m′ e′ .log)
-incoming-after w w′ box1 m m′ e e′ long old new = incoming-more (w .log) (w′ .log) e e′ long old new
-incoming-after w w′ box2 m m′ e e′ long old new = incoming-more (w .log) (w′ .log) e e′ long old new
+heard-more : (log log′ : List Event) (e e′ : Event) → length log ≡ length log′ → HeardSame log log′ → heardWords e ≡ heardWords e′
+    → HeardSame (log ++ (e ∷ [])) (log′ ++ (e′ ∷ []))
+heard-more [] [] e e′ long old new zero = new
+heard-more [] [] e e′ long old new (suc k) = refl
+heard-more [] (d′ ∷ log′) e e′ long old new k = absurd (omega (arith, long))
+heard-more (d ∷ log) [] e e′ long old new k = absurd (omega (arith, long))
+heard-more (d ∷ log) (d′ ∷ log′) e e′ long old new zero = old zero
+heard-more (d ∷ log) (d′ ∷ log′) e e′ long old new (suc k) =
+    heard-more log log′ e e′ (omega (arith, long)) (λ i. old (suc i)) new k
+
+heard-after : (w w′ : World) (c : Box) (m m′ : Memory) (e e′ : Event) → length (w .log) ≡ length (w′ .log)
+    → HeardSame (w .log) (w′ .log) → heardWords e ≡ heardWords e′ → HeardSame (after w c m e .log) (after w′ c m′ e′ .log)
+heard-after w w′ box1 m m′ e e′ long old new = heard-more (w .log) (w′ .log) e e′ long old new
+heard-after w w′ box2 m m′ e e′ long old new = heard-more (w .log) (w′ .log) e e′ long old new
 
 -- two books of shares, and two settings
 module _ (b : Box) (g g′ : Setting) (pair : ℕ) (book book′ : Box → Key → Lending) where
@@ -84,7 +91,7 @@ module _ (b : Box) (g g′ : Setting) (pair : ℕ) (book book′ : Box → Key �
     pub low : LowEquivalent w w′
     pub invariant : Invariant g book w
     pub invariant′ : Invariant g′ book′ w′
-    pub heard-same : IncomingSame (w .log) (w′ .log)
+    pub heard-same : HeardSame (w .log) (w′ .log)
 
   module _ (a : Alike) (w w′ : World) (j : Related w w′) where
     spoken-same : (k : ℕ) → eventAt (w .log) k .spoken ≡ eventAt (w′ .log) k .spoken
@@ -136,7 +143,7 @@ module _ (b : Box) (g g′ : Setting) (pair : ℕ) (book book′ : Box → Key �
             let se = j .low .events k in
             rw (said-at b (e .box) (e .said) (e′ .said) (se .said) (said-same k), spoken-same k, j .heard-same k, se .box, se .key, se .round)
 
-    words-same : (incoming : Incoming) → incomingWords (w .log) incoming ≡ incomingWords (w′ .log) incoming
+    words-same : (incoming : Incoming) → lineWords (w .log) incoming ≡ lineWords (w′ .log) incoming
     words-same (spokenAt place) = spoken-same place
     words-same (other words) = refl
 
@@ -151,25 +158,37 @@ module _ (b : Box) (g g′ : Setting) (pair : ℕ) (book book′ : Box → Key �
     same-ground place c (hear number round lent incoming) h =
         let m = memoryOf w c in
         let t = j .low .memories c in
-        hear-same number round _ _ _ _ _ _ (t .state) (t .room) (order-same g g′ pair (a .orders) (a .orders′) (m .state .n) (m .state .pair) (m .state .side) number lent)
+        ground-lent g place m (w .log) number round lent incoming
+        ∙ hear-same number round _ _ _ _ _ _ (t .state) (t .room) (order-same g g′ pair (a .orders) (a .orders′) (m .state .n) (m .state .pair) (m .state .side) number lent)
         (ap length (words-same incoming)) (ap (wordsFit (m .state .n)) (words-same incoming))
+        ∙ sym (ground-lent g′ place (memoryOf w′ c) (w′ .log) number round lent incoming)
     same-ground place c drop h = tt
     same-ground place c (cut room) h = tt
     same-ground place c (cutStart number lent value room) h = start-ground g g′ pair (a .orders) (a .orders′) w w′ (j .low) place c number lent (h .0) (h .1)
 
-    incoming-next : (place : ℕ) (c : Box) (step : Step) → IncomingSame (stepped g place w c step .log) (stepped g′ place w′ c step .log)
+    -- each run's board spells the words its own way; the reading is the same
+    read-same : (place : ℕ) (c : Box) (incoming : Incoming)
+        → let n = memoryOf w c .state .n in
+        let n′ = memoryOf w′ c .state .n in
+        readWords n (delivered n (g .board place) (lineWords (w .log) incoming)) ≡ readWords n′ (delivered n′ (g′ .board place) (lineWords (w′ .log) incoming))
+    read-same place c incoming =
+        delivered-read (memoryOf w c .state .n) (g .board place) (lineWords (w .log) incoming)
+        ∙ ap₂ readWords (j .low .memories c .state .n) (words-same incoming)
+        ∙ sym (delivered-read (memoryOf w′ c .state .n) (g′ .board place) (lineWords (w′ .log) incoming))
+
+    heard-next : (place : ℕ) (c : Box) (step : Step) → HeardSame (stepped g place w c step .log) (stepped g′ place w′ c step .log)
     unfolding stepped
-    incoming-next place c (wake n side p) = incoming-after w w′ c _ _ _ _ (j .low .places) (j .heard-same) refl
-    incoming-next place c (start number lent) = incoming-after w w′ c _ _ _ _ (j .low .places) (j .heard-same) refl
-    incoming-next place c (speak number round lent out) = incoming-after w w′ c _ _ _ _ (j .low .places) (j .heard-same) refl
-    incoming-next place c (hear number round lent incoming) =
-        incoming-after w w′ c _ _ _ _ (j .low .places) (j .heard-same) (words-same incoming)
-    incoming-next place c drop = incoming-after w w′ c _ _ _ _ (j .low .places) (j .heard-same) refl
-    incoming-next place c (cut room) = incoming-after w w′ c _ _ _ _ (j .low .places) (j .heard-same) refl
-    incoming-next place c (cutStart number lent value room) = incoming-after w w′ c _ _ _ _ (j .low .places) (j .heard-same) refl
+    heard-next place c (wake n side p) = heard-after w w′ c _ _ _ _ (j .low .places) (j .heard-same) refl
+    heard-next place c (start number lent) = heard-after w w′ c _ _ _ _ (j .low .places) (j .heard-same) refl
+    heard-next place c (speak number round lent out) = heard-after w w′ c _ _ _ _ (j .low .places) (j .heard-same) refl
+    heard-next place c (hear number round lent incoming) =
+        heard-after w w′ c _ _ _ _ (j .low .places) (j .heard-same) (read-same place c incoming)
+    heard-next place c drop = heard-after w w′ c _ _ _ _ (j .low .places) (j .heard-same) refl
+    heard-next place c (cut room) = heard-after w w′ c _ _ _ _ (j .low .places) (j .heard-same) refl
+    heard-next place c (cutStart number lent value room) = heard-after w w′ c _ _ _ _ (j .low .places) (j .heard-same) refl
 
     -- one entry
-    pub related-next : (place : ℕ) (c : Box) (step : Step) → Keeps g w c step → Compatible (g′ .shares) g place w c step
+    pub related-next : (place : ℕ) (c : Box) (step : Step) → Keeps g place w c step → Compatible (g′ .shares) g place w c step
         → Booked g book place w c step → Booked g′ book′ place w′ c step
         → Related (stepped g place w c step) (stepped g′ place w′ c step)
     related-next place c step keeps h booked booked′ =
@@ -178,5 +197,5 @@ module _ (b : Box) (g g′ : Setting) (pair : ℕ) (book book′ : Box → Key �
           low = step-consistent g g′ place w w′ c step (j .low) f;
           invariant = invariant-next g book pair (a .orders) place w c step (j .invariant) keeps booked;
           invariant′ = invariant-next g′ book′ pair (a .orders′) place w′ c step (j .invariant′) (keeps-too g g′ place w w′ (j .low) c step f keeps) booked′;
-          heard-same = incoming-next place c step;
+          heard-same = heard-next place c step;
         }

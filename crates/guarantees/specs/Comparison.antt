@@ -1,7 +1,7 @@
 -- Two runs over one list that differ in one box's tapes and shares: what they have in common, what may differ, and when they meet the premises.
 use Prim.Native.Nat.{ℕ}
 use mathlib.Core.Path.{_≡_}
-use mathlib.Core.Bool.{true}
+use mathlib.Core.Bool.{Bool, true}
 use mathlib.Core.List.{List, []}
 use Rattle.lists.specs.Tabulate.{tabulate}
 use Rattle.field.specs.Width.{listed}
@@ -34,10 +34,11 @@ pub record Common : Type 0 where
   pub others : TapeSet
   pub lendings : ℕ → Lending
 
--- what may differ at will: the words of work at first and after a cut
+-- what may differ at will: the words of work at first and after a cut, and which zeros the board respells
 pub record Loose : Type 0 where
   pub works : Box → ℕ → ℕ
   pub leftovers : ℕ → ℕ → ℕ
+  pub board : ℕ → ℕ → Bool
 
 -- ---- tapes
 
@@ -68,7 +69,7 @@ worldOf c w = record { memory1 = memoryAt c w box1; memory2 = memoryAt c w box2;
 -- box b has these tapes and shares
 abbrev pub settingOf : Common → Box → TapeSet → (ℕ → Lending) → Loose → Setting
 settingOf c b own shares w =
-    record { tapes = byBox b own (c .others); shares = byBox b shares (c .lendings); leftovers = w .leftovers }
+    record { tapes = byBox b own (c .others); shares = byBox b shares (c .lendings); leftovers = w .leftovers; board = w .board }
 
 abbrev pub events : Common → Box → TapeSet → (ℕ → Lending) → Loose → List Event
 events c b own shares w = run (settingOf c b own shares w) 0 (worldOf c w) (c .entries) .log
@@ -79,7 +80,7 @@ pub record Premises (c : Common) (b : Box) (shares shares′ : ℕ → Lending) 
   pub meets : Meets (settingOf c b own shares w) 0 (worldOf c w) (c .entries)
   pub compatible : AllCompatible (byBox b shares′ (c .lendings)) (settingOf c b own shares w) 0 (worldOf c w) (c .entries)
 
--- a valid set and words of work with which the list meets the premises
+-- a valid set, words of work and spellings with which the list meets the premises
 pub record Witness (c : Common) (b : Box) (shares shares′ : ℕ → Lending) : Type 0 where
   pub own : TapeSet
   pub loose : Loose

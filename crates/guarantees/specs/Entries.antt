@@ -9,7 +9,7 @@ pub data Lent : Type 0 where
   dealt : (box : Box) (number width : ℕ) → Lent
   loose : List ℕ → Lent
 
--- lent incoming words: those spoken at a place of the list, or others
+-- incoming words: those spoken at a place of the list, or others; a hear is lent them as the board delivers them (Run)
 pub data Incoming : Type 0 where
   spokenAt : (place : ℕ) → Incoming
   other : List ℕ → Incoming

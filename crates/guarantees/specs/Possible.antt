@@ -1,9 +1,11 @@
--- The premises of demand 3 are not empty: two lists at width 3 that meet them, on the plain tapes, in which both boxes answer.
+-- The premises of demand 3 are not empty: two lists at width 3 that meet them, on the plain tapes, in which both boxes answer; one of them also
+-- with a board that spells every zero as p.
 use Prim.Native.Nat.{ℕ, zero, suc, _+_, _*_, _%_}
 use mathlib.Core.Path.{_≡_}
+use mathlib.Core.Bool.{Bool, true, false}
 use mathlib.Core.List.{List, [], _∷_, _++_}
 use lib.Dec.{ltb}
-use lib.ListN.{replicate}
+use lib.ListN.{getD, replicate}
 use Rattle.field.specs.Width.{modulus}
 use Rattle.tape.specs.Plain.{plainTape}
 use Rattle.encoding.specs.Matching.{indicator}
@@ -46,8 +48,9 @@ plainCommon entries b =
       lendings = sharesOf (otherBox b);
     }
 
-abbrev pub zeros : Loose
-zeros = record { works = λ c k. 0; leftovers = λ place k. 0 }
+-- zeros in work; the board respells every zero, or none
+abbrev pub zeros : Bool → Loose
+zeros respelled = record { works = λ c k. 0; leftovers = λ place k. 0; board = λ place k. respelled }
 
 infixl 10 _does_
 abbrev pub _does_ : Box → Step → Entry
@@ -100,11 +103,11 @@ pub record AnswersAt (log : List Event) (place : ℕ) (b : Box) (v : ℕ) : Type
   pub said : eventAt log place .said ≡ replied (share v)
 
 -- whichever box is to stay hidden: the list meets the premises, and both boxes answer with their last hears, from that place on
-pub record Possible (entries : List Entry) (place : ℕ) (b : Box) : Type 0 where
+pub record Possible (entries : List Entry) (respelled : Bool) (place : ℕ) (b : Box) : Type 0 where
   pub valid : Valid (plainCommon entries b) b (plainSet b)
-  pub premises : Premises (plainCommon entries b) b (sharesOf b) sharesAnew (plainSet b) zeros
-  pub answer1 : AnswersAt (events (plainCommon entries b) b (plainSet b) (sharesOf b) zeros) place box1 2
-  pub answer2 : AnswersAt (events (plainCommon entries b) b (plainSet b) (sharesOf b) zeros) (place + 1) box2 6
+  pub premises : Premises (plainCommon entries b) b (sharesOf b) sharesAnew (plainSet b) (zeros respelled)
+  pub answer1 : AnswersAt (events (plainCommon entries b) b (plainSet b) (sharesOf b) (zeros respelled)) place box1 2
+  pub answer2 : AnswersAt (events (plainCommon entries b) b (plainSet b) (sharesOf b) (zeros respelled)) (place + 1) box2 6
 
 -- the sum of the two answers is the bit of x < y
 abbrev pub RightSum : Type 0
@@ -114,6 +117,12 @@ RightSum = (2 + 6) % modulus 3 ≡ indicator (ltb ((5 + 5) % modulus 3) ((1 + 3)
 abbrev pub CutInMark : Type 0
 CutInMark =
     let c = plainCommon again box1 in
-    let g = settingOf c box1 (plainSet box1) (sharesOf box1) zeros in
-    let m = run g 0 (worldOf c zeros) (wakes box1 ∷ wakes box2 ∷ []) .memory1 in
+    let g = settingOf c box1 (plainSet box1) (sharesOf box1) (zeros false) in
+    let m = run g 0 (worldOf c (zeros false)) (wakes box1 ∷ wakes box2 ∷ []) .memory1 in
     startGround (m .state) 0 (g .shares box1 2 .x) (g .shares box1 2 .y) (tapeWords g (dealt box1 0 3)) (m .work) (m .tally) ≡ 0
+
+-- where the board respells, it did: in the first round each box hears a 7, which none speaks
+abbrev pub ZerosRespelled : Type 0
+ZerosRespelled =
+    let log = events (plainCommon whole box1) box1 (plainSet box1) (sharesOf box1) (zeros true) in
+    (getD (eventAt log 6 .incoming) 27 0 ≡ 7) × (getD (eventAt log 7 .incoming) 28 0 ≡ 7)

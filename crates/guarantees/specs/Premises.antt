@@ -15,7 +15,8 @@ use Rattle.guarantees.specs.Keys.{Key, keyAt}
 use Rattle.guarantees.specs.Entries.{dealt, Incoming, spokenAt, Step, wake, start, speak, hear, drop, cut, cutStart, Entry}
 use Rattle.guarantees.specs.Run.{Lending, Setting, Memory, Event, replied, World, memoryOf, eventAt, tapeWords, incomingWords, stepped}
 
--- a message is true: it was spoken at an earlier place of the list by the other box, under the same job and round
+-- a message is true: it was spoken at an earlier place of the list by the other box, under the same job and round. Which of its zeros the board
+-- respells makes no difference: after the reading it is what was spoken (shares, Deliveries)
 pub record TrueMessage (log : List Event) (b : Box) (key : Key) (round : ℕ) (incoming : Incoming) : Type 0 where
   pub place : ℕ
   pub named : incoming ≡ spokenAt place
@@ -28,23 +29,24 @@ pub record TrueMessage (log : List Event) (b : Box) (key : Key) (round : ℕ) (i
 
 -- what an entry that is not refused keeps to; a ground of 0 is none. Document 01 also has a wake name its box's own side and pair, and a
 -- start lent its box's dealt tape. Nothing rests on either: under another side or pair a speak with the box's dealt tape is refused with 10
-abbrev pub Keeps : Setting → World → Box → Step → Type 0
-Keeps g w b (wake n side pair) = Unit {0}
-Keeps g w b (start number lent) = Unit {0}
-Keeps g w b (speak number round lent out) =
+abbrev pub Keeps : Setting → ℕ → World → Box → Step → Type 0
+Keeps g place w b (wake n side pair) = Unit {0}
+Keeps g place w b (start number lent) = Unit {0}
+Keeps g place w b (speak number round lent out) =
     speakGround (memoryOf w b .state) number round (tapeWords g lent) (memoryOf w b .work) out ≡ 0
     → lent ≡ dealt b number (memoryOf w b .state .n)
-Keeps g w b (hear number round lent incoming) =
-    hearGround (memoryOf w b .state) number round (tapeWords g lent) (memoryOf w b .work) (incomingWords (w .log) incoming) ≡ 0
+Keeps g place w b (hear number round lent incoming) =
+    hearGround (memoryOf w b .state) number round (tapeWords g lent) (memoryOf w b .work)
+    (incomingWords g place (memoryOf w b .state) (w .log) incoming) ≡ 0
     → (lent ≡ dealt b number (memoryOf w b .state .n)) × TrueMessage (w .log) b (keyAt (memoryOf w b .state) number) round incoming
-Keeps g w b drop = Unit {0}
-Keeps g w b (cut room) = Unit {0}
-Keeps g w b (cutStart number lent value room) = Unit {0}
+Keeps g place w b drop = Unit {0}
+Keeps g place w b (cut room) = Unit {0}
+Keeps g place w b (cutStart number lent value room) = Unit {0}
 
 -- every entry from a place on keeps to them
 abbrev pub Meets : Setting → ℕ → World → List Entry → Type 0
 Meets g place w [] = Unit {0}
-Meets g place w (e ∷ es) = Keeps g w (e .box) (e .step) × Meets g (suc place) (stepped g place w (e .box) (e .step)) es
+Meets g place w (e ∷ es) = Keeps g place w (e .box) (e .step) × Meets g (suc place) (stepped g place w (e .box) (e .step)) es
 
 -- at first both boxes are asleep
 pub record AtFirst (w : World) : Type 0 where

@@ -1,11 +1,12 @@
 -- A run threads state, work and tally of each box through the list, by the very rules that the contracts of the five calls cite.
 use Prim.Native.Nat.{ℕ, zero, suc}
-use mathlib.Core.Bool.{cond}
+use mathlib.Core.Bool.{Bool, cond}
 use mathlib.Core.List.{List, [], _∷_, _++_}
 use lib.Dec.{eqb}
 use lib.ListN.{take}
 use Rattle.lists.specs.Tabulate.{tabulate}
 use Rattle.field.specs.Width.{listed}
+use Rattle.shares.specs.Reading.{delivered}
 use Rattle.rules.specs.Answers.{Reply, fresh, started, spoke, heard, share, dropped, refused}
 use Rattle.rules.specs.Tally.{cutMarked}
 use Rattle.rules.specs.Modes.{modeOf, inJob, asleepState}
@@ -22,11 +23,12 @@ pub record Lending : Type 0 where
   pub y : ℕ
 
 -- what a run is given beside the list: the dealt tapes by box, number and width; the shares by box and the start's place; the words that
--- work holds after a cut, by the cut's place
+-- work holds after a cut, by the cut's place; which zeros the link board spells as p, by the hear's place and the word's index
 pub record Setting : Type 0 where
   pub tapes : Box → ℕ → ℕ → List ℕ
   pub shares : Box → ℕ → Lending
   pub leftovers : ℕ → ℕ → ℕ
+  pub board : ℕ → ℕ → Bool
 
 -- what one box keeps and is lent
 pub record Memory : Type 0 where
@@ -77,9 +79,15 @@ abbrev pub tapeWords : Setting → Lent → List ℕ
 tapeWords g (dealt box number width) = cond (listed width) (g .tapes box number width) []
 tapeWords g (loose words) = words
 
-abbrev pub incomingWords : List Event → Incoming → List ℕ
-incomingWords log (spokenAt place) = eventAt log place .spoken
-incomingWords log (other words) = words
+-- the words that come over the line
+abbrev pub lineWords : List Event → Incoming → List ℕ
+lineWords log (spokenAt place) = eventAt log place .spoken
+lineWords log (other words) = words
+
+-- what a hear at a place of the list is lent, refused or not: these words as the board at the hearing box delivers them, so p is of that box's
+-- width
+abbrev pub incomingWords : Setting → ℕ → State → List Event → Incoming → List ℕ
+incomingWords g place s log incoming = delivered (s .n) (g .board place) (lineWords log incoming)
 
 -- the words at the front of out, as many as the answer says
 abbrev pub spokenWords : Reply → List ℕ → List ℕ
@@ -130,7 +138,7 @@ stepped g place w b (speak number round lent out) =
     })
 stepped g place w b (hear number round lent named) =
     let m = memoryOf w b in
-    let incoming = incomingWords (w .log) named in
+    let incoming = incomingWords g place (m .state) (w .log) named in
     let r = hearRule (m .state) number round (tapeWords g lent) (m .work) incoming in
     after w b (record { state = r .state; work = r .buffer; tally = m .tally })
     (record { box = b; key = keyAt (m .state) number; round = round; said = replied (r .reply); spoken = []; incoming = incoming })

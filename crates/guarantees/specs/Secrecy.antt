@@ -13,7 +13,8 @@ use Rattle.guarantees.specs.View.{view}
 use Rattle.guarantees.specs.Comparison.{TapeSet, Common, Loose, Matching, Valid, TapeMap, image, events, Premises, Witness}
 
 -- `there` takes each tape that matches the other box's to one that does, and `back` undoes it. Where a run with a set and the first shares
--- meets the premises, the run with the set of the images and the second shares meets them too and looks the same, whatever work holds in either
+-- meets the premises, the run with the set of the images and the second shares meets them too and looks the same, whatever work holds and
+-- whichever zeros the board respells in either
 pub record Hidden (c : Common) (b : Box) (shares shares′ : ℕ → Lending) (there back : TapeMap) : Type 0 where
   pub matching : (number n : ℕ) (tape : List ℕ) → Matching c b number n tape → Matching c b number n (there number n tape)
   pub undone : (number n : ℕ) (tape : List ℕ) → Matching c b number n tape → back number n (there number n tape) ≡ tape

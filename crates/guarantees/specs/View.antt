@@ -1,5 +1,7 @@
--- What is compared: of every entry all that it came to, but for the answer share of the box whose shares are to stay hidden.
+-- What is compared: of every entry all that it came to, but for the answer share of the box whose shares are to stay hidden. Words spoken are
+-- compared as they are, words heard after the reading (document 02, P3).
 use mathlib.Core.List.{List, map}
+use Rattle.shares.specs.Reading.{readWords}
 use Rattle.rules.specs.Answers.{fresh, started, spoke, heard, share, dropped, refused}
 use Rattle.guarantees.specs.Boxes.{Box, box1, box2}
 use Rattle.guarantees.specs.Run.{Said, nothing, lost, replied, Event}
@@ -31,7 +33,7 @@ seen b e =
       round = e .round;
       said = saidAt b (e .box) (e .said);
       spoken = e .spoken;
-      incoming = e .incoming;
+      incoming = readWords (e .key .width) (e .incoming);
     }
 
 abbrev pub view : Box → List Event → List Event

@@ -15,6 +15,7 @@ use Rattle.lists.proofs.Tabulate.{length-tabulate, getD-tabulate}
 use Rattle.lists.proofs.Maps.{length-map, getD-map}
 use Rattle.field.specs.Width.{modulus}
 use Rattle.shares.specs.Reading.{read, legible, readWords, respelled, delivered}
+use Rattle.shares.specs.Deliveries.{Deliveries}
 use Rattle.shares.specs.Share.{opened}
 
 -- ---- one word
@@ -85,14 +86,40 @@ pub length-delivered : (n : ℕ) (chosen : ℕ → Bool) (words : List ℕ) → 
 unfolding delivered
 length-delivered n chosen words = length-tabulate (length words) (λ i. respelled n (chosen i) (getD words i 0))
 
+getD-delivered : (n : ℕ) (chosen : ℕ → Bool) (words : List ℕ) (i : ℕ) → i < length (delivered n chosen words)
+    → getD (delivered n chosen words) i 0 ≡ respelled n (chosen i) (getD words i 0)
+unfolding delivered
+getD-delivered n chosen words i less =
+    getD-tabulate (length words) (λ k. respelled n (chosen k) (getD words k 0)) i 0 (omega (arith, less, length-delivered n chosen words))
+
 -- whichever zeros the board respells, the message is read as it was sent
 pub delivered-read : (n : ℕ) (chosen : ℕ → Bool) (words : List ℕ) → readWords n (delivered n chosen words) ≡ readWords n words
-unfolding delivered
 delivered-read n chosen words =
-    ext-getD 0 (readWords n (delivered n chosen words)) (readWords n words)
-    (length-read n (delivered n chosen words) ∙ length-delivered n chosen words ∙ sym (length-read n words))
+    let lent = delivered n chosen words in
+    ext-getD 0 (readWords n lent) (readWords n words) (length-read n lent ∙ length-delivered n chosen words ∙ sym (length-read n words))
     (λ i less.
-    getD-read n (delivered n chosen words) i
-    ∙ ap (read n) (getD-tabulate (length words) (λ k. respelled n (chosen k) (getD words k 0)) i 0 (omega (arith, less, length-read n (delivered n chosen words), length-delivered n chosen words)))
+    getD-read n lent i
+    ∙ ap (read n) (getD-delivered n chosen words i (omega (arith, less, length-read n lent)))
     ∙ read-respelled n (chosen i) (getD words i 0)
     ∙ sym (getD-read n words i))
+
+-- spelled again where p stands, a reading is what was lent
+spelled-back : (n word : ℕ) → respelled n (eqb word (modulus n)) (read n word) ≡ word
+unfolding read
+spelled-back n word = go (eqb word (modulus n)) refl
+  where
+    go : (t : Bool) → eqb word (modulus n) ≡ t → respelled n t (cond t 0 word) ≡ word
+    go true is-p = sym (eqb-true word (modulus n) is-p)
+    go false other = refl
+
+any-spelling : (n : ℕ) (lent : List ℕ) → delivered n (λ i. eqb (getD lent i 0) (modulus n)) (readWords n lent) ≡ lent
+any-spelling n lent =
+    let there : ℕ → Bool = λ i. eqb (getD lent i 0) (modulus n) in
+    ext-getD 0 (delivered n there (readWords n lent)) lent (length-delivered n there (readWords n lent) ∙ length-read n lent)
+    (λ i less.
+    getD-delivered n there (readWords n lent) i less
+    ∙ ap (respelled n (there i)) (getD-read n lent i)
+    ∙ spelled-back n (getD lent i 0))
+
+pub deliveries : Deliveries
+deliveries = record { same-reading = delivered-read; any-spelling = any-spelling }

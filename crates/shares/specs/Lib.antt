@@ -1,3 +1,4 @@
 pub mod Side
 pub mod Reading
+pub mod Deliveries
 pub mod Share
