@@ -16,7 +16,7 @@ use Rattle.guarantees.specs.Outcomes.{Kind, opening, message, answer, pl
 use Rattle.guarantees.specs.Entries.{Incoming, spokenAt, other, Step, wake, start, speak, hear, drop, cut, cutStart}
 use Rattle.guarantees.specs.Run.{Lending, Setting, Memory, Said, Event, World, memoryOf, after, eventAt, lineWords, stepped}
 use Rattle.guarantees.specs.Premises.{Keeps, Compatible}
-use Rattle.guarantees.specs.View.{seen, view}
+use Rattle.guarantees.specs.View.{heardAs, seen, view}
 use Rattle.guarantees.proofs.LowEquivalence.{LowEvent, LowEquivalent}
 use Rattle.guarantees.specs.Jobs.{sentBy, answerBy}
 use Rattle.guarantees.proofs.Refusals.{speak-same, hear-same}
@@ -53,14 +53,10 @@ view-same b (e ∷ log) (e′ ∷ log′) long each =
     ap (λ (d : Event). d ∷ map (seen b) log) (each zero)
     ∙ ap (λ (l : List Event). seen b e′ ∷ l) (view-same b log log′ (omega (arith, long)) (λ k. each (suc k)))
 
--- the words heard, after the reading
-abbrev heardWords : Event → List ℕ
-heardWords e = readWords (e .key .width) (e .incoming)
-
 abbrev HeardSame : List Event → List Event → Type 0
-HeardSame log log′ = (k : ℕ) → heardWords (eventAt log k) ≡ heardWords (eventAt log′ k)
+HeardSame log log′ = (k : ℕ) → heardAs (eventAt log k) ≡ heardAs (eventAt log′ k)
 
-heard-more : (log log′ : List Event) (e e′ : Event) → length log ≡ length log′ → HeardSame log log′ → heardWords e ≡ heardWords e′
+heard-more : (log log′ : List Event) (e e′ : Event) → length log ≡ length log′ → HeardSame log log′ → heardAs e ≡ heardAs e′
     → HeardSame (log ++ (e ∷ [])) (log′ ++ (e′ ∷ []))
 heard-more [] [] e e′ long old new zero = new
 heard-more [] [] e e′ long old new (suc k) = refl
@@ -71,7 +67,7 @@ heard-more (d ∷ log) (d′ ∷ log′) e e′ long old new (suc k) =
     heard-more log log′ e e′ (omega (arith, long)) (λ i. old (suc i)) new k
 
 heard-after : (w w′ : World) (c : Box) (m m′ : Memory) (e e′ : Event) → length (w .log) ≡ length (w′ .log)
-    → HeardSame (w .log) (w′ .log) → heardWords e ≡ heardWords e′ → HeardSame (after w c m e .log) (after w′ c m′ e′ .log)
+    → HeardSame (w .log) (w′ .log) → heardAs e ≡ heardAs e′ → HeardSame (after w c m e .log) (after w′ c m′ e′ .log)
 heard-after w w′ box1 m m′ e e′ long old new = heard-more (w .log) (w′ .log) e e′ long old new
 heard-after w w′ box2 m m′ e e′ long old new = heard-more (w .log) (w′ .log) e e′ long old new
 

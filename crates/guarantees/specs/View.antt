@@ -1,5 +1,5 @@
--- What is compared: of every entry all that it came to, but for the answer share of the box whose shares are to stay hidden. Words spoken are
--- compared as they are, words heard after the reading (document 02, P3).
+-- What is compared: of every entry all that it came to, but for the answer share of the box whose shares are to stay hidden.
+use Prim.Native.Nat.{ℕ}
 use mathlib.Core.List.{List, map}
 use Rattle.shares.specs.Reading.{readWords}
 use Rattle.rules.specs.Answers.{fresh, started, spoke, heard, share, dropped, refused}
@@ -25,6 +25,10 @@ saidAt box1 box2 said = said
 saidAt box2 box1 said = said
 saidAt box2 box2 said = covered said
 
+-- words spoken are compared as they are, words heard after the reading, for the hearing box's width (document 02, P3)
+abbrev pub heardAs : Event → List ℕ
+heardAs e = readWords (e .key .width) (e .incoming)
+
 abbrev pub seen : Box → Event → Event
 seen b e =
     record {
@@ -33,7 +37,7 @@ seen b e =
       round = e .round;
       said = saidAt b (e .box) (e .said);
       spoken = e .spoken;
-      incoming = readWords (e .key .width) (e .incoming);
+      incoming = heardAs e;
     }
 
 abbrev pub view : Box → List Event → List Event

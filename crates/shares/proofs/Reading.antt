@@ -20,17 +20,6 @@ use Rattle.shares.specs.Share.{opened}
 
 -- ---- one word
 
-pub read-zero : (n : ℕ) → read n 0 ≡ 0
-unfolding read
-read-zero n = either (eqb 0 (modulus n))
-  where
-    none : ℕ
-    none = 0
-
-    either : (t : Bool) → cond t none none ≡ none
-    either true = refl
-    either false = refl
-
 -- the reading changes nothing modulo p
 read-mod : (n own word : ℕ) → (own + read n word) % modulus n ≡ (own + word) % modulus n
 unfolding read
@@ -62,6 +51,17 @@ legible-read n word = go (eqb word (modulus n)) refl
 pub legible-below : (n word : ℕ) → ltb word (modulus n + 1) ≡ legible n word
 unfolding legible
 legible-below n word = rw (add-one (modulus n)) (leb·suc-suc word (modulus n))
+
+read-zero : (n : ℕ) → read n 0 ≡ 0
+unfolding read
+read-zero n = either (eqb 0 (modulus n))
+  where
+    none : ℕ
+    none = 0
+
+    either : (t : Bool) → cond t none none ≡ none
+    either true = refl
+    either false = refl
 
 -- the board's spelling is read as the word
 read-respelled : (n : ℕ) (chosen : Bool) (word : ℕ) → read n (respelled n chosen word) ≡ read n word

@@ -1,6 +1,6 @@
 -- `shares::all_legible` meets its contract: a word is at most p just when it is below p + 1.
 use Prim.Native.Nat.{ℕ, _+_}
-use mathlib.Core.Path.{ap, _∙_}
+use mathlib.Core.Path.{_≡_, ap, _∙_}
 use native.Mathlib.Omega.{arith}
 use borrow.Author.Needs.{needs}
 use lib.Dec.{ltb}
@@ -19,7 +19,8 @@ returns : tie.Need-returns
 returns c =
     let a = c .before .before .before .args in
     let words = a .words .now in
-    c .all-below .ensures
+    let below : c .all-below .result ≡ every (length words) (λ i. ltb (getD words i 0) (c .before .modulus-of .result + 1)) = c .all-below .ensures in
+    below
     ∙ ap (λ (p : ℕ). every (length words) (λ i. ltb (getD words i 0) (p + 1))) (c .before .modulus-of .ensures)
     ∙ every-same (length words) (λ i. ltb (getD words i 0) (modulus (a .n) + 1)) (λ i. legible (a .n) (getD words i 0))
     (λ i less. legible-below (a .n) (getD words i 0))
