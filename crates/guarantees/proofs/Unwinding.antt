@@ -6,15 +6,15 @@ use mathlib.Core.List.{List, [], _∷_, _++_, map}
 use native.Mathlib.Omega.{arith}
 use lib.ListN.{length}
 use Rattle.field.specs.Width.{listed}
-use Rattle.shares.specs.Reading.{readWords, delivered}
+use Rattle.shares.specs.Reading.{readWords}
 use Rattle.shares.proofs.Reading.{delivered-read}
 use Rattle.protocol.specs.Rounds.{lastRound}
 use Rattle.rules.specs.Grounds.{wordsFit}
 use Rattle.guarantees.specs.Boxes.{Box, box1, box2, otherBox}
-use Rattle.guarantees.specs.Keys.{Key}
+use Rattle.guarantees.specs.Keys.{Key, keyAt}
 use Rattle.guarantees.specs.Outcomes.{Kind, opening, message, answer, plain, kindOf}
 use Rattle.guarantees.specs.Entries.{Incoming, spokenAt, other, Step, wake, start, speak, hear, drop, cut, cutStart}
-use Rattle.guarantees.specs.Run.{Lending, Setting, Memory, Said, Event, World, memoryOf, after, eventAt, lineWords, stepped}
+use Rattle.guarantees.specs.Run.{Lending, Setting, Memory, Said, nothing, Event, World, memoryOf, after, eventAt, lineWords, incomingWords, stepped}
 use Rattle.guarantees.specs.Premises.{Keeps, Compatible}
 use Rattle.guarantees.specs.View.{heardAs, seen, view}
 use Rattle.guarantees.proofs.LowEquivalence.{LowEvent, LowEquivalent}
@@ -70,6 +70,18 @@ heard-after : (w w′ : World) (c : Box) (m m′ : Memory) (e e′ : Event) → 
     → HeardSame (w .log) (w′ .log) → heardAs e ≡ heardAs e′ → HeardSame (after w c m e .log) (after w′ c m′ e′ .log)
 heard-after w w′ box1 m m′ e e′ long old new = heard-more (w .log) (w′ .log) e e′ long old new
 heard-after w w′ box2 m m′ e e′ long old new = heard-more (w .log) (w′ .log) e e′ long old new
+
+-- what a hear adds to the log, as far as its words go
+abbrev hearEvent : Setting → ℕ → World → Box → ℕ → Incoming → Event
+hearEvent g place w c number incoming =
+    record {
+      box = c;
+      key = keyAt (memoryOf w c .state) number;
+      round = 0;
+      said = nothing;
+      spoken = [];
+      incoming = incomingWords g place (memoryOf w c .state) (w .log) incoming;
+    }
 
 -- two books of shares, and two settings
 module _ (b : Box) (g g′ : Setting) (pair : ℕ) (book book′ : Box → Key → Lending) where
@@ -163,11 +175,9 @@ module _ (b : Box) (g g′ : Setting) (pair : ℕ) (book book′ : Box → Key �
     same-ground place c (cutStart number lent value room) h = start-ground g g′ pair (a .orders) (a .orders′) w w′ (j .low) place c number lent (h .0) (h .1)
 
     -- each run's board spells the words its own way; the reading is the same
-    read-same : (place : ℕ) (c : Box) (incoming : Incoming)
-        → let n = memoryOf w c .state .n in
-        let n′ = memoryOf w′ c .state .n in
-        readWords n (delivered n (g .board place) (lineWords (w .log) incoming)) ≡ readWords n′ (delivered n′ (g′ .board place) (lineWords (w′ .log) incoming))
-    read-same place c incoming =
+    read-same : (place : ℕ) (c : Box) (number : ℕ) (incoming : Incoming)
+        → heardAs (hearEvent g place w c number incoming) ≡ heardAs (hearEvent g′ place w′ c number incoming)
+    read-same place c number incoming =
         delivered-read (memoryOf w c .state .n) (g .board place) (lineWords (w .log) incoming)
         ∙ ap₂ readWords (j .low .memories c .state .n) (words-same incoming)
         ∙ sym (delivered-read (memoryOf w′ c .state .n) (g′ .board place) (lineWords (w′ .log) incoming))
@@ -178,7 +188,7 @@ module _ (b : Box) (g g′ : Setting) (pair : ℕ) (book book′ : Box → Key �
     heard-next place c (start number lent) = heard-after w w′ c _ _ _ _ (j .low .places) (j .heard-same) refl
     heard-next place c (speak number round lent out) = heard-after w w′ c _ _ _ _ (j .low .places) (j .heard-same) refl
     heard-next place c (hear number round lent incoming) =
-        heard-after w w′ c _ _ _ _ (j .low .places) (j .heard-same) (read-same place c incoming)
+        heard-after w w′ c _ _ _ _ (j .low .places) (j .heard-same) (read-same place c number incoming)
     heard-next place c drop = heard-after w w′ c _ _ _ _ (j .low .places) (j .heard-same) refl
     heard-next place c (cut room) = heard-after w w′ c _ _ _ _ (j .low .places) (j .heard-same) refl
     heard-next place c (cutStart number lent value room) = heard-after w w′ c _ _ _ _ (j .low .places) (j .heard-same) refl

@@ -11,9 +11,9 @@ use lib.ListN.{length, List·getD-append, List·getD-eq-default}
 use lib.Seq.{getD-append-add}
 use Rattle.lists.specs.Tabulate.{tabulate}
 use Rattle.lists.proofs.Tabulate.{length-tabulate, getD-tabulate}
-use Rattle.field.proofs.Subtraction.{minus-below}
 use Rattle.field.specs.Width.{modulus, listed}
 use Rattle.field.proofs.Widths.{bounds}
+use Rattle.shares.proofs.Products.{masked-below}
 use Rattle.tape.specs.Layout.{squareCount, groupCount}
 use Rattle.protocol.specs.Words.{Below}
 use Rattle.protocol.proofs.ByRound.{at-each}
@@ -56,11 +56,11 @@ module _ (b : Party) where
     unfolding openings openLeft openRight
     openings-below ps =
         tabulated-below (ps .count * 2) (alternating (openLeft b ps) (openRight b ps))
-        (λ j. choice-below (eqb (j % 2) 0) (minus-below (b .n) _ _ l) (minus-below (b .n) _ _ l))
+        (λ j. choice-below (eqb (j % 2) 0) (masked-below (b .n) _ _ l) (masked-below (b .n) _ _ l))
 
     squares-below : Below (modulus (b .n)) (tabulate (squareCount (b .n)) (squareWord b))
     unfolding squareWord
-    squares-below = tabulated-below (squareCount (b .n)) (squareWord b) (λ j. minus-below (b .n) _ _ l)
+    squares-below = tabulated-below (squareCount (b .n)) (squareWord b) (λ j. masked-below (b .n) _ _ l)
 
     pub message-below : (work : List ℕ) (round : ℕ) → Below (modulus (b .n)) (message b work round)
     unfolding message

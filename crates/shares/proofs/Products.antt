@@ -7,7 +7,7 @@ use native.Mathlib.Omega.{arith}
 use Rattle.field.specs.Width.{modulus, listed}
 use Rattle.field.specs.Congruence.{Cong}
 use Rattle.field.proofs.Widths.{bounds}
-use Rattle.field.proofs.Subtraction.{plus-minus}
+use Rattle.field.proofs.Subtraction.{minus-below, plus-minus}
 use Rattle.field.proofs.Congruences.{cong-refl, cong-eq, _⊙_, cong-mod, cong-add, cong-mul}
 use Rattle.shares.specs.Side.{isSide, other}
 use Rattle.shares.specs.Share.{masked, opened, squareShare, productShare}
@@ -19,6 +19,10 @@ unfolding productShare
 product-share-below n side e f a b c l = mod-lt _ (omega (arith, bounds l))
 
 -- ---- opening
+
+-- a box never sends p
+pub masked-below : (n v a : ℕ) → listed n ≡ true → masked n v a < modulus n
+masked-below n v a l = minus-below n v a l
 
 -- both boxes open the same value
 pub opened-both : (n s h : ℕ) → opened n s h ≡ opened n h s
