@@ -1,6 +1,6 @@
 mod Turned
 pub mod Ready
-mod Delivery
+pub mod Delivery
 pub mod Course
 pub mod Exchanges
 pub mod Begun

@@ -15,8 +15,8 @@ ghost use Rattle.tape.specs.Dealt.{Dealt};
 ghost use Rattle.encoding.specs.Matching.{indicator};
 ghost use Rattle.protocol.specs.Rounds.{roundWords, message};
 ghost use Rattle.rules.specs.Answers.{share, replyOf};
-ghost use Rattle.rules.specs.Calls.{outcome, partyOf};
-ghost use Rattle.rules.specs.declared.state.Turn.the-variants.{Speak};
+ghost use Rattle.rules.specs.Calls.{outcome, inPhase, partyOf, turned, hearRule};
+ghost use Rattle.rules.specs.declared.state.Turn.the-variants.{Speak, Hear};
 ghost use Rattle.exchange.specs.Opening.{firstState, refusalOf, shareOf, begun};
 ghost use Rattle.exchange.specs.Boxes.{Ready, heardAfter, answer1, answer2};
 ghost use Rattle.exchange.specs.Jobs.{lent, roomy, answerSum, ended, jobOf};
@@ -110,6 +110,61 @@ pub fn begin(
     limit_box::start(state, number, own.x, own.y, tape, work, tally)
 }
 
+// Both boxes speak, and have the hear due then. The words of each stand at the front of its out.
+pub fn both_speak(
+    number: u32,
+    round: u32,
+    boxes: Boxes,
+    t1: &[u32],
+    t2: &[u32],
+    w1: &[u32],
+    w2: &[u32],
+    o1: &mut [u32],
+    o2: &mut [u32],
+) -> Boxes
+    requires { ⌜ Ready (boxes .box1) number (Speak round) (now t1) (now w1) × (roundWords (boxes .box1 .n) round ≤ length (now o1)) ⌝ }
+    requires { ⌜ Ready (boxes .box2) number (Speak round) (now t2) (now w2) × (roundWords (boxes .box2 .n) round ≤ length (now o2)) ⌝ }
+    ensures box1 { λ r. ⌜ (now (o1 .exit) ≡ sets (now (o1 .entry)) 0 (message (partyOf (boxes .box1) (now (t1 .entry))) (now (w1 .entry)) round))
+        × (r .box1 ≡ inPhase (boxes .box1) (turned (boxes .box1 .phase) (Hear round))) ⌝ }
+    ensures box2 { λ r. ⌜ (now (o2 .exit) ≡ sets (now (o2 .entry)) 0 (message (partyOf (boxes .box2) (now (t2 .entry))) (now (w2 .entry)) round))
+        × (r .box2 ≡ inPhase (boxes .box2) (turned (boxes .box2 .phase) (Hear round))) ⌝ }
+{
+    let s1 = boxes.box1;
+    let s2 = boxes.box2;
+    let spoken1 = limit_box::speak(s1, number, round, t1, w1, o1);
+    let spoken2 = limit_box::speak(s2, number, round, t2, w2, o2);
+    let due1 = spoken1.state;
+    let due2 = spoken2.state;
+    Boxes {
+        box1: due1,
+        box2: due2,
+    }
+}
+
+// Both boxes hear: box 1 the words that came to it, box 2 those that came to it. What a board between them did to the words is left open.
+pub fn both_hear(
+    number: u32,
+    round: u32,
+    due: Boxes,
+    t1: &[u32],
+    t2: &[u32],
+    w1: &mut [u32],
+    w2: &mut [u32],
+    to1: &[u32],
+    to2: &[u32],
+) -> Heard
+    ensures box1 { λ r. ⌜ outcome (r .box1) (now (w1 .exit))
+        ≡ hearRule (due .box1) number round (now (t1 .entry)) (now (w1 .entry)) (now (to1 .entry)) ⌝ }
+    ensures box2 { λ r. ⌜ outcome (r .box2) (now (w2 .exit))
+        ≡ hearRule (due .box2) number round (now (t2 .entry)) (now (w2 .entry)) (now (to2 .entry)) ⌝ }
+{
+    let due1 = due.box1;
+    let due2 = due.box2;
+    let box1 = limit_box::hear(due1, number, round, t1, w1, to1);
+    let box2 = limit_box::hear(due2, number, round, t2, w2, to2);
+    Heard { box1, box2 }
+}
+
 // One round: both boxes speak, then both hear the other's words. The words of each stand at the front of its out.
 pub fn round(
     number: u32,
@@ -133,15 +188,19 @@ pub fn round(
         ≡ heardAfter (boxes .box2) (now (t2 .entry)) (now (w2 .entry)) round (message (partyOf (boxes .box1) (now (t1 .entry))) (now (w1 .entry)) round)) ⌝ }
 {
     let s1 = boxes.box1;
-    let s2 = boxes.box2;
     let words = compare::words::words_of(s1.n, round);
-    let spoken1 = limit_box::speak(s1, number, round, t1, &*w1, &mut *o1);
-    let spoken2 = limit_box::speak(s2, number, round, t2, &*w2, &mut *o2);
-    let due1 = spoken1.state;
-    let due2 = spoken2.state;
-    let box1 = limit_box::hear(due1, number, round, t1, w1, &o2[..words]);
-    let box2 = limit_box::hear(due2, number, round, t2, w2, &o1[..words]);
-    Heard { box1, box2 }
+    let due = both_speak(number, round, boxes, t1, t2, &*w1, &*w2, &mut *o1, &mut *o2);
+    both_hear(
+        number,
+        round,
+        due,
+        t1,
+        t2,
+        w1,
+        w2,
+        &o2[..words],
+        &o1[..words],
+    )
 }
 
 // Every round, from whatever work holds: what the last two hears gave.
