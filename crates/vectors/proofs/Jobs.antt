@@ -1,12 +1,12 @@
 -- When a text tells a job, by what was found of it.
 use Prim.Native.Nat.{ℕ}
 use mathlib.Core.Path.{_≡_, sym, ap, _∙_}
-use mathlib.Core.Bool.{true, false, _&&_}
+use mathlib.Core.Bool.{Bool, true, false, _&&_, false≢true}
 use mathlib.Core.List.{List}
 use borrow.Author.Tests.{eq-eqb, ne-eqb}
 use lib.Dec.{eqb}
 use lib.ListN.{getD}
-use Rattle.lists.proofs.Tests.{and-false}
+use Rattle.lists.proofs.Tests.{and-left, and-right, and-false}
 use Rattle.field.specs.Width.{listed}
 use Rattle.tape.specs.Layout.{tapeLength}
 use Rattle.protocol.specs.Products.{Party, party}
@@ -19,6 +19,10 @@ use Rattle.exchange.specs.Memory.{blankWork}
 use Rattle.vectors.specs.declared.numbers.Cursor.{Cursor}
 use Rattle.vectors.specs.Numbers.{numbersFrom, readTo, spelled}
 use Rattle.vectors.specs.Job.{transcript, unusedTally, comes, jobTold, tapesTold, agreed}
+
+-- of what doesn't agree nothing is said
+pub untold-says : {A : Type 0} (agrees : Bool) → agrees ≡ false → agrees ≡ true → A
+untold-says agrees untold told = absurd (false≢true (sym untold ∙ told))
 
 -- a box that came to the job, with the number of its refusal
 pub begun-comes : (n side pair number x y : ℕ) (tape work tally : List ℕ) (a : Outcome) (tally′ : List ℕ) (k : ℕ)
@@ -52,6 +56,14 @@ module _ (text : List ℕ) (from n pair number x1 y1 x2 y2 : ℕ) where
   unfolding tapesTold
   tapes-unlisted e = rw e
 
+  -- only a listed width is told
+  tapes-width : tapesTold text from n pair number x1 y1 x2 y2 ≡ true → listed n ≡ true
+  unfolding tapesTold
+  tapes-width e =
+      let read1 = readTo (tapeLength n) text from in
+      let read2 = readTo (tapeLength n) text (read1 .at) in
+      and-left (listed n) (read1 .ok) (and-left (listed n && read1 .ok) (read2 .ok) (and-left (listed n && read1 .ok && read2 .ok) _ e))
+
   -- r1 and r2 read the two tapes
   module _ (r1 : Cursor) (told1 : r1 ≡ readTo (tapeLength n) text from) where
     pub tapes-box1 : r1 .ok ≡ false → false ≡ tapesTold text from n pair number x1 y1 x2 y2
@@ -68,6 +80,10 @@ module _ (text : List ℕ) (from n pair number x1 y1 x2 y2 : ℕ) where
           ≡ tapesTold text from n pair number x1 y1 x2 y2
       unfolding tapesTold
       tapes-told width ok1 ok2 = rw (← told1, ← told2, width, ok1, ok2)
+
+pub agreed-width : (w : ℕ) (text : List ℕ) → agreed w text ≡ true → listed (getD (numbersFrom 7 text 0) 0 0) ≡ true
+unfolding agreed
+agreed-width w text e = tapes-width text (readTo 7 text 0 .at) _ _ _ _ _ _ _ (and-right (readTo 7 text 0 .ok && eqb (getD (numbersFrom 7 text 0) 0 0) w) _ e)
 
 -- c read the seven numbers at the front
 module _ (w : ℕ) (text : List ℕ) (c : Cursor) (head : c ≡ readTo 7 text 0) where

@@ -1,7 +1,6 @@
 -- What a text must say of a job: its numbers are the job's, then all that both boxes send, then their answer shares.
 use Prim.Native.Nat.{ℕ, zero, suc, _+_, _/_, _%_}
-use mathlib.Core.Path.{_≡_}
-use mathlib.Core.Bool.{Bool, true, _&&_}
+use mathlib.Core.Bool.{Bool, _&&_}
 use mathlib.Core.List.{List, [], _∷_, _++_}
 use lib.Dec.{eqb}
 use lib.ListN.{getD, replicate}
@@ -63,12 +62,6 @@ agreed w text =
 -- the tape number that a text names
 abbrev pub tapeNumber : List ℕ → ℕ
 tapeNumber text = getD (numbersFrom 7 text 0) 2 0
-
--- there is a text of width w and that tape number that agrees
-pub record Agreeing (w number : ℕ) : Type 0 where
-  pub text : List ℕ
-  pub names : number ≡ tapeNumber text
-  pub agrees : agreed w text ≡ true
 
 -- the bytes of job-WW-K.txt, where WW is w in two digits
 abbrev pub nameOf : ℕ → ℕ → List ℕ

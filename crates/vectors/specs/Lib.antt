@@ -1,4 +1,5 @@
 pub mod Numbers
 pub mod Due
 pub mod Job
+pub mod Sent
 pub mod Deal

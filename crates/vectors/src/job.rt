@@ -4,10 +4,12 @@ use exchange::Boxes;
 use exchange::Heard;
 use exchange::Shares;
 ghost use mathlib.Core.Path.{_≡_};
-ghost use mathlib.Core.Bool.{true};
+ghost use mathlib.Core.Bool.{true, false};
 ghost use mathlib.Core.List.{[], _∷_};
 ghost use lib.ListN.{length};
-ghost use Rattle.protocol.specs.Rounds.{message};
+ghost use Rattle.field.specs.Width.{listed};
+ghost use Rattle.shares.specs.Reading.{delivered};
+ghost use Rattle.protocol.specs.Rounds.{lastRound, message};
 ghost use Rattle.rules.specs.Answers.{replyOf};
 ghost use Rattle.rules.specs.Tally.{longestTally};
 ghost use Rattle.rules.specs.Calls.{outcome, partyOf};
@@ -15,7 +17,8 @@ ghost use Rattle.exchange.specs.Opening.{shareOf};
 ghost use Rattle.exchange.specs.Boxes.{heardAfter, works};
 ghost use Rattle.vectors.specs.Numbers.{spelled};
 ghost use Rattle.vectors.specs.Due.{Due};
-ghost use Rattle.vectors.specs.Job.{messages, transcript, unusedTally, jobTold, tapesTold, agreed, tapeNumber, Agreeing, nameOf};
+ghost use Rattle.vectors.specs.Job.{messages, messagesTo, transcript, unusedTally, jobTold, tapesTold, agreed, tapeNumber, nameOf};
+ghost use Rattle.vectors.specs.Sent.{respelledIn, jobSent, tapesSent, sent, Agreeing};
 
 // The file of a width's job: job-WW-K.txt.
 fn name_of(w: u32, k: u8) -> [u8; 12]
@@ -39,49 +42,54 @@ fn name_of(w: u32, k: u8) -> [u8; 12]
     ]
 }
 
-// What came of a file's job: whether it agrees, and the tape number that its text names.
+// What came of a file's job: whether it agrees, the tape number that its text names, and how many zeros of its messages were respelled.
 pub struct Agreement {
     pub agrees: bool,
     pub number: u32,
+    pub zeros: usize,
 }
 
-// Whether a width's file is there and every word of its job is as the boxes give it. Which text was read cannot be said, only that one
-// that agrees has that tape number: it is printed, so that a file read in another's place shows.
-pub fn compared_with(w: u32, k: u8) -> Agreement
-    ensures { λ r. ⌜ (r .agrees ≡ true → Agreeing w (r .number)) ⌝ }
+// Of a file that is not there or has no job of the width.
+fn none() -> Agreement
+    ensures { λ r. ⌜ r .agrees ≡ false ⌝ }
+{
+    Agreement {
+        agrees: false,
+        number: 0,
+        zeros: 0,
+    }
+}
+
+// Whether a width's file is there and every word of its job is as the boxes give it, also where every zero is spelled p on its way from one
+// box to the other. Which text was read cannot be said, only that one that agrees has that tape number and so many zeros: they are printed,
+// so that a file read in another's place shows, and a zero that is left as it is.
+pub fn compared_with(w: u32, k: u8, respell: bool) -> Agreement
+    ensures { λ r. ⌜ (r .agrees ≡ true → Agreeing w respell (r .number) (r .zeros)) ⌝ }
 {
     let name = name_of(w, k);
     let fd = os::open_read(&name);
     if fd < 0 {
-        return Agreement {
-            agrees: false,
-            number: 0,
-        };
+        return none();
     }
     let mut text = [0u8; 262144];
     let len = io::read_full(fd, &mut text);
     libc::close(fd);
-    run(&text[..len], w)
+    run(&text[..len], w, respell)
 }
 
 // A text has n, which is the width asked for, pair and tape number, the shares x1 y1 x2 y2, both tapes, both messages of each
 // round, both answer shares.
-fn run(text: &[u8], w: u32) -> Agreement
+fn run(text: &[u8], w: u32, respell: bool) -> Agreement
     ensures { λ r. ⌜ (r .agrees ≡ agreed w (now (text .entry))) × (r .agrees ≡ true → r .number ≡ tapeNumber (now (text .entry))) ⌝ }
+    ensures zeros { λ r. ⌜ (r .agrees ≡ true → r .zeros ≡ respelledIn respell (sent (now (text .entry)))) ⌝ }
 {
     let mut head = [0u32; 7];
     let c = crate::numbers::fill(text, 0, &mut head);
     if !c.ok {
-        return Agreement {
-            agrees: false,
-            number: 0,
-        };
+        return none();
     }
     if head[0] != w {
-        return Agreement {
-            agrees: false,
-            number: 0,
-        };
+        return none();
     }
     let box1 = Shares {
         x: head[3],
@@ -91,10 +99,27 @@ fn run(text: &[u8], w: u32) -> Agreement
         x: head[5],
         y: head[6],
     };
-    let agrees = on_tapes(text, c.at, head[0], head[1], head[2], box1, box2);
+    let told = on_tapes(text, c.at, head[0], head[1], head[2], box1, box2, respell);
     Agreement {
-        agrees,
+        agrees: told.agrees,
         number: head[2],
+        zeros: told.zeros,
+    }
+}
+
+// Whether a job agrees, and how many zeros of its messages were respelled.
+struct Told {
+    agrees: bool,
+    zeros: usize,
+}
+
+// Of a job that doesn't agree.
+fn untold() -> Told
+    ensures { λ r. ⌜ r .agrees ≡ false ⌝ }
+{
+    Told {
+        agrees: false,
+        zeros: 0,
     }
 }
 
@@ -106,22 +131,25 @@ fn on_tapes(
     number: u32,
     box1: Shares,
     box2: Shares,
-) -> bool
-    ensures { λ r. ⌜ r ≡ tapesTold (now (text .entry)) from n pair number (box1 .x) (box1 .y) (box2 .x) (box2 .y) ⌝ }
+    respell: bool,
+) -> Told
+    ensures { λ r. ⌜ r .agrees ≡ tapesTold (now (text .entry)) from n pair number (box1 .x) (box1 .y) (box2 .x) (box2 .y) ⌝ }
+    ensures zeros { λ r. ⌜ (r .agrees ≡ true
+        → r .zeros ≡ respelledIn respell (tapesSent (now (text .entry)) from n (box1 .x) (box1 .y) (box2 .x) (box2 .y))) ⌝ }
 {
     if !field::is_listed(n) {
-        return false;
+        return untold();
     }
     let len = tape::tape_words(n);
     let mut t1 = exchange::memory::blank_tape();
     let mut t2 = exchange::memory::blank_tape();
     let read1 = crate::numbers::fill(text, from, &mut t1[..len]);
     if !read1.ok {
-        return false;
+        return untold();
     }
     let read2 = crate::numbers::fill(text, read1.at, &mut t2[..len]);
     if !read2.ok {
-        return false;
+        return untold();
     }
     opened(
         text,
@@ -133,6 +161,7 @@ fn on_tapes(
         box2,
         &t1[..len],
         &t2[..len],
+        respell,
     )
 }
 
@@ -154,9 +183,12 @@ fn opened(
     box2: Shares,
     t1: &[u32],
     t2: &[u32],
-) -> bool
-    ensures { λ r. ⌜ r
+    respell: bool,
+) -> Told
+    ensures { λ r. ⌜ r .agrees
         ≡ jobTold (now (text .entry)) from n pair number (box1 .x) (box1 .y) (box2 .x) (box2 .y) (now (t1 .entry)) (now (t2 .entry)) ⌝ }
+    ensures zeros { λ r. ⌜ (r .agrees ≡ true
+        → r .zeros ≡ respelledIn respell (jobSent n (box1 .x) (box1 .y) (box2 .x) (box2 .y) (now (t1 .entry)) (now (t2 .entry)))) ⌝ }
 {
     let mut w1 = exchange::memory::blank_work();
     let mut w2 = exchange::memory::blank_work();
@@ -165,17 +197,17 @@ fn opened(
     let begun1 = exchange::begin(n, 1, pair, number, box1, t1, &w1, &mut k1);
     let answer1 = begun1.answer;
     if exchange::refusal_of(answer1) != 0 {
-        return false;
+        return untold();
     }
     let begun2 = exchange::begin(n, 2, pair, number, box2, t2, &w2, &mut k2);
     let answer2 = begun2.answer;
     if exchange::refusal_of(answer2) != 0 {
-        return false;
+        return untold();
     }
     let s1 = begun1.state;
     let s2 = begun2.state;
     let boxes = Boxes { box1: s1, box2: s2 };
-    exchanged(text, from, number, boxes, t1, t2, &mut w1, &mut w2)
+    exchanged(text, from, number, boxes, t1, t2, &mut w1, &mut w2, respell)
 }
 
 // Every round, each message against the text, then the answer shares, which the last round gives.
@@ -188,22 +220,39 @@ fn exchanged(
     t2: &[u32],
     w1: &mut [u32],
     w2: &mut [u32],
-) -> bool
+    respell: bool,
+) -> Told
     requires { ⌜ Due number 1 (boxes .box1) (boxes .box2) (now t1) (now t2) (now w1) (now w2) ⌝ }
-    ensures { λ r. ⌜ r
+    ensures { λ r. ⌜ r .agrees
         ≡ spelled (now (text .entry)) from
         (transcript (partyOf (boxes .box1) (now (t1 .entry))) (partyOf (boxes .box2) (now (t2 .entry))) (works (now (w1 .entry)) (now (w2 .entry)))) .ok ⌝ }
+    ensures zeros { λ r. ⌜ (r .agrees ≡ true → r .zeros
+        ≡ respelledIn respell
+        (messagesTo (partyOf (boxes .box1) (now (t1 .entry))) (partyOf (boxes .box2) (now (t2 .entry))) (works (now (w1 .entry)) (now (w2 .entry))) lastRound)) ⌝ }
 {
     let mut due = boxes;
     let mut at = from;
+    let mut zeros = 0;
     let mut heard: u32 = 0;
     while heard < exchange::EARLIER_ROUNDS {
-        let r = compared(text, at, number, heard + 1, due, t1, t2, &mut *w1, &mut *w2);
+        let r = compared(
+            text,
+            at,
+            number,
+            heard + 1,
+            due,
+            t1,
+            t2,
+            &mut *w1,
+            &mut *w2,
+            respell,
+        );
         let c = r.read;
         if !c.ok {
-            return false;
+            return untold();
         }
         at = c.at;
+        zeros += r.zeros;
         let both = r.heard;
         let heard1 = both.box1;
         let heard2 = both.box2;
@@ -222,21 +271,26 @@ fn exchanged(
         t2,
         w1,
         w2,
+        respell,
     );
     let c = last.read;
     if !c.ok {
-        return false;
+        return untold();
     }
-    answers_same(text, c.at, last.heard)
+    Told {
+        agrees: answers_same(text, c.at, last.heard),
+        zeros: zeros + last.zeros,
+    }
 }
 
-// After a round: what both boxes heard, how far the text was read, and whether it had both messages.
+// After a round: what both boxes heard, how far the text was read, whether it had both messages, and how many of their zeros were respelled.
 struct Round {
     heard: Heard,
     read: Cursor,
+    zeros: usize,
 }
 
-// One round, both messages against the text. After the last no turn is due.
+// One round, both messages against the text as they are sent; then each goes to the other box. After the last no turn is due.
 fn compared(
     text: &[u8],
     from: usize,
@@ -247,6 +301,7 @@ fn compared(
     t2: &[u32],
     w1: &mut [u32],
     w2: &mut [u32],
+    respell: bool,
 ) -> Round
     requires { ⌜ Due number round (boxes .box1) (boxes .box2) (now t1) (now t2) (now w1) (now w2) ⌝ }
     ensures read { λ r. ⌜ r .read
@@ -256,14 +311,46 @@ fn compared(
         ≡ heardAfter (boxes .box1) (now (t1 .entry)) (now (w1 .entry)) round (message (partyOf (boxes .box2) (now (t2 .entry))) (now (w2 .entry)) round) ⌝ }
     ensures box2 { λ r. ⌜ outcome (r .heard .box2) (now (w2 .exit))
         ≡ heardAfter (boxes .box2) (now (t2 .entry)) (now (w2 .entry)) round (message (partyOf (boxes .box1) (now (t1 .entry))) (now (w1 .entry)) round) ⌝ }
+    ensures zeros { λ r. ⌜ r .zeros
+        ≡ respelledIn respell
+        (messages (partyOf (boxes .box1) (now (t1 .entry))) (partyOf (boxes .box2) (now (t2 .entry))) (works (now (w1 .entry)) (now (w2 .entry))) round) ⌝ }
 {
     let mut o1 = exchange::memory::blank_words();
     let mut o2 = exchange::memory::blank_words();
     let s1 = boxes.box1;
     let words = compare::words::words_of(s1.n, round);
-    let heard = exchange::round(number, round, boxes, t1, t2, w1, w2, &mut o1, &mut o2);
+    let due = exchange::both_speak(number, round, boxes, t1, t2, &*w1, &*w2, &mut o1, &mut o2);
     let read = crate::numbers::both_same(text, from, words, &o1, &o2);
-    Round { heard, read }
+    let zeros1 = carry(s1.n, &mut o1[..words], respell);
+    let zeros2 = carry(s1.n, &mut o2[..words], respell);
+    let heard = exchange::both_hear(
+        number,
+        round,
+        due,
+        t1,
+        t2,
+        w1,
+        w2,
+        &o2[..words],
+        &o1[..words],
+    );
+    Round {
+        heard,
+        read,
+        zeros: zeros1 + zeros2,
+    }
+}
+
+// A message on its way to the other box: as it is, or every zero spelled p. Answers how many were respelled.
+fn carry(n: u32, words: &mut [u32], respell: bool) -> usize
+    requires { ⌜ listed n ≡ true ⌝ }
+    ensures { λ r. ⌜ r ≡ respelledIn respell (now (words .entry)) ⌝ }
+    ensures carried { λ _. ⌜ now (words .exit) ≡ delivered n (λ i. respell) (now (words .entry)) ⌝ }
+{
+    if !respell {
+        return 0;
+    }
+    board::respell(n, words)
 }
 
 // Whether the next numbers are the shares of what both boxes answered.

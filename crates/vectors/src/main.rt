@@ -1,31 +1,71 @@
 // Runs the jobs and test deals of data/, worked out by an independent model, and says which agree in every word: jobs by their tape numbers,
 // deals by the numbers that their texts name.
+ghost use mathlib.Core.Path.{_≡_};
+ghost use mathlib.Core.Bool.{true};
+ghost use Rattle.field.specs.Width.{listed};
 ghost use Rattle.vectors.specs.Deal.{AgreeingDeal};
 
 mod deal;
 mod job;
 mod numbers;
 
-fn run_width(w: u32, count: u8) {
+// How the line of a width begins: what is tried.
+fn tell_width(w: u32, respell: bool)
+    requires { ⌜ listed w ≡ true ⌝ }
+{
     io::write_all(1, b"width ");
     io::print_decimal(1, w as u64);
-    io::write_all(1, b": tapes");
-    let mut agreed: u64 = 0;
-    let mut k: u8 = 0;
-    while k < count {
-        k += 1;
-        let told = job::compared_with(w, k);
-        if told.agrees {
-            io::write_all(1, b" ");
-            io::print_decimal(1, told.number as u64);
-            agreed += 1;
-        }
+    if respell {
+        io::write_all(1, b", every zero spelled ");
+        io::print_decimal(1, field::modulus_of(w) as u64);
     }
+    io::write_all(1, b": tapes");
+}
+
+// How it ends: what came of it.
+fn tell_jobs(agreed: u64, count: u8, respell: bool, zeros: u64) {
     io::write_all(1, b", ");
     io::print_decimal(1, agreed);
     io::write_all(1, b" of ");
     io::print_decimal(1, count as u64);
-    io::write_all(1, b" jobs agree\n");
+    io::write_all(1, b" jobs agree");
+    if respell {
+        io::write_all(1, b", ");
+        io::print_decimal(1, zeros);
+        io::write_all(1, b" zeros respelled");
+    }
+    io::write_all(1, b"\n");
+}
+
+fn run_width(w: u32, count: u8, respell: bool)
+    requires { ⌜ listed w ≡ true ⌝ }
+{
+    tell_width(w, respell);
+    let mut agreed: u64 = 0;
+    let mut zeros: u64 = 0;
+    let mut k: u8 = 0;
+    while k < count {
+        k += 1;
+        let told = job::compared_with(w, k, respell);
+        if told.agrees {
+            io::write_all(1, b" ");
+            io::print_decimal(1, told.number as u64);
+            agreed += 1;
+            zeros += told.zeros as u64;
+        }
+    }
+    tell_jobs(agreed, count, respell, zeros);
+}
+
+// Every job: the words go from box to box as they are, or every zero spelled p.
+fn run_widths(respell: bool) {
+    run_width(3, 5, respell);
+    run_width(5, 5, respell);
+    run_width(7, 3, respell);
+    run_width(13, 2, respell);
+    run_width(17, 2, respell);
+    run_width(19, 2, respell);
+    run_width(31, 3, respell);
 }
 
 // Says that a deal agrees, and which: only of one that does.
@@ -54,13 +94,8 @@ fn run_deal(name: &[u8]) {
 }
 
 fn main() {
-    run_width(3, 5);
-    run_width(5, 5);
-    run_width(7, 3);
-    run_width(13, 2);
-    run_width(17, 2);
-    run_width(19, 2);
-    run_width(31, 3);
+    run_widths(false);
+    run_widths(true);
     run_deal(b"deal-03-1.txt");
     run_deal(b"deal-03-4294967295.txt");
     run_deal(b"deal-05-2463534242.txt");

@@ -1,7 +1,7 @@
 -- `vectors::job::compared_with` meets its contract: the text in hand is the one that agrees.
-use mathlib.Core.Bool.{false≢true}
 use mathlib.Core.Path.{sym, _∙_}
 use borrow.Author.Needs.{needs}
+use Rattle.vectors.proofs.Jobs.{untold-says}
 use Rattle.vectors.proofs.job.compared_with.Statement.{statement}
 use Rattle.vectors.proofs.job.compared_with.Tie as tie
 
@@ -14,8 +14,11 @@ slice-aggregate-open-read c = search needs
 open-read-requires : tie.Need-open-read-requires
 open-read-requires c κs = search needs
 
+none-requires : tie.Need-none-requires
+none-requires c κs = search needs
+
 returns : tie.Need-returns
-returns c = λ e. absurd (false≢true e)
+returns c = untold-says _ (c .none .ensures)
 
 slice-aggregate-read-full : tie.Need-slice-aggregate-read-full
 slice-aggregate-read-full c = search needs
@@ -36,7 +39,9 @@ run-requires : tie.Need-run-requires
 run-requires c κs = search needs
 
 returns-2 : tie.Need-returns-2
-returns-2 c = λ e. record { text = _; names = c .run .ensures .1 e; agrees = sym (c .run .ensures .0) ∙ e }
+returns-2 c =
+    let told = c .run .ensures in
+    λ e. record { text = _; names = told .0 .1 e; agrees = sym (told .0 .0) ∙ e; respelled = told .1 e }
 
 pub compared-with-spec : {M : Type 1} → statement M
 compared-with-spec =
@@ -45,6 +50,7 @@ compared-with-spec =
     name-of-requires
     slice-aggregate-open-read
     open-read-requires
+    none-requires
     returns
     slice-aggregate-read-full
     read-full-requires

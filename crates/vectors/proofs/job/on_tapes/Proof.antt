@@ -13,8 +13,10 @@ use Rattle.tape.specs.Layout.{tapeLength}
 use Rattle.exchange.proofs.Cut.{Cut, cut}
 use Rattle.vectors.specs.Numbers.{numbersFrom, readTo}
 use Rattle.vectors.specs.Job.{jobTold}
+use Rattle.vectors.specs.Sent.{respelledIn}
 use Rattle.vectors.proofs.Readings.{filled-front}
-use Rattle.vectors.proofs.Jobs.{tapes-unlisted, tapes-box1, tapes-box2, tapes-told}
+use Rattle.vectors.proofs.Jobs.{untold-says, tapes-unlisted, tapes-box1, tapes-box2, tapes-told}
+use Rattle.vectors.proofs.Sent.{tapes-sent}
 use Rattle.vectors.proofs.job.on_tapes.Statement.{statement}
 use Rattle.vectors.proofs.job.on_tapes.Tie as tie
 
@@ -59,11 +61,16 @@ read2 g =
 is-listed-requires : tie.Need-is-listed-requires
 is-listed-requires c κs = search needs
 
+untold-requires : tie.Need-untold-requires
+untold-requires c κs = search needs
+
 returns : tie.Need-returns
 returns c =
-    let v = c .before .before .before .args in
-    tapes-unlisted (v .text .now) (v .from) (v .n) (v .pair) (v .number) (v .box1 .x) (v .box1 .y) (v .box2 .x) (v .box2 .y)
-    (sym (c .before .is-listed .ensures) ∙ not-true _ (c .if1 .taken))
+    let t = c .before in
+    let v = t .before .before .before .args in
+    let unlisted = tapes-unlisted (v .text .now) (v .from) (v .n) (v .pair) (v .number) (v .box1 .x) (v .box1 .y) (v .box2 .x) (v .box2 .y)
+    (sym (t .before .is-listed .ensures) ∙ not-true _ (t .if1 .taken)) in
+    (c .untold .ensures ∙ unlisted, untold-says _ (c .untold .ensures))
 
 tape-words-requires : tie.Need-tape-words-requires
 tape-words-requires c κs = width c
@@ -83,12 +90,17 @@ slice-aggregate-fill c = cut1 (c .before) .long
 fill-requires : tie.Need-fill-requires
 fill-requires c κs = search needs
 
+untold-requires-2 : tie.Need-untold-requires-2
+untold-requires-2 c κs = search needs
+
 returns-2 : tie.Need-returns-2
 returns-2 c =
-    let f = c .before .before .before in
+    let t = c .before in
+    let f = t .before .before .before in
     let v = listed1 f .before .before .before .args in
-    tapes-box1 (v .text .now) (v .from) (v .n) (v .pair) (v .number) (v .box1 .x) (v .box1 .y) (v .box2 .x) (v .box2 .y)
-    (f .fill .result) (read1 f) (not-true _ (c .if2 .taken))
+    let short = tapes-box1 (v .text .now) (v .from) (v .n) (v .pair) (v .number) (v .box1 .x) (v .box1 .y) (v .box2 .x) (v .box2 .y)
+    (f .fill .result) (read1 f) (not-true _ (t .if2 .taken)) in
+    (c .untold2 .ensures ∙ short, untold-says _ (c .untold2 .ensures))
 
 array-borrow-prefix-t2 : tie.Need-array-borrow-prefix-t2
 array-borrow-prefix-t2 c = cut2 (c .before .before .before .before .before) .fits
@@ -99,13 +111,18 @@ slice-aggregate-fill-2 c = cut2 (c .before .before .before .before .before .befo
 fill-requires-2 : tie.Need-fill-requires-2
 fill-requires-2 c κs = search needs
 
+untold-requires-3 : tie.Need-untold-requires-3
+untold-requires-3 c κs = search needs
+
 returns-3 : tie.Need-returns-3
 returns-3 c =
-    let g = c .before .before .before in
+    let t = c .before in
+    let g = t .before .before .before in
     let f = filled1 g in
     let v = listed1 f .before .before .before .args in
-    tapes-box2 (v .text .now) (v .from) (v .n) (v .pair) (v .number) (v .box1 .x) (v .box1 .y) (v .box2 .x) (v .box2 .y)
-    (f .fill .result) (read1 f) (g .fill2 .result) (read2 g) (not-true _ (c .if3 .taken))
+    let short = tapes-box2 (v .text .now) (v .from) (v .n) (v .pair) (v .number) (v .box1 .x) (v .box1 .y) (v .box2 .x) (v .box2 .y)
+    (f .fill .result) (read1 f) (g .fill2 .result) (read2 g) (not-true _ (t .if3 .taken)) in
+    (c .untold3 .ensures ∙ short, untold-says _ (c .untold3 .ensures))
 
 array-share-prefix-t1 : tie.Need-array-share-prefix-t1
 array-share-prefix-t1 c =
@@ -140,17 +157,21 @@ returns-4 c =
     let t1 = filled-front (v .text .now) (v .from) _ _ (f .fill .last .1 .1 .0) (f .fill .result) (cut1 b .fits) (f .fill .ensures .0) ok1 (f .fill .ensures .1) in
     let t2 = filled-front (v .text .now) (f .fill .result .at) _ _ (g .fill2 .last .1 .1 .0) (g .fill2 .result) (cut2 b .fits) (g .fill2 .ensures .0) ok2 (g .fill2 .ensures .1) in
     let tape1 = t1 ∙ ap (λ (k : ℕ). numbersFrom k (v .text .now) (v .from)) count in
-    let tape2 = t2 ∙ ap (λ (k : ℕ). numbersFrom k (v .text .now) (f .fill .result .at)) count in
-    c .opened .ensures
-    ∙ ap₂ (λ (s t : List ℕ). jobTold (v .text .now) (g .fill2 .result .at) (v .n) (v .pair) (v .number) (v .box1 .x) (v .box1 .y) (v .box2 .x) (v .box2 .y) s t) tape1 tape2
-    ∙ tapes-told (v .text .now) (v .from) (v .n) (v .pair) (v .number) (v .box1 .x) (v .box1 .y) (v .box2 .x) (v .box2 .y)
-    (f .fill .result) (read1 f) (g .fill2 .result) (read2 g) (width l) ok1 ok2
+    let tape2 = t2 ∙ ap (λ (k : ℕ). numbersFrom k (v .text .now) (f .fill .result .at)) count in (
+      c .opened .ensures .0
+          ∙ ap₂ (λ (s t : List ℕ). jobTold (v .text .now) (g .fill2 .result .at) (v .n) (v .pair) (v .number) (v .box1 .x) (v .box1 .y) (v .box2 .x) (v .box2 .y) s t) tape1 tape2
+          ∙ tapes-told (v .text .now) (v .from) (v .n) (v .pair) (v .number) (v .box1 .x) (v .box1 .y) (v .box2 .x) (v .box2 .y)
+          (f .fill .result) (read1 f) (g .fill2 .result) (read2 g) (width l) ok1 ok2,
+      λ agrees. c .opened .ensures .1 agrees
+          ∙ ap (respelledIn (v .respell)) (tapes-sent (v .n) (v .box1 .x) (v .box1 .y) (v .box2 .x) (v .box2 .y) (v .text .now) (v .from) _ _ (f .fill .result) (read1 f) tape1 tape2),
+    )
 
 pub on-tapes-spec : {M : Type 1} → statement M
 on-tapes-spec =
     tie.close
     (tie.spec
     is-listed-requires
+    untold-requires
     returns
     tape-words-requires
     blank-tape-requires
@@ -158,10 +179,12 @@ on-tapes-spec =
     array-borrow-prefix-t1
     slice-aggregate-fill
     fill-requires
+    untold-requires-2
     returns-2
     array-borrow-prefix-t2
     slice-aggregate-fill-2
     fill-requires-2
+    untold-requires-3
     returns-3
     array-share-prefix-t1
     slice-aggregate-opened

@@ -7,7 +7,9 @@ use Rattle.rules.specs.Calls.{partyOf}
 use Rattle.rules.specs.declared.state.State.{State}
 use Rattle.exchange.proofs.Begun.{Begun, begin-ready}
 use Rattle.vectors.specs.Job.{comes}
-use Rattle.vectors.proofs.Jobs.{begun-comes, told-same, job-box1, job-box2, job-told}
+use Rattle.vectors.specs.Sent.{respelledIn}
+use Rattle.vectors.proofs.Jobs.{untold-says, begun-comes, told-same, job-box1, job-box2, job-told}
+use Rattle.vectors.proofs.Sent.{job-sent}
 use Rattle.vectors.proofs.job.opened.Statement.{statement}
 use Rattle.vectors.proofs.job.opened.Tie as tie
 
@@ -97,12 +99,17 @@ begin-requires c κs = search needs
 refusal-of-requires : tie.Need-refusal-of-requires
 refusal-of-requires c κs = search needs
 
+untold-requires : tie.Need-untold-requires
+untold-requires c κs = search needs
+
 returns : tie.Need-returns
 returns c =
-    let f = c .before in
+    let t = c .before in
+    let f = t .before in
     let v = start (begun1 f) .args in
-    job-box1 (v .text .now) (v .from) (v .n) (v .pair) (v .number) (v .box1 .x) (v .box1 .y) (v .box2 .x) (v .box2 .y) (v .t1 .now) (v .t2 .now)
-    (comes1 f ∙ ne-eqb _ _ (c .if1 .taken))
+    let refused = job-box1 (v .text .now) (v .from) (v .n) (v .pair) (v .number) (v .box1 .x) (v .box1 .y) (v .box2 .x) (v .box2 .y) (v .t1 .now) (v .t2 .now)
+    (comes1 f ∙ ne-eqb _ _ (t .if1 .taken)) in
+    (c .untold .ensures ∙ refused, untold-says _ (c .untold .ensures))
 
 slice-aggregate-begin-3 : tie.Need-slice-aggregate-begin-3
 slice-aggregate-begin-3 c = search needs
@@ -116,12 +123,17 @@ begin-requires-2 c κs = search needs
 refusal-of-requires-2 : tie.Need-refusal-of-requires-2
 refusal-of-requires-2 c κs = search needs
 
+untold-requires-2 : tie.Need-untold-requires-2
+untold-requires-2 c κs = search needs
+
 returns-2 : tie.Need-returns-2
 returns-2 c =
-    let g = c .before in
+    let t = c .before in
+    let g = t .before in
     let v = start (begun1 (tested1 (begun2 g))) .args in
-    job-box2 (v .text .now) (v .from) (v .n) (v .pair) (v .number) (v .box1 .x) (v .box1 .y) (v .box2 .x) (v .box2 .y) (v .t1 .now) (v .t2 .now)
-    (comes2 g ∙ ne-eqb _ _ (c .if2 .taken))
+    let refused = job-box2 (v .text .now) (v .from) (v .n) (v .pair) (v .number) (v .box1 .x) (v .box1 .y) (v .box2 .x) (v .box2 .y) (v .t1 .now) (v .t2 .now)
+    (comes2 g ∙ ne-eqb _ _ (t .if2 .taken)) in
+    (c .untold2 .ensures ∙ refused, untold-says _ (c .untold2 .ensures))
 
 slice-aggregate-exchanged : tie.Need-slice-aggregate-exchanged
 slice-aggregate-exchanged c =
@@ -151,10 +163,16 @@ returns-3 c =
     let v = start b .args in
     let party1 = ap (λ (s : State). partyOf s (v .t1 .now)) (came1 e1 .state) in
     let party2 = ap (λ (s : State). partyOf s (v .t2 .now)) (came2 e2 .state) in
-    c .before .before .exchanged .ensures
-    ∙ told-same (v .text .now) (v .from) party1 party2 (k .before .blank-work .ensures .1) (k .blank-work2 .ensures .1)
-    ∙ job-told (v .text .now) (v .from) (v .n) (v .pair) (v .number) (v .box1 .x) (v .box1 .y) (v .box2 .x) (v .box2 .y) (v .t1 .now) (v .t2 .now)
-    (comes1 (e1 .before) ∙ eq-eqb _ _ (e1 .if1 .left)) (comes2 (e2 .before) ∙ eq-eqb _ _ (e2 .if2 .left))
+    let work1 = k .before .blank-work .ensures .1 in
+    let work2 = k .blank-work2 .ensures .1 in
+    let r = c .before .before .exchanged in (
+      r .ensures .0
+          ∙ told-same (v .text .now) (v .from) party1 party2 work1 work2
+          ∙ job-told (v .text .now) (v .from) (v .n) (v .pair) (v .number) (v .box1 .x) (v .box1 .y) (v .box2 .x) (v .box2 .y) (v .t1 .now) (v .t2 .now)
+          (comes1 (e1 .before) ∙ eq-eqb _ _ (e1 .if1 .left)) (comes2 (e2 .before) ∙ eq-eqb _ _ (e2 .if2 .left)),
+      λ agrees. r .ensures .1 agrees
+          ∙ ap (respelledIn (v .respell)) (job-sent (v .n) (v .box1 .x) (v .box1 .y) (v .box2 .x) (v .box2 .y) (v .t1 .now) (v .t2 .now) party1 party2 work1 work2),
+    )
 
 pub opened-spec : {M : Type 1} → statement M
 opened-spec =
@@ -168,11 +186,13 @@ opened-spec =
     slice-aggregate-begin-2
     begin-requires
     refusal-of-requires
+    untold-requires
     returns
     slice-aggregate-begin-3
     slice-aggregate-begin-4
     begin-requires-2
     refusal-of-requires-2
+    untold-requires-2
     returns-2
     slice-aggregate-exchanged
     slice-aggregate-exchanged-2

@@ -1,13 +1,14 @@
 -- `vectors::job::run` meets its contract: the seven numbers at the front are read, and the rest is told by them.
 use Prim.Native.Nat.{ℕ}
 use mathlib.Core.Path.{_≡_, ap, _∙_}
-use mathlib.Core.Bool.{false≢true}
 use mathlib.Core.List.{List}
 use borrow.Author.Tests.{not-true, not-false}
 use lib.ListN.{getD, replicate}
 use Rattle.vectors.specs.Numbers.{numbersFrom}
+use Rattle.vectors.specs.Sent.{respelledIn}
 use Rattle.vectors.proofs.Readings.{filled}
-use Rattle.vectors.proofs.Jobs.{agreed-none, agreed-other, agreed-told}
+use Rattle.vectors.proofs.Jobs.{untold-says, agreed-none, agreed-other, agreed-told}
+use Rattle.vectors.proofs.Sent.{text-sent}
 use borrow.Author.Needs.{needs}
 use Rattle.vectors.proofs.job.run.Statement.{statement}
 use Rattle.vectors.proofs.job.run.Tie as tie
@@ -25,21 +26,33 @@ slice-aggregate-fill c = search needs
 fill-requires : tie.Need-fill-requires
 fill-requires c κs = search needs
 
+none-requires : tie.Need-none-requires
+none-requires c κs = search needs
+
 returns : tie.Need-returns
 returns c =
-    let f = c .before .before .before in
+    let t = c .before in
+    let f = t .before .before .before in
     let v = f .before .before .before .args in
-    (agreed-none (v .w) (v .text .now) (f .fill .result) (f .fill .ensures .0) (not-true _ (c .if1 .taken)), λ e. absurd (false≢true e))
+    let untold = c .none .ensures in
+    let short = agreed-none (v .w) (v .text .now) (f .fill .result) (f .fill .ensures .0) (not-true _ (t .if1 .taken)) in
+    ((untold ∙ short, untold-says _ untold), untold-says _ untold)
 
 array-read-if2 : tie.Need-array-read-if2
 array-read-if2 c = search needs
 
+none-requires-2 : tie.Need-none-requires-2
+none-requires-2 c κs = search needs
+
 returns-2 : tie.Need-returns-2
 returns-2 c =
-    let e = c .before in
+    let t = c .before in
+    let e = t .before in
     let f = e .before .before .before in
     let v = f .before .before .before .args in
-    (agreed-other (v .w) (v .text .now) (f .fill .result) (f .fill .ensures .0) _ (front e) (c .if2 .taken), λ e. absurd (false≢true e))
+    let untold = c .none2 .ensures in
+    let other = agreed-other (v .w) (v .text .now) (f .fill .result) (f .fill .ensures .0) _ (front e) (t .if2 .taken) in
+    ((untold ∙ other, untold-says _ untold), untold-says _ untold)
 
 array-read-on-tapes : tie.Need-array-read-on-tapes
 array-read-on-tapes c = search needs
@@ -65,8 +78,8 @@ array-read-on-tapes-7 c = search needs
 on-tapes-requires : tie.Need-on-tapes-requires
 on-tapes-requires c κs = search needs
 
-array-read-t13 : tie.Need-array-read-t13
-array-read-t13 c = search needs
+array-read-t14 : tie.Need-array-read-t14
+array-read-t14 c = search needs
 
 returns-3 : tie.Need-returns-3
 returns-3 c =
@@ -75,8 +88,9 @@ returns-3 c =
     let f = e .before .before .before in
     let v = f .before .before .before .args in
     let ok = not-false (f .fill .result .ok) (e .if1 .left) in
-    let told = c .on-tapes .ensures ∙ agreed-told (v .w) (v .text .now) (f .fill .result) (f .fill .ensures .0) _ (front e) ok (d .if2 .left) in
-    (told, λ _. ap (λ (h : List ℕ). getD h 2 0) (front e))
+    let told = c .on-tapes .ensures .0 ∙ agreed-told (v .w) (v .text .now) (f .fill .result) (f .fill .ensures .0) _ (front e) ok (d .if2 .left) in
+    let messages = text-sent (v .text .now) (f .fill .result) _ (f .fill .ensures .0) (front e) in
+    ((told, λ _. ap (λ (h : List ℕ). getD h 2 0) (front e)), λ agrees. c .on-tapes .ensures .1 agrees ∙ ap (respelledIn (v .respell)) messages)
 
 pub run-spec : {M : Type 1} → statement M
 run-spec =
@@ -84,8 +98,10 @@ run-spec =
     (tie.spec
     slice-aggregate-fill
     fill-requires
+    none-requires
     returns
     array-read-if2
+    none-requires-2
     returns-2
     array-read-on-tapes
     array-read-on-tapes-2
@@ -95,5 +111,5 @@ run-spec =
     array-read-on-tapes-6
     array-read-on-tapes-7
     on-tapes-requires
-    array-read-t13
+    array-read-t14
     returns-3)
