@@ -83,7 +83,9 @@ module _ (text : List ℕ) (from n pair number x1 y1 x2 y2 : ℕ) where
 
 pub agreed-width : (w : ℕ) (text : List ℕ) → agreed w text ≡ true → listed (getD (numbersFrom 7 text 0) 0 0) ≡ true
 unfolding agreed
-agreed-width w text e = tapes-width text (readTo 7 text 0 .at) _ _ _ _ _ _ _ (and-right (readTo 7 text 0 .ok && eqb (getD (numbersFrom 7 text 0) 0 0) w) _ e)
+agreed-width w text e =
+    let head = readTo 7 text 0 in
+    tapes-width text (head .at) _ _ _ _ _ _ _ (and-right (head .ok && eqb (getD (numbersFrom 7 text 0) 0 0) w) _ e)
 
 -- c read the seven numbers at the front
 module _ (w : ℕ) (text : List ℕ) (c : Cursor) (head : c ≡ readTo 7 text 0) where

@@ -64,14 +64,15 @@ module _ (respell : Bool) (box1 box2 : Party) (w : Both) where
 
 module _ (n x1 y1 x2 y2 : ℕ) where
   -- two boxes that came to it send the job's messages
-  pub job-sent : (t1 t2 : List ℕ) {p1 p2 : Party} {w1 w2 : List ℕ} → p1 ≡ party n 1 x1 y1 t1 → p2 ≡ party n 2 x2 y2 t2 → w1 ≡ blankWork → w2 ≡ blankWork
-      → messagesTo p1 p2 (works w1 w2) lastRound ≡ jobSent n x1 y1 x2 y2 t1 t2
+  pub job-sent : (t1 t2 : List ℕ) {p1 p2 : Party} {w1 w2 : List ℕ} → p1 ≡ party n 1 x1 y1 t1 → p2 ≡ party n 2 x2 y2 t2
+      → w1 ≡ blankWork → w2 ≡ blankWork → messagesTo p1 p2 (works w1 w2) lastRound ≡ jobSent n x1 y1 x2 y2 t1 t2
   unfolding jobSent
   job-sent t1 t2 party1 party2 work1 work2 = rw (party1, party2, work1, work2)
 
   -- on tapes that were read, with a cursor that read the first
-  pub tapes-sent : (text : List ℕ) (from : ℕ) (t1 t2 : List ℕ) (r : Cursor) → r ≡ readTo (tapeLength n) text from → t1 ≡ numbersFrom (tapeLength n) text from
-      → t2 ≡ numbersFrom (tapeLength n) text (r .at) → jobSent n x1 y1 x2 y2 t1 t2 ≡ tapesSent text from n x1 y1 x2 y2
+  pub tapes-sent : (text : List ℕ) (from : ℕ) (t1 t2 : List ℕ) (r : Cursor) → r ≡ readTo (tapeLength n) text from
+      → t1 ≡ numbersFrom (tapeLength n) text from → t2 ≡ numbersFrom (tapeLength n) text (r .at)
+      → jobSent n x1 y1 x2 y2 t1 t2 ≡ tapesSent text from n x1 y1 x2 y2
   unfolding tapesSent
   tapes-sent text from t1 t2 r told tape1 tape2 = rw (tape1, tape2, told)
 

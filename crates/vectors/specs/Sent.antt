@@ -32,7 +32,7 @@ sent text =
     let h = numbersFrom 7 text 0 in
     tapesSent text (readTo 7 text 0 .at) (getD h 0 0) (getD h 3 0) (getD h 4 0) (getD h 5 0) (getD h 6 0)
 
--- there is a text of width w and that tape number that agrees, and so many zeros of all its messages were respelled
+-- there is a text of width w and that tape number that agrees, and so many zeros were respelled: of what both boxes send in all rounds of its job
 pub record Agreeing (w : ℕ) (respell : Bool) (number zeros : ℕ) : Type 0 where
   pub text : List ℕ
   pub names : number ≡ tapeNumber text

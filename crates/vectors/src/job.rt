@@ -60,9 +60,9 @@ fn none() -> Agreement
     }
 }
 
-// Whether a width's file is there and every word of its job is as the boxes give it, also where every zero is spelled p on its way from one
-// box to the other. Which text was read cannot be said, only that one that agrees has that tape number and so many zeros: they are printed,
-// so that a file read in another's place shows, and a zero that is left as it is.
+// Whether a width's file is there and every word of its job is as the boxes give it; with `respell` every zero of a message comes to the
+// other box as p. Which text was read cannot be said, only that one that agrees has that tape number and so many zeros: both are printed,
+// so that a file read in another's place shows, and a zero that was left as it is.
 pub fn compared_with(w: u32, k: u8, respell: bool) -> Agreement
     ensures { λ r. ⌜ (r .agrees ≡ true → Agreeing w respell (r .number) (r .zeros)) ⌝ }
 {
@@ -228,7 +228,8 @@ fn exchanged(
         (transcript (partyOf (boxes .box1) (now (t1 .entry))) (partyOf (boxes .box2) (now (t2 .entry))) (works (now (w1 .entry)) (now (w2 .entry)))) .ok ⌝ }
     ensures zeros { λ r. ⌜ (r .agrees ≡ true → r .zeros
         ≡ respelledIn respell
-        (messagesTo (partyOf (boxes .box1) (now (t1 .entry))) (partyOf (boxes .box2) (now (t2 .entry))) (works (now (w1 .entry)) (now (w2 .entry))) lastRound)) ⌝ }
+        (messagesTo (partyOf (boxes .box1) (now (t1 .entry))) (partyOf (boxes .box2) (now (t2 .entry)))
+        (works (now (w1 .entry)) (now (w2 .entry))) lastRound)) ⌝ }
 {
     let mut due = boxes;
     let mut at = from;

@@ -1,5 +1,6 @@
 // Runs the jobs and test deals of data/, worked out by an independent model, and says which agree in every word: jobs by their tape numbers,
-// deals by the numbers that their texts name.
+// deals by the numbers that their texts name. The jobs run twice: the second time every zero of a message comes to the other box as p
+// (document 02, P3), and how many there were is said.
 ghost use mathlib.Core.Path.{_≡_};
 ghost use mathlib.Core.Bool.{true};
 ghost use Rattle.field.specs.Width.{listed};

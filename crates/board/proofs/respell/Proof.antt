@@ -45,7 +45,8 @@ loop-again : tie.Need-loop-again Inv-loop μ-loop
 loop-again c =
     let l = c .before .before .before in
     let inv = l .loop .inv in
-    let less : l .loop .i < length (l .before .before .before .args .words .now) = omega (arith, c .before .before .loop-test .taken, inv .stored .long) in
+    let old = l .before .before .before .args .words .now in
+    let less : l .loop .i < length old = omega (arith, c .before .before .loop-test .taken, inv .stored .long) in
     ⊎-elim
     (λ w. rw (w .1, w .2) (respelled-zero inv less (w .0 .taken) _ (l .before .modulus-of .ensures)))
     (λ w. rw (w .1, w .2) (respelled-other inv less (w .0 .left)))

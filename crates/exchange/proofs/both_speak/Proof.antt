@@ -10,8 +10,10 @@ returns c =
     let a1 = a2 .before .before .before .before in
     let s = a1 .before .before .before .before .before .before .before .before .before .before in
     let v = s .args in (
-      spoken (v .boxes .box1) (v .number) (v .round) (v .t1 .now) (v .w1 .now) (s .pre .0 .0) (v .o1 .now) _ (a1 .speak .result) (s .pre .0 .1) (a1 .speak .ensures),
-      spoken (v .boxes .box2) (v .number) (v .round) (v .t2 .now) (v .w2 .now) (s .pre .1 .0) (v .o2 .now) _ (a2 .speak2 .result) (s .pre .1 .1) (a2 .speak2 .ensures),
+      spoken (v .boxes .box1) (v .number) (v .round) (v .t1 .now) (v .w1 .now) (s .pre .0 .0) (v .o1 .now) _
+          (a1 .speak .result) (s .pre .0 .1) (a1 .speak .ensures),
+      spoken (v .boxes .box2) (v .number) (v .round) (v .t2 .now) (v .w2 .now) (s .pre .1 .0) (v .o2 .now) _
+          (a2 .speak2 .result) (s .pre .1 .1) (a2 .speak2 .ensures),
     )
 
 speak-requires : tie.Need-speak-requires

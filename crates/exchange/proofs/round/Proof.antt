@@ -23,23 +23,27 @@ spoken c = c .before .before .before .before .before .before
 front1 : (a : tie.After-both-speak)
     → let w = worded a in
     let v = start w .args in
-    AtFront (message (partyOf (v .boxes .box1) (v .t1 .now)) (v .w1 .now) (v .round)) (a .both-speak .last .1 .1 .1 .1 .1 .1 .1 .0) (w .words-of .result)
+    let words = message (partyOf (v .boxes .box1) (v .t1 .now)) (v .w1 .now) (v .round) in
+    AtFront words (a .both-speak .last .1 .1 .1 .1 .1 .1 .1 .0) (w .words-of .result)
 front1 a =
     let w = worded a in
     let s = start w in
     let v = s .args in
-    at-front (v .boxes .box1) (v .t1 .now) (v .w1 .now) (v .round) (v .o1 .now) _ (w .words-of .result) (w .words-of .ensures) (s .pre .0 .1) (a .both-speak .ensures .0 .0)
+    at-front (v .boxes .box1) (v .t1 .now) (v .w1 .now) (v .round) (v .o1 .now) _ (w .words-of .result) (w .words-of .ensures) (s .pre .0 .1)
+    (a .both-speak .ensures .0 .0)
 
 front2 : (a : tie.After-both-speak)
     → let w = worded a in
     let v = start w .args in
-    AtFront (message (partyOf (v .boxes .box2) (v .t2 .now)) (v .w2 .now) (v .round)) (a .both-speak .last .1 .1 .1 .1 .1 .1 .1 .1 .0) (w .words-of .result)
+    let words = message (partyOf (v .boxes .box2) (v .t2 .now)) (v .w2 .now) (v .round) in
+    AtFront words (a .both-speak .last .1 .1 .1 .1 .1 .1 .1 .1 .0) (w .words-of .result)
 front2 a =
     let w = worded a in
     let s = start w in
     let v = s .args in
     let count = w .words-of .ensures ∙ ap (λ (n : ℕ). roundWords n (v .round)) (s .pre .1 .1) in
-    at-front (v .boxes .box2) (v .t2 .now) (v .w2 .now) (v .round) (v .o2 .now) _ (w .words-of .result) count (s .pre .1 .0 .1) (a .both-speak .ensures .1 .0)
+    at-front (v .boxes .box2) (v .t2 .now) (v .w2 .now) (v .round) (v .o2 .now) _ (w .words-of .result) count (s .pre .1 .0 .1)
+    (a .both-speak .ensures .1 .0)
 
 words-of-requires : tie.Need-words-of-requires
 words-of-requires c κs =

@@ -45,7 +45,9 @@ add-agreed : tie.Need-add-agreed Inv-loop μ-loop
 add-agreed c = search needs
 
 add-zeros : tie.Need-add-zeros Inv-loop μ-loop
-add-zeros c = omega (arith, small c, c .before .before .before .before .before .before .before .loop .inv .1, c .before .before .before .before .before .before .loop-test .taken)
+add-zeros c =
+    let i = c .before .before .before .before .before .before in
+    omega (arith, small c, i .before .loop .inv .1, i .loop-test .taken)
 
 loop-less : tie.Need-loop-less Inv-loop μ-loop
 loop-less c = search needs

@@ -78,7 +78,8 @@ front1 : (a : tie.After-both-speak) → AtFront (message1 a) (out1 a) (words a)
 front1 a =
     let w = worded a in
     let v = begin a .args in
-    at-front (v .boxes .box1) (v .t1 .now) (v .w1 .now) (v .round) _ (out1 a) (words a) (w .words-of .ensures) (room1 w) (a .both-speak .ensures .0 .0)
+    let count = w .words-of .ensures in
+    at-front (v .boxes .box1) (v .t1 .now) (v .w1 .now) (v .round) _ (out1 a) (words a) count (room1 w) (a .both-speak .ensures .0 .0)
 
 front2 : (a : tie.After-both-speak) → AtFront (message2 a) (out2 a) (words a)
 front2 a =
@@ -96,7 +97,9 @@ abbrev to1 : tie.After-carry2 → List ℕ
 to1 c = let a = sent1 (carried1 c) in c .carry2 .last .1 .0 ++ drop (words a) (out2 a)
 
 arrived2 : (c : tie.After-carry) → let a = sent1 c in Arrived (begin a .args .boxes .box1 .n) (message1 a) (to2 c) (words a)
-arrived2 c = let v = begin (sent1 c) .args in arrived (v .boxes .box1 .n) (v .respell) (front1 (sent1 c)) (c .carry .last .1 .0) (c .carry .kept .1 .0) (c .carry .ensures .1)
+arrived2 c =
+    let v = begin (sent1 c) .args in
+    arrived (v .boxes .box1 .n) (v .respell) (front1 (sent1 c)) (c .carry .last .1 .0) (c .carry .kept .1 .0) (c .carry .ensures .1)
 
 arrived1 : (c : tie.After-carry2) → let a = sent1 (carried1 c) in Arrived (begin a .args .boxes .box1 .n) (message2 a) (to1 c) (words a)
 arrived1 c =
@@ -200,14 +203,16 @@ returns c =
     let s = begin a in
     let v = s .args in
     let told = a .both-speak .ensures in
+    let ready1 = s .pre .box1 in
+    let ready2 = s .pre .box2 in
     let read1 = arrived1 c2 .read in
     let read2 = subst (λ (n : ℕ). readWords n (take (words a) (to2 c1)) ≡ readWords n (message1 a)) (s .pre .width) (arrived2 c1 .read) in (
       c1 .before .before .both-same .ensures ∙ ap₂ (λ (x y : List ℕ). spelled (v .text .now) (v .from) (x ++ y)) (front1 a .front) (front2 a .front),
       (
-        hears (v .boxes .box2) (v .number) (v .round) (v .t2 .now) (v .w2 .now) (s .pre .box2) (v .boxes .box1) (v .t1 .now) (v .w1 .now) (s .pre .box1)
+        hears (v .boxes .box2) (v .number) (v .round) (v .t2 .now) (v .w2 .now) ready2 (v .boxes .box1) (v .t1 .now) (v .w1 .now) ready1
             (sym (s .pre .width)) _ _ (h .both-hear .result .box1) _ (told .0 .1) read1 (h .both-hear .ensures .0),
         (
-          hears (v .boxes .box1) (v .number) (v .round) (v .t1 .now) (v .w1 .now) (s .pre .box1) (v .boxes .box2) (v .t2 .now) (v .w2 .now) (s .pre .box2)
+          hears (v .boxes .box1) (v .number) (v .round) (v .t1 .now) (v .w1 .now) ready1 (v .boxes .box2) (v .t2 .now) (v .w2 .now) ready2
               (s .pre .width) _ _ (h .both-hear .result .box2) _ (told .1 .1) read2 (h .both-hear .ensures .1),
           ap₂ _+_ (zeros1 c1) (zeros2 c2) ∙ sym (respelled-append (v .respell) (message1 a) (message2 a)),
         ),

@@ -1,4 +1,5 @@
--- `vectors::job::exchanged` meets its contract. The loop's invariant: both boxes are on their course, and the text told all rounds so far, whose zeros are counted.
+-- `vectors::job::exchanged` meets its contract. The loop's invariant: both boxes are on their course, the text told all rounds so far, and their
+-- zeros are counted.
 use Prim.Native.Nat.{ℕ, _+_, _*_, _-_, _≤_}
 use mathlib.Core.List.{[], _∷_, _++_}
 use mathlib.Core.Bool.{true}
@@ -111,25 +112,27 @@ reached d ok = rw (sym ok) refl
 
 -- a round's messages are those that the exchange has
 sends : (l : tie.At-loop Inv-loop μ-loop) (k : ℕ) → Course1 l k → Course2 l k → (round : ℕ) → let s = start l in
-    messages (partyOf (l .loop .due .box1) (s .args .t1 .now)) (partyOf (l .loop .due .box2) (s .args .t2 .now)) (works (l .loop .w1) (l .loop .w2)) round
+    let v = s .args in
+    messages (partyOf (l .loop .due .box1) (v .t1 .now)) (partyOf (l .loop .due .box2) (v .t2 .now)) (works (l .loop .w1) (l .loop .w2)) round
     ≡ messages (box1 s) (box2 s) (exchanged (box1 s) (box2 s) (first s) k) round
 sends l k on1 on2 round = ap₂ _++_ (course-sends on1 round) (course-sends on2 round)
 
 -- so its cursor reads those, and its count is of their zeros
-abbrev Told : tie.At-loop Inv-loop μ-loop → ℕ → ℕ → Round → Type 0
-Told l k round r =
+abbrev RoundTold : tie.At-loop Inv-loop μ-loop → ℕ → ℕ → Round → Type 0
+RoundTold l k round r =
     let s = start l in
     let sent = messages (box1 s) (box2 s) (exchanged (box1 s) (box2 s) (first s) k) round in
     (r .read ≡ spelled (s .args .text .now) (l .loop .at) sent) × (r .zeros ≡ respelledIn (s .args .respell) sent)
 
-round-told : (r : tie.After-compared Inv-loop μ-loop) → let l = r .before .before .before .before in Told l (l .loop .heard) (l .loop .heard + 1) (r .compared .result)
+round-told : (r : tie.After-compared Inv-loop μ-loop) → let l = r .before .before .before .before in
+    RoundTold l (l .loop .heard) (l .loop .heard + 1) (r .compared .result)
 round-told r =
     let l = r .before .before .before .before in
     let v = start l .args in
     let same = sends l (l .loop .heard) (l .loop .inv .1) (l .loop .inv .2) (l .loop .heard + 1) in
     (r .compared .ensures .0 ∙ ap (spelled (v .text .now) (l .loop .at)) same, r .compared .ensures .1 .1 .1 ∙ ap (respelledIn (v .respell)) same)
 
-last-told : (r : tie.After-compared2 Inv-loop μ-loop) → let l = r .before .before .before .before in Told l earlierRounds lastRound (r .compared2 .result)
+last-told : (r : tie.After-compared2 Inv-loop μ-loop) → RoundTold (r .before .before .before .before) earlierRounds lastRound (r .compared2 .result)
 last-told r =
     let a = r .before .before .before in
     let l = a .before in
@@ -217,10 +220,12 @@ loop-again c =
     let k = l .loop .heard in
     let kept = r .compared .kept .1 .1 .1 .1 .1 .1 .1 in
     let ok = not-false (r .compared .result .read .ok) (e .if1 .left) in
-    let more = told-more (s .args .text .now) (s .args .from) (box1 s) (box2 s) (first s) (l .loop .heard) (l .loop .at) (inv .5) (r .compared .result .read) (round-told r .0) in (
+    let more = told-more (s .args .text .now) (s .args .from) (box1 s) (box2 s) (first s) k (l .loop .at) (inv .5) (r .compared .result .read) (round-told r .0) in
+    let own = more-own (box1 s) (box2 s) (first s) k in
+    let others = more-others (box1 s) (box2 s) (first s) k in (
       omega (arith, less),
-      course-next (inv .1) _ _ (course-sends (inv .2) (k + 1)) (r .compared .result .heard .box1) _ less (r .compared .ensures .1 .0) _ (more-own (box1 s) (box2 s) (first s) k),
-      course-next (inv .2) _ _ (course-sends (inv .1) (k + 1)) (r .compared .result .heard .box2) _ less (r .compared .ensures .1 .1 .0) _ (more-others (box1 s) (box2 s) (first s) k),
+      course-next (inv .1) _ _ (course-sends (inv .2) (k + 1)) (r .compared .result .heard .box1) _ less (r .compared .ensures .1 .0) _ own,
+      course-next (inv .2) _ _ (course-sends (inv .1) (k + 1)) (r .compared .result .heard .box2) _ less (r .compared .ensures .1 .1 .0) _ others,
       omega (arith, kept .0, inv .3),
       omega (arith, kept .1 .0, inv .4),
       reached (r .compared .result .read) ok ∙ more,
@@ -276,11 +281,15 @@ returns-3 c =
     let s = start l in
     let v = s .args in
     let ok = not-false (r .compared2 .result .read .ok) (e .if2 .left) in
-    let more = told-more (v .text .now) (v .from) (box1 s) (box2 s) (first s) earlierRounds (l .loop .at) (told a) (r .compared2 .result .read) (last-told r .0) in
-    let share1 = course-last (ended1 a) _ _ (course-sends (ended2 a) lastRound) (r .compared2 .result .heard .box1) _ refl (r .compared2 .ensures .1 .0) ∙ ap share (sym (last-own (box1 s) (box2 s) (first s))) in
-    let share2 = course-last (ended2 a) _ _ (course-sends (ended1 a) lastRound) (r .compared2 .result .heard .box2) _ refl (r .compared2 .ensures .1 .1 .0) ∙ ap share (sym (last-others (box1 s) (box2 s) (first s))) in
-    let shares = ap₂ (λ (x y : ℕ). spelled (v .text .now) (r .compared2 .result .read .at) (x ∷ y ∷ []) .ok) (ap shareOf share1) (ap shareOf share2) in
-    let all = told-last (v .text .now) (v .from) (box1 s) (box2 s) (first s) (r .compared2 .result .read .at) (reached (r .compared2 .result .read) ok ∙ more) in
+    let read = r .compared2 .result .read in
+    let heard = r .compared2 .result .heard in
+    let more = told-more (v .text .now) (v .from) (box1 s) (box2 s) (first s) earlierRounds (l .loop .at) (told a) read (last-told r .0) in
+    let share1 = course-last (ended1 a) _ _ (course-sends (ended2 a) lastRound) (heard .box1) _ refl (r .compared2 .ensures .1 .0) in
+    let share2 = course-last (ended2 a) _ _ (course-sends (ended1 a) lastRound) (heard .box2) _ refl (r .compared2 .ensures .1 .1 .0) in
+    let own = ap shareOf (share1 ∙ ap share (sym (last-own (box1 s) (box2 s) (first s)))) in
+    let others = ap shareOf (share2 ∙ ap share (sym (last-others (box1 s) (box2 s) (first s)))) in
+    let shares = ap₂ (λ (x y : ℕ). spelled (v .text .now) (read .at) (x ∷ y ∷ []) .ok) own others in
+    let all = told-last (v .text .now) (v .from) (box1 s) (box2 s) (first s) (read .at) (reached read ok ∙ more) in
     (b .answers-same .ensures ∙ shares ∙ ap (λ (d : Cursor). d .ok) all, λ _. all-zeros r)
 
 pub exchanged-spec : {M : Type 1} → statement M

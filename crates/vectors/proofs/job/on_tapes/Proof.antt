@@ -157,14 +157,13 @@ returns-4 c =
     let t1 = filled-front (v .text .now) (v .from) _ _ (f .fill .last .1 .1 .0) (f .fill .result) (cut1 b .fits) (f .fill .ensures .0) ok1 (f .fill .ensures .1) in
     let t2 = filled-front (v .text .now) (f .fill .result .at) _ _ (g .fill2 .last .1 .1 .0) (g .fill2 .result) (cut2 b .fits) (g .fill2 .ensures .0) ok2 (g .fill2 .ensures .1) in
     let tape1 = t1 ∙ ap (λ (k : ℕ). numbersFrom k (v .text .now) (v .from)) count in
-    let tape2 = t2 ∙ ap (λ (k : ℕ). numbersFrom k (v .text .now) (f .fill .result .at)) count in (
-      c .opened .ensures .0
-          ∙ ap₂ (λ (s t : List ℕ). jobTold (v .text .now) (g .fill2 .result .at) (v .n) (v .pair) (v .number) (v .box1 .x) (v .box1 .y) (v .box2 .x) (v .box2 .y) s t) tape1 tape2
-          ∙ tapes-told (v .text .now) (v .from) (v .n) (v .pair) (v .number) (v .box1 .x) (v .box1 .y) (v .box2 .x) (v .box2 .y)
-          (f .fill .result) (read1 f) (g .fill2 .result) (read2 g) (width l) ok1 ok2,
-      λ agrees. c .opened .ensures .1 agrees
-          ∙ ap (respelledIn (v .respell)) (tapes-sent (v .n) (v .box1 .x) (v .box1 .y) (v .box2 .x) (v .box2 .y) (v .text .now) (v .from) _ _ (f .fill .result) (read1 f) tape1 tape2),
-    )
+    let tape2 = t2 ∙ ap (λ (k : ℕ). numbersFrom k (v .text .now) (f .fill .result .at)) count in
+    let job = jobTold (v .text .now) (g .fill2 .result .at) (v .n) (v .pair) (v .number) (v .box1 .x) (v .box1 .y) (v .box2 .x) (v .box2 .y) in
+    let told = tapes-told (v .text .now) (v .from) (v .n) (v .pair) (v .number) (v .box1 .x) (v .box1 .y) (v .box2 .x) (v .box2 .y)
+    (f .fill .result) (read1 f) (g .fill2 .result) (read2 g) (width l) ok1 ok2 in
+    let messages = tapes-sent (v .n) (v .box1 .x) (v .box1 .y) (v .box2 .x) (v .box2 .y) (v .text .now) (v .from) _ _
+    (f .fill .result) (read1 f) tape1 tape2 in
+    (c .opened .ensures .0 ∙ ap₂ job tape1 tape2 ∙ told, λ agrees. c .opened .ensures .1 agrees ∙ ap (respelledIn (v .respell)) messages)
 
 pub on-tapes-spec : {M : Type 1} → statement M
 on-tapes-spec =

@@ -107,8 +107,8 @@ returns c =
     let t = c .before in
     let f = t .before in
     let v = start (begun1 f) .args in
-    let refused = job-box1 (v .text .now) (v .from) (v .n) (v .pair) (v .number) (v .box1 .x) (v .box1 .y) (v .box2 .x) (v .box2 .y) (v .t1 .now) (v .t2 .now)
-    (comes1 f ∙ ne-eqb _ _ (t .if1 .taken)) in
+    let refused = job-box1 (v .text .now) (v .from) (v .n) (v .pair) (v .number) (v .box1 .x) (v .box1 .y) (v .box2 .x) (v .box2 .y)
+    (v .t1 .now) (v .t2 .now) (comes1 f ∙ ne-eqb _ _ (t .if1 .taken)) in
     (c .untold .ensures ∙ refused, untold-says _ (c .untold .ensures))
 
 slice-aggregate-begin-3 : tie.Need-slice-aggregate-begin-3
@@ -131,8 +131,8 @@ returns-2 c =
     let t = c .before in
     let g = t .before in
     let v = start (begun1 (tested1 (begun2 g))) .args in
-    let refused = job-box2 (v .text .now) (v .from) (v .n) (v .pair) (v .number) (v .box1 .x) (v .box1 .y) (v .box2 .x) (v .box2 .y) (v .t1 .now) (v .t2 .now)
-    (comes2 g ∙ ne-eqb _ _ (t .if2 .taken)) in
+    let refused = job-box2 (v .text .now) (v .from) (v .n) (v .pair) (v .number) (v .box1 .x) (v .box1 .y) (v .box2 .x) (v .box2 .y)
+    (v .t1 .now) (v .t2 .now) (comes2 g ∙ ne-eqb _ _ (t .if2 .taken)) in
     (c .untold2 .ensures ∙ refused, untold-says _ (c .untold2 .ensures))
 
 slice-aggregate-exchanged : tie.Need-slice-aggregate-exchanged
@@ -165,13 +165,12 @@ returns-3 c =
     let party2 = ap (λ (s : State). partyOf s (v .t2 .now)) (came2 e2 .state) in
     let work1 = k .before .blank-work .ensures .1 in
     let work2 = k .blank-work2 .ensures .1 in
+    let told = job-told (v .text .now) (v .from) (v .n) (v .pair) (v .number) (v .box1 .x) (v .box1 .y) (v .box2 .x) (v .box2 .y)
+    (v .t1 .now) (v .t2 .now) (comes1 (e1 .before) ∙ eq-eqb _ _ (e1 .if1 .left)) (comes2 (e2 .before) ∙ eq-eqb _ _ (e2 .if2 .left)) in
+    let messages = job-sent (v .n) (v .box1 .x) (v .box1 .y) (v .box2 .x) (v .box2 .y) (v .t1 .now) (v .t2 .now) party1 party2 work1 work2 in
     let r = c .before .before .exchanged in (
-      r .ensures .0
-          ∙ told-same (v .text .now) (v .from) party1 party2 work1 work2
-          ∙ job-told (v .text .now) (v .from) (v .n) (v .pair) (v .number) (v .box1 .x) (v .box1 .y) (v .box2 .x) (v .box2 .y) (v .t1 .now) (v .t2 .now)
-          (comes1 (e1 .before) ∙ eq-eqb _ _ (e1 .if1 .left)) (comes2 (e2 .before) ∙ eq-eqb _ _ (e2 .if2 .left)),
-      λ agrees. r .ensures .1 agrees
-          ∙ ap (respelledIn (v .respell)) (job-sent (v .n) (v .box1 .x) (v .box1 .y) (v .box2 .x) (v .box2 .y) (v .t1 .now) (v .t2 .now) party1 party2 work1 work2),
+      r .ensures .0 ∙ told-same (v .text .now) (v .from) party1 party2 work1 work2 ∙ told,
+      λ agrees. r .ensures .1 agrees ∙ ap (respelledIn (v .respell)) messages,
     )
 
 pub opened-spec : {M : Type 1} → statement M
