@@ -1,4 +1,5 @@
 pub mod Reached
 pub mod Words
 pub mod Refused
+mod Same
 mod Deals

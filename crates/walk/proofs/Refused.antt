@@ -1,15 +1,12 @@
 -- A call that the rules refuse changes nothing, so it's called kept.
 use Prim.Native.Nat.{ℕ, _+_, _<_}
-use mathlib.Core.Path.{_≡_, refl, ap}
+use mathlib.Core.Path.{_≡_, refl, sym, _∙_}
 use mathlib.Core.Bool.{Bool, true, false, _&&_, cond}
 use mathlib.Core.List.{List}
 use native.Mathlib.Omega.{arith}
-use borrow.Author.Tests.{eqb-true}
+use borrow.Author.Tests.{eqb-true, eq-eqb}
 use lib.Dec.{eqb}
-use Rattle.lists.specs.Tabulate.{sum}
 use Rattle.lists.proofs.Tests.{and-false}
-use Rattle.lists.proofs.Sums.{sum-more}
-use Rattle.encoding.specs.Matching.{indicator}
 use Rattle.protocol.specs.Rounds.{lastRound, afterHearing, answerShare}
 use Rattle.rules.specs.Answers.{replyOf, started, heard, share}
 use Rattle.rules.specs.Tally.{marked}
@@ -21,9 +18,7 @@ use Rattle.rules.specs.declared.state.Phase.the-variants.{Idle, Job}
 use Rattle.rules.specs.declared.state.State.{State}
 use Rattle.exchange.specs.Opening.{refusalOf}
 use Rattle.walk.specs.declared.calls.Tried.{Tried}
-use Rattle.walk.specs.declared.sweeps.Sweep.{Sweep}
 use Rattle.walk.specs.Walk.{Answered}
-use Rattle.walk.specs.Sweeps.{refusedAt}
 
 unless-keeps : (s : State) (buffer : List ℕ) (k : ℕ) (r : Result) (ground : ℕ) (ok : Result) → r ≡ unless ground s buffer ok
     → refusalOf (ok .reply) ≡ 0 → 0 < k → refusalOf (r .reply) ≡ k → (s ≡ r .state) × (buffer ≡ r .buffer)
@@ -73,9 +68,6 @@ pub hear-refused : {tried : Tried} (s : State) (number round : ℕ) (tape work i
     → (tried .kept && eqb (refusalOf (replyOf (tried .answer))) k) ≡ eqb (refusalOf (hearRule s number round tape work incoming .reply)) k
 hear-refused s number round tape work incoming k some t = told-refused k t (hear-keeps s number round tape work incoming k some)
 
--- one place more of a sweep
-pub count-more : (sweep : Sweep) (place right right′ : ℕ) (t : Bool) → right ≡ sum place (λ p. indicator (refusedAt sweep p)) → t ≡ refusedAt sweep place
-    → right′ ≡ right + indicator t → right′ ≡ sum (place + 1) (λ p. indicator (refusedAt sweep p))
-count-more sweep place right right′ t so-far is next =
-    let more = sum-more place (λ p. indicator (refusedAt sweep p)) in
-    omega (arith, so-far, next, more, ap indicator is)
+-- a test of a refusal's number
+pub tells : {test : Bool} {number k : ℕ} → test ≡ eqb number k → (test ≡ true → number ≡ k) × (number ≡ k → test ≡ true)
+tells {number = number} {k} is = (λ e. eqb-true number k (sym is ∙ e), λ e. is ∙ eq-eqb number k e)

@@ -3,17 +3,20 @@ use Prim.Native.Nat.{ℕ}
 use mathlib.Core.Bool.{cond, true}
 use mathlib.Core.List.{List, [], _∷_}
 use lib.Dec.{eqb}
-use lib.ListN.{replicate}
+use lib.ListN.{replicate, take}
+use Rattle.lists.specs.Tabulate.{tabulate}
 use Rattle.tape.specs.Plain.{plainTape}
 use mathlib.Core.Path.{_≡_}
-use Rattle.rules.specs.Answers.{replyOf}
-use Rattle.rules.specs.Calls.{Result}
+use Rattle.protocol.specs.Rounds.{roundWords}
+use Rattle.rules.specs.Answers.{Reply, fresh, started, spoke, heard, share, dropped, refused, replyOf}
+use Rattle.rules.specs.Calls.{Result, hearRule}
 use Rattle.rules.specs.Modes.{roundOf}
 use Rattle.rules.specs.declared.state.Turn.{Turn}
 use Rattle.rules.specs.declared.state.Turn.the-variants.{Speak, Hear}
 use Rattle.rules.specs.declared.state.Phase.{Phase}
 use Rattle.rules.specs.declared.state.Phase.the-variants.{Asleep, Idle, Job}
 use Rattle.rules.specs.declared.state.State.{State}
+use Rattle.exchange.specs.Opening.{refusalOf}
 use Rattle.walk.specs.declared.calls.Tried.{Tried}
 use Rattle.walk.specs.declared.progress.BoxMemory.{BoxMemory}
 
@@ -41,6 +44,26 @@ phaseWords (Job turn number x y) = 2 ∷ callOf turn ∷ roundOf turn ∷ number
 -- all that a state holds
 abbrev pub wordsOf : State → List ℕ
 wordsOf s = s .n ∷ s .side ∷ s .pair ∷ s .tally ∷ phaseWords (s .phase)
+
+-- which reply it is
+abbrev pub kindOf : Reply → ℕ
+kindOf (fresh count) = 0
+kindOf started = 1
+kindOf (spoke count) = 2
+kindOf heard = 3
+kindOf (share word) = 4
+kindOf dropped = 5
+kindOf (refused number) = 6
+
+-- the number that it holds, and 0 where it holds none
+abbrev pub numberIn : Reply → ℕ
+numberIn (fresh count) = count
+numberIn started = 0
+numberIn (spoke count) = count
+numberIn heard = 0
+numberIn (share word) = word
+numberIn dropped = 0
+numberIn (refused number) = number
 
 -- a box's plain tape of width 3 and pair 5
 abbrev pub boxTape : ℕ → ℕ → List ℕ
@@ -70,3 +93,13 @@ pub record After (b : BoxMemory) (buffer : List ℕ) (rule : Result) : Type 0 wh
   pub reply : replyOf (b .answer) ≡ rule .reply
   pub state : b .state ≡ rule .state
   pub left : buffer ≡ rule .buffer
+
+-- a hear on tape 0, of as many of these words as the round has
+abbrev pub roundHear : State → ℕ → ℕ → List ℕ → List ℕ → Result
+roundHear state side round work incoming = hearRule state 0 round (boxTape side 0) work (take (roundWords 3 round) incoming)
+
+-- such a hear is taken, and it's the hear of zeros: the same reply, state and work
+abbrev pub HeardAsZeros : State → ℕ → ℕ → List ℕ → List ℕ → Type 0
+HeardAsZeros state side round work incoming =
+    (refusalOf (roundHear state side round work incoming .reply) ≡ 0)
+    × (roundHear state side round work incoming ≡ roundHear state side round work (tabulate 33 (λ k. 0)))

@@ -7,8 +7,9 @@ use crate::five::hear_on;
 use crate::say::line;
 use crate::states;
 use crate::tapes;
+ghost use mathlib.Core.Path.{_≡_};
 ghost use Prim.Native.Nat.{_<_};
-ghost use lib.ListN.{set};
+ghost use lib.ListN.{length, set};
 ghost use Rattle.lists.specs.Tabulate.{tabulate};
 ghost use Rattle.rules.specs.Calls.{hearRule};
 ghost use Rattle.rules.specs.declared.state.Turn.the-variants.{Hear};
@@ -61,13 +62,22 @@ fn rooms() {
     line(b"hear, 34 words: ", of_words(&long));
 }
 
-// The hear that is due, of 33 words with a 7 in that place.
-pub fn of_high(place: usize) -> Tried
+// Zeros with another word in one place.
+pub fn changed(place: usize, word: u32) -> [u32; 33]
     requires { ⌜ place < 33 ⌝ }
-    ensures { λ r. ⌜ Answered r (jobState 4 (Hear 1)) (filler 100) (hearRule (jobState 4 (Hear 1)) 0 1 (boxTape 1 0) (filler 100) (set (tabulate 33 (λ k. 0)) place 7)) ⌝ }
+    ensures { λ r. ⌜ (length r ≡ 33) × (r ≡ set (tabulate 33 (λ k. 0)) place word) ⌝ }
 {
     let mut incoming = [0u32; 33];
-    incoming[place] = 7;
+    incoming[place] = word;
+    incoming
+}
+
+// The hear that is due, of those.
+pub fn of_changed(place: usize, word: u32) -> Tried
+    requires { ⌜ place < 33 ⌝ }
+    ensures { λ r. ⌜ Answered r (jobState 4 (Hear 1)) (filler 100) (hearRule (jobState 4 (Hear 1)) 0 1 (boxTape 1 0) (filler 100) (set (tabulate 33 (λ k. 0)) place word)) ⌝ }
+{
+    let incoming = changed(place, word);
     of_words(&incoming)
 }
 
@@ -75,6 +85,8 @@ pub fn lines() {
     turns();
     tapes_lent();
     rooms();
-    line(b"hear, first word 7: ", of_high(0));
-    line(b"hear, last word 7: ", of_high(32));
+    line(b"hear, first word 7: ", of_changed(0, 7));
+    line(b"hear, first word 8: ", of_changed(0, 8));
+    line(b"hear, last word 7: ", of_changed(32, 7));
+    line(b"hear, last word 8: ", of_changed(32, 8));
 }

@@ -1,5 +1,7 @@
 // Walks one pair of boxes of width 3 through every refusal at each call that can give it, through cuts and drops at every
-// point of a job, and through a whole job, then the test dealer through its refusals, and prints what was answered.
+// point of a job, through a whole job, and through its hears with 7, which is p, for 0, then the test dealer through its
+// refusals, and prints what was answered.
+mod answers;
 mod calls;
 mod cuts;
 mod dealing;
@@ -16,6 +18,7 @@ mod states;
 mod sweeps;
 mod tapes;
 mod wakes;
+mod zeros;
 
 fn main() {
     wakes::lines();
@@ -27,5 +30,6 @@ fn main() {
     outside::lines();
     cuts::lines();
     job::lines();
+    zeros::lines();
     dealing::lines();
 }

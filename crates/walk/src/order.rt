@@ -90,23 +90,23 @@ fn speaks() {
 
 // A hear with a tape, work and words that are refused.
 fn wrong_hear(state: State, number: u32) -> Tried
-    ensures { λ r. ⌜ Answered r state (filler 99) (hearRule state number 1 (boxTape 2 0) (filler 99) (tabulate 32 (λ k. 7))) ⌝ }
+    ensures { λ r. ⌜ Answered r state (filler 99) (hearRule state number 1 (boxTape 2 0) (filler 99) (tabulate 32 (λ k. 8))) ⌝ }
 {
     let mut work = [FILLER; 99];
-    let incoming = [7u32; 32];
+    let incoming = [8u32; 32];
     calls::plain_hear(state, number, 1, 2, 0, &mut work, &incoming)
 }
 
 // The tape is in order; work and the words are too few.
 fn short_hears() {
     let mut less = [FILLER; 99];
-    let few = [7u32; 32];
+    let few = [8u32; 32];
     short(calls::plain_hear(states::spoken(), 0, 1, 1, 0, &mut less, &few));
 }
 
-// With words of p, and with words below it.
+// With words above p, and with zeros.
 fn whole_hears() {
-    let high = [7u32; 33];
+    let high = [8u32; 33];
     let incoming = [0u32; 33];
     short(crate::hears::of_words(&high));
     short(crate::hears::of_words(&incoming));

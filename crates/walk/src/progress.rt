@@ -65,7 +65,7 @@ pub fn started(b: BoxMemory, side: u32, x: u32, y: u32) -> BoxMemory
 }
 
 pub fn spoken(b: BoxMemory, side: u32, round: u32) -> BoxMemory
-    ensures { λ r. ⌜ After r (r .out) (speakRule (b .state) 0 round (boxTape side 0) (b .work) (b .out)) × (r .tally ≡ b .tally) ⌝ }
+    ensures { λ r. ⌜ After r (r .out) (speakRule (b .state) 0 round (boxTape side 0) (b .work) (b .out)) × (r .tally ≡ b .tally) × (r .work ≡ b .work) ⌝ }
 {
     let before = b.state;
     let work = b.work;
@@ -83,8 +83,8 @@ pub fn spoken(b: BoxMemory, side: u32, round: u32) -> BoxMemory
     }
 }
 
-// The other box's words stand at the front of its out.
-fn heard(b: BoxMemory, side: u32, round: u32, incoming: [u32; 33]) -> BoxMemory
+// The words of the message stand at the front of `incoming`, as in the other box's out.
+pub fn heard(b: BoxMemory, side: u32, round: u32, incoming: [u32; 33]) -> BoxMemory
     ensures { λ r. ⌜ After r (r .work) (hearRule (b .state) 0 round (boxTape side 0) (b .work) (take (roundWords 3 round) incoming)) × (r .tally ≡ b .tally) ⌝ }
 {
     let before = b.state;

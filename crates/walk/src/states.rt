@@ -74,11 +74,17 @@ pub fn opened() -> State
 }
 
 // The same job, where hear 1 is due.
+pub fn hearing() -> BoxMemory
+    ensures { λ r. ⌜ (r .state ≡ jobState 4 (Hear 1)) × (r .work ≡ tabulate 100 (λ k. 6)) ⌝ }
+{
+    crate::progress::spoken(started(), 1, 1)
+}
+
 pub fn spoken() -> State
     ensures { λ r. ⌜ r ≡ jobState 4 (Hear 1) ⌝ }
 {
-    let spoken = crate::progress::spoken(started(), 1, 1);
-    spoken.state
+    let hearing = hearing();
+    hearing.state
 }
 
 // All that a state holds, as words.
@@ -144,7 +150,7 @@ fn round_of(turn: Turn) -> u32
     }
 }
 
-fn same_words(a: &[u32], b: &[u32]) -> bool
+pub fn same_words(a: &[u32], b: &[u32]) -> bool
     ensures { λ r. ⌜ (r ≡ true → now (a .entry) ≡ now (b .entry)) × (now (a .entry) ≡ now (b .entry) → r ≡ true) ⌝ }
 {
     if a.len() != b.len() {

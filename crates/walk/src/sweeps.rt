@@ -1,15 +1,20 @@
-// Three refusals at every place that can give them: each byte but FF, the word 7 in each place of a tape's body, and in each
-// place of the words that a hear is lent.
+// Three refusals at every place that can give them: each byte but FF, the word 7 in each place of a tape's body, and the word 8
+// in each place of the words that a hear is lent. There a 7 is heard as 0 at every place.
 use crate::calls::is_refused;
+use crate::hears::changed;
+use crate::hears::of_changed;
 use crate::say::text;
+use crate::zeros::as_zeros;
 ghost use mathlib.Core.Path.{_≡_};
+ghost use mathlib.Core.Bool.{true};
 ghost use Prim.Native.Nat.{_<_};
-ghost use Rattle.walk.specs.Sweeps.{placesOf, refusedAt, refusedCount};
+ghost use Rattle.walk.specs.Sweeps.{placesOf, RightAt, Counted};
 
 pub enum Sweep {
     Bytes,
     Body,
     Words,
+    Zeros,
 }
 
 // How many places there are.
@@ -20,30 +25,32 @@ fn places(sweep: Sweep) -> usize
         Sweep::Bytes => 255,
         Sweep::Body => crate::tapes::BODY,
         Sweep::Words => 33,
+        Sweep::Zeros => 33,
     }
 }
 
-// Whether the call is refused as it must be, with nothing changed.
-fn refused_at(sweep: Sweep, place: usize) -> bool
+// Whether the call is refused as it must be, with nothing changed, or heard as zeros.
+fn right_at(sweep: Sweep, place: usize) -> bool
     requires { ⌜ place < placesOf sweep ⌝ }
-    ensures { λ r. ⌜ r ≡ refusedAt sweep place ⌝ }
+    ensures { λ r. ⌜ (r ≡ true → RightAt sweep place) × (RightAt sweep place → r ≡ true) ⌝ }
 {
     match sweep {
         Sweep::Bytes => is_refused(crate::starts::on_byte(place as u8), 8),
         Sweep::Body => is_refused(crate::starts::on_changed(place, 7), 10),
-        Sweep::Words => is_refused(crate::hears::of_high(place), 13),
+        Sweep::Words => is_refused(of_changed(place, 8), 13),
+        Sweep::Zeros => as_zeros(crate::states::hearing(), 1, 1, changed(place, 7)),
     }
 }
 
 // At how many places it is.
 fn count(sweep: Sweep) -> usize
-    ensures { λ r. ⌜ r ≡ refusedCount sweep ⌝ }
+    ensures { λ r. ⌜ Counted (RightAt sweep) (placesOf sweep) r ⌝ }
 {
     let all = places(sweep);
     let mut right = 0;
     let mut place = 0;
     while place < all {
-        if refused_at(sweep, place) {
+        if right_at(sweep, place) {
             right += 1;
         }
         place += 1;
@@ -70,5 +77,6 @@ pub fn lines() {
         Sweep::Body,
         b" places refused 10\n",
     );
-    line(b"hear, a word 7: ", Sweep::Words, b" places refused 13\n");
+    line(b"hear, a word 8: ", Sweep::Words, b" places refused 13\n");
+    line(b"hear, a word 7: ", Sweep::Zeros, b" places heard as 0\n");
 }

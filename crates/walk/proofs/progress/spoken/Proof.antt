@@ -16,7 +16,7 @@ plain-speak-requires c κs = search needs
 returns : tie.Need-returns
 returns c =
     let s = c .before .before .plain-speak .ensures in
-    (record { reply = s .0 .reply; state = s .0 .after; left = s .1 }, refl)
+    (record { reply = s .0 .reply; state = s .0 .after; left = s .1 }, refl, refl)
 
 pub spoken-spec : {M : Type 1} → statement M
 spoken-spec = tie.close (tie.spec slice-aggregate-plain-speak slice-aggregate-plain-speak-2 plain-speak-requires returns)

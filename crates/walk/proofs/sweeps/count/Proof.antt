@@ -1,19 +1,17 @@
 -- `walk::sweeps::count` meets its contract: each turn counts one place.
-use Prim.Native.Nat.{ℕ, _+_, _-_, _≤_}
+use Prim.Native.Nat.{_-_, _≤_}
+use mathlib.Core.Bool.{false≢true}
 use mathlib.Core.Logic.{⊎-elim}
-use mathlib.Core.Path.{_≡_, ap, _∙_}
+use mathlib.Core.Path.{_≡_, sym, _∙_}
 use native.Mathlib.Omega.{arith}
 use borrow.Author.Needs.{needs}
-use Rattle.lists.specs.Tabulate.{sum}
-use Rattle.encoding.specs.Matching.{indicator}
-use Rattle.walk.specs.Sweeps.{refusedAt}
-use Rattle.walk.proofs.Refused.{count-more}
+use Rattle.walk.specs.Sweeps.{RightAt, Counted, none, here, not-here}
 use Rattle.walk.proofs.sweeps.count.Statement.{statement}
 use Rattle.walk.proofs.sweeps.count.Tie as tie
 
 abbrev Inv-loop : tie.InvT-loop
 Inv-loop sweep all right₀ place₀ right place =
-    (place ≤ all) × (right ≤ place) × (right ≡ sum place (λ p. indicator (refusedAt sweep p)))
+    (place ≤ all) × (right ≤ place) × Counted (RightAt sweep) place right
 
 abbrev μ-loop : tie.MeasureT-loop
 μ-loop sweep all right₀ place₀ right place = all - place
@@ -22,10 +20,10 @@ places-requires : tie.Need-places-requires Inv-loop μ-loop
 places-requires c κs = search needs
 
 loop-holds : tie.Need-loop-holds Inv-loop μ-loop
-loop-holds c = search needs
+loop-holds c = (omega arith, omega arith, none)
 
-refused-at-requires : tie.Need-refused-at-requires Inv-loop μ-loop
-refused-at-requires c κs = search needs
+right-at-requires : tie.Need-right-at-requires Inv-loop μ-loop
+right-at-requires c κs = search needs
 
 add-right : tie.Need-add-right Inv-loop μ-loop
 add-right c = search needs
@@ -39,23 +37,17 @@ loop-less c = search needs
 loop-again : tie.Need-loop-again Inv-loop μ-loop
 loop-again c =
     let r = c .before in
-    let l = r .before .before in
-    let sweep = l .before .before .args .sweep in
-    let so-far = l .loop .inv .2 in
+    let so-far = r .before .before .loop .inv .2 in
     ⊎-elim
-    (λ w.
-    let next : c .if1 .right ≡ l .loop .right + indicator (r .refused-at .result) = rw (w .0 .taken) (omega (arith, w .1)) in
-    (omega arith, omega arith, count-more sweep (l .loop .place) (l .loop .right) (c .if1 .right) (r .refused-at .result) so-far (r .refused-at .ensures) next))
-    (λ w.
-    let next : c .if1 .right ≡ l .loop .right + indicator (r .refused-at .result) = rw (w .0 .left) (omega (arith, w .1)) in
-    (omega arith, omega arith, count-more sweep (l .loop .place) (l .loop .right) (c .if1 .right) (r .refused-at .result) so-far (r .refused-at .ensures) next))
+    (λ w. (omega arith, omega arith, rw (w .1) (here so-far (r .right-at .ensures .0 (w .0 .taken)))))
+    (λ w. (omega arith, omega arith, rw (w .1) (not-here so-far (λ h. false≢true (sym (w .0 .left) ∙ r .right-at .ensures .1 h)))))
     (c .if1 .came)
 
 returns : tie.Need-returns Inv-loop μ-loop
 returns c =
     let l = c .before in
     let all : l .loop .place ≡ l .before .places .result = omega arith in
-    l .loop .inv .2 ∙ ap (λ (k : ℕ). sum k (λ p. indicator (refusedAt (l .before .before .args .sweep) p))) (all ∙ l .before .places .ensures)
+    rw (all, l .before .places .ensures) at (l .loop .inv .2)
 
 pub count-spec : {M : Type 1} → statement M
 count-spec =
@@ -65,7 +57,7 @@ count-spec =
     μ-loop
     places-requires
     loop-holds
-    refused-at-requires
+    right-at-requires
     add-right
     add-place
     loop-less
