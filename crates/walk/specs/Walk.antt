@@ -1,10 +1,11 @@
 -- What the walk reads off an answer and a state.
 use Prim.Native.Nat.{ℕ}
 use mathlib.Core.Bool.{cond, true}
-use mathlib.Core.List.{List, [], _∷_}
+use mathlib.Core.List.{List, [], _∷_, _++_}
 use lib.Dec.{eqb}
 use lib.ListN.{replicate, take}
 use Rattle.lists.specs.Tabulate.{tabulate}
+use Rattle.tape.specs.Layout.{trailer}
 use Rattle.tape.specs.Plain.{plainTape}
 use mathlib.Core.Path.{_≡_}
 use Rattle.protocol.specs.Rounds.{roundWords}
@@ -94,9 +95,13 @@ pub record After (b : BoxMemory) (buffer : List ℕ) (rule : Result) : Type 0 wh
   pub state : b .state ≡ rule .state
   pub left : buffer ≡ rule .buffer
 
--- a hear on tape 0, of as many of these words as the round has
+-- a box's tape 0 with a body of threes
+abbrev pub threesTape : ℕ → List ℕ
+threesTape side = tabulate 141 (λ k. 3) ++ trailer 3 5 side 0
+
+-- a hear on it, of as many of these words as the round has
 abbrev pub roundHear : State → ℕ → ℕ → List ℕ → List ℕ → Result
-roundHear state side round work incoming = hearRule state 0 round (boxTape side 0) work (take (roundWords 3 round) incoming)
+roundHear state side round work incoming = hearRule state 0 round (threesTape side) work (take (roundWords 3 round) incoming)
 
 -- such a hear is taken, and it's the hear of zeros: the same reply, state and work
 abbrev pub HeardAsZeros : State → ℕ → ℕ → List ℕ → List ℕ → Type 0

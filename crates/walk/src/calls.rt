@@ -164,21 +164,21 @@ pub fn plain_hear(
     hear(state, number, round, &lent, work, incoming)
 }
 
-// A hear of as many words as the round has, from the front of these, on the job's tape.
+// A hear of as many words as the round has, from the front of these.
 pub fn round_hear(
     state: State,
     number: u32,
     round: u32,
-    side: u32,
+    tape: &[u32],
     work: &mut [u32],
     incoming: [u32; 33],
 ) -> Tried
     ensures { λ r. ⌜ Answered r state (filler (length (now (work .entry))))
-        (hearRule state number round (boxTape side number) (now (work .entry)) (take (roundWords 3 round) incoming)) ⌝ }
-    ensures left { λ _. ⌜ now (work .exit) ≡ hearRule state number round (boxTape side number) (now (work .entry)) (take (roundWords 3 round) incoming) .buffer ⌝ }
+        (hearRule state number round (now (tape .entry)) (now (work .entry)) (take (roundWords 3 round) incoming)) ⌝ }
+    ensures left { λ _. ⌜ now (work .exit) ≡ hearRule state number round (now (tape .entry)) (now (work .entry)) (take (roundWords 3 round) incoming) .buffer ⌝ }
 {
     let count = crate::five::words(round);
-    plain_hear(state, number, round, side, number, work, &incoming[..count])
+    hear(state, number, round, tape, work, &incoming[..count])
 }
 
 pub fn drop(state: State) -> Tried

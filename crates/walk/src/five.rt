@@ -39,8 +39,9 @@ pub fn speak_on(state: State, number: u32, round: u32) -> Tried
 pub fn hear_on(state: State, number: u32, round: u32) -> Tried
     ensures { λ r. ⌜ Answered r state (filler 100) (hearRule state number round (boxTape 1 number) (filler 100) (take (roundWords 3 round) (tabulate 33 (λ k. 0)))) ⌝ }
 {
+    let tape = crate::tapes::plain(1, number);
     let mut work = [FILLER; 100];
-    calls::round_hear(state, number, round, 1, &mut work, [0u32; 33])
+    calls::round_hear(state, number, round, &tape, &mut work, [0u32; 33])
 }
 
 // What each of the five answers in that state: a start on tape 1, a speak and a hear on tape 0.

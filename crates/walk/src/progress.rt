@@ -83,15 +83,15 @@ pub fn spoken(b: BoxMemory, side: u32, round: u32) -> BoxMemory
     }
 }
 
-// The words of the message stand at the front of `incoming`, as in the other box's out.
-pub fn heard(b: BoxMemory, side: u32, round: u32, incoming: [u32; 33]) -> BoxMemory
-    ensures { λ r. ⌜ After r (r .work) (hearRule (b .state) 0 round (boxTape side 0) (b .work) (take (roundWords 3 round) incoming)) × (r .tally ≡ b .tally) ⌝ }
+// The words of the message stand at the front of these, as in the other box's out.
+pub fn heard(b: BoxMemory, tape: &[u32], round: u32, incoming: [u32; 33]) -> BoxMemory
+    ensures { λ r. ⌜ After r (r .work) (hearRule (b .state) 0 round (now (tape .entry)) (b .work) (take (roundWords 3 round) incoming)) × (r .tally ≡ b .tally) ⌝ }
 {
     let before = b.state;
     let mut work = b.work;
     let out = b.out;
     let tally = b.tally;
-    let r = crate::calls::round_hear(before, 0, round, side, &mut work, incoming);
+    let r = crate::calls::round_hear(before, 0, round, tape, &mut work, incoming);
     let answer = r.answer;
     let state = r.state;
     BoxMemory {
@@ -129,9 +129,11 @@ fn both_heard(box1: BoxMemory, box2: BoxMemory, round: u32) -> Pair
 {
     let o1 = box1.out;
     let o2 = box2.out;
+    let tape1 = crate::tapes::plain(1, 0);
+    let tape2 = crate::tapes::plain(2, 0);
     Pair {
-        box1: heard(box1, 1, round, o2),
-        box2: heard(box2, 2, round, o1),
+        box1: heard(box1, &tape1, round, o2),
+        box2: heard(box2, &tape2, round, o1),
     }
 }
 

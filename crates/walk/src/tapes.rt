@@ -5,7 +5,7 @@ ghost use lib.ListN.{length, set};
 ghost use mathlib.Core.List.{_++_};
 ghost use Rattle.lists.specs.Tabulate.{tabulate};
 ghost use Rattle.tape.specs.Layout.{trailer};
-ghost use Rattle.walk.specs.Walk.{boxTape};
+ghost use Rattle.walk.specs.Walk.{boxTape, threesTape};
 
 pub const PAIR: u32 = 5;
 
@@ -28,6 +28,21 @@ pub fn changed(place: usize, word: u32) -> [u32; 148]
 {
     let mut tape = plain(1, 0);
     tape[place] = word;
+    tape
+}
+
+// A box's tape 0 with a body of threes. On the plain tapes, whose masks are 0, box 2 would hold the same whatever it heard.
+pub fn threes(side: u32) -> [u32; 148]
+    ensures { λ r. ⌜ (length r ≡ 148) × (r ≡ threesTape side) ⌝ }
+{
+    let mut tape = [3u32; 148];
+    tape[141] = 141;
+    tape[142] = 87;
+    tape[143] = 51;
+    tape[144] = PAIR;
+    tape[145] = side;
+    tape[146] = 0;
+    tape[147] = 3;
     tape
 }
 

@@ -28,13 +28,15 @@ fn same(a: BoxMemory, b: BoxMemory) -> bool
         && states::same_words(&work1, &work2)
 }
 
-// Whether a box's hear of these words is taken, and is its hear of zeros: the same answer, state and work.
+// Whether a box's hear of these words is taken, and is its hear of zeros: the same answer, state and work. The tape is one on
+// which a hear depends on the words.
 pub fn as_zeros(b: BoxMemory, side: u32, round: u32, incoming: [u32; 33]) -> bool
     ensures { λ r. ⌜ (r ≡ true → HeardAsZeros (b .state) side round (b .work) incoming)
         × (HeardAsZeros (b .state) side round (b .work) incoming → r ≡ true) ⌝ }
 {
-    let after = progress::heard(b, side, round, incoming);
-    let zeros = progress::heard(b, side, round, [0; 33]);
+    let tape = crate::tapes::threes(side);
+    let after = progress::heard(b, &tape, round, incoming);
+    let zeros = progress::heard(b, &tape, round, [0; 33]);
     let answer = after.answer;
     exchange::refusal_of(answer) == 0 && same(after, zeros)
 }

@@ -12,11 +12,11 @@ words-requires c κs = search needs
 array-share-prefix-incoming : tie.Need-array-share-prefix-incoming
 array-share-prefix-incoming c = search needs
 
-slice-aggregate-plain-hear : tie.Need-slice-aggregate-plain-hear
-slice-aggregate-plain-hear c = sym (length-take-le _ _ (omega (arith, c .before .before .words .ensures .0)))
+slice-aggregate-hear : tie.Need-slice-aggregate-hear
+slice-aggregate-hear c = sym (length-take-le _ _ (omega (arith, c .before .before .words .ensures .0)))
 
-plain-hear-requires : tie.Need-plain-hear-requires
-plain-hear-requires c κs = search needs
+hear-requires : tie.Need-hear-requires
+hear-requires c κs = search needs
 
 same-length : tie.Need-same-length
 same-length c = search needs
@@ -25,7 +25,7 @@ returns : tie.Need-returns
 returns c =
     let h = c .before .before in
     let count = h .before .before .before .words .ensures .1 in
-    (rw count at (h .plain-hear .ensures .0), rw count at (h .plain-hear .ensures .1))
+    (rw count at (h .hear .ensures .0), rw count at (h .hear .ensures .1))
 
 pub round-hear-spec : {M : Type 1} → statement M
-round-hear-spec = tie.close (tie.spec words-requires array-share-prefix-incoming slice-aggregate-plain-hear plain-hear-requires same-length returns)
+round-hear-spec = tie.close (tie.spec words-requires array-share-prefix-incoming slice-aggregate-hear hear-requires same-length returns)
