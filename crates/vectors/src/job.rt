@@ -1,5 +1,6 @@
 // Jobs of both boxes against the words of their files.
 use crate::numbers::Cursor;
+use compare::words::LAST_ROUND;
 use exchange::Boxes;
 use exchange::Heard;
 use exchange::Shares;
@@ -60,11 +61,11 @@ fn none() -> Agreement
     }
 }
 
-// Whether a width's file is there and every word of its job is as the boxes give it; with `respell` every zero of a message comes to the
-// other box as p. Which text was read cannot be said, only that one that agrees has that tape number and so many zeros: both are printed,
+// Whether a width's file is there and every word of its job is as the boxes give it; with a board between the boxes every zero of a message
+// comes to the other as p. Which text was read cannot be said, only that one that agrees has that tape number and so many zeros: both are printed,
 // so that a file read in another's place shows, and a zero that was left as it is.
-pub fn compared_with(w: u32, k: u8, respell: bool) -> Agreement
-    ensures { λ r. ⌜ (r .agrees ≡ true → Agreeing w respell (r .number) (r .zeros)) ⌝ }
+pub fn compared_with(w: u32, k: u8, board: bool) -> Agreement
+    ensures { λ r. ⌜ (r .agrees ≡ true → Agreeing w board (r .number) (r .zeros)) ⌝ }
 {
     let name = name_of(w, k);
     let fd = os::open_read(&name);
@@ -74,14 +75,14 @@ pub fn compared_with(w: u32, k: u8, respell: bool) -> Agreement
     let mut text = [0u8; 262144];
     let len = io::read_full(fd, &mut text);
     libc::close(fd);
-    run(&text[..len], w, respell)
+    run(&text[..len], w, board)
 }
 
 // A text has n, which is the width asked for, pair and tape number, the shares x1 y1 x2 y2, both tapes, both messages of each
 // round, both answer shares.
-fn run(text: &[u8], w: u32, respell: bool) -> Agreement
+fn run(text: &[u8], w: u32, board: bool) -> Agreement
     ensures { λ r. ⌜ (r .agrees ≡ agreed w (now (text .entry))) × (r .agrees ≡ true → r .number ≡ tapeNumber (now (text .entry))) ⌝ }
-    ensures zeros { λ r. ⌜ (r .agrees ≡ true → r .zeros ≡ respelledIn respell (sent (now (text .entry)))) ⌝ }
+    ensures zeros { λ r. ⌜ (r .agrees ≡ true → r .zeros ≡ respelledIn board (sent (now (text .entry)))) ⌝ }
 {
     let mut head = [0u32; 7];
     let c = crate::numbers::fill(text, 0, &mut head);
@@ -99,7 +100,7 @@ fn run(text: &[u8], w: u32, respell: bool) -> Agreement
         x: head[5],
         y: head[6],
     };
-    let told = on_tapes(text, c.at, head[0], head[1], head[2], box1, box2, respell);
+    let told = on_tapes(text, c.at, head[0], head[1], head[2], box1, box2, board);
     Agreement {
         agrees: told.agrees,
         number: head[2],
@@ -131,11 +132,11 @@ fn on_tapes(
     number: u32,
     box1: Shares,
     box2: Shares,
-    respell: bool,
+    board: bool,
 ) -> Told
     ensures { λ r. ⌜ r .agrees ≡ tapesTold (now (text .entry)) from n pair number (box1 .x) (box1 .y) (box2 .x) (box2 .y) ⌝ }
     ensures zeros { λ r. ⌜ (r .agrees ≡ true
-        → r .zeros ≡ respelledIn respell (tapesSent (now (text .entry)) from n (box1 .x) (box1 .y) (box2 .x) (box2 .y))) ⌝ }
+        → r .zeros ≡ respelledIn board (tapesSent (now (text .entry)) from n (box1 .x) (box1 .y) (box2 .x) (box2 .y))) ⌝ }
 {
     if !field::is_listed(n) {
         return untold();
@@ -161,7 +162,7 @@ fn on_tapes(
         box2,
         &t1[..len],
         &t2[..len],
-        respell,
+        board,
     )
 }
 
@@ -183,12 +184,12 @@ fn opened(
     box2: Shares,
     t1: &[u32],
     t2: &[u32],
-    respell: bool,
+    board: bool,
 ) -> Told
     ensures { λ r. ⌜ r .agrees
         ≡ jobTold (now (text .entry)) from n pair number (box1 .x) (box1 .y) (box2 .x) (box2 .y) (now (t1 .entry)) (now (t2 .entry)) ⌝ }
     ensures zeros { λ r. ⌜ (r .agrees ≡ true
-        → r .zeros ≡ respelledIn respell (jobSent n (box1 .x) (box1 .y) (box2 .x) (box2 .y) (now (t1 .entry)) (now (t2 .entry)))) ⌝ }
+        → r .zeros ≡ respelledIn board (jobSent n (box1 .x) (box1 .y) (box2 .x) (box2 .y) (now (t1 .entry)) (now (t2 .entry)))) ⌝ }
 {
     let mut w1 = exchange::memory::blank_work();
     let mut w2 = exchange::memory::blank_work();
@@ -207,7 +208,7 @@ fn opened(
     let s1 = begun1.state;
     let s2 = begun2.state;
     let boxes = Boxes { box1: s1, box2: s2 };
-    exchanged(text, from, number, boxes, t1, t2, &mut w1, &mut w2, respell)
+    exchanged(text, from, number, boxes, t1, t2, &mut w1, &mut w2, board)
 }
 
 // Every round, each message against the text, then the answer shares, which the last round gives.
@@ -220,14 +221,14 @@ fn exchanged(
     t2: &[u32],
     w1: &mut [u32],
     w2: &mut [u32],
-    respell: bool,
+    board: bool,
 ) -> Told
     requires { ⌜ Due number 1 (boxes .box1) (boxes .box2) (now t1) (now t2) (now w1) (now w2) ⌝ }
     ensures { λ r. ⌜ r .agrees
         ≡ spelled (now (text .entry)) from
         (transcript (partyOf (boxes .box1) (now (t1 .entry))) (partyOf (boxes .box2) (now (t2 .entry))) (works (now (w1 .entry)) (now (w2 .entry)))) .ok ⌝ }
     ensures zeros { λ r. ⌜ (r .agrees ≡ true → r .zeros
-        ≡ respelledIn respell
+        ≡ respelledIn board
         (messagesTo (partyOf (boxes .box1) (now (t1 .entry))) (partyOf (boxes .box2) (now (t2 .entry)))
         (works (now (w1 .entry)) (now (w2 .entry))) lastRound)) ⌝ }
 {
@@ -236,18 +237,8 @@ fn exchanged(
     let mut zeros = 0;
     let mut heard: u32 = 0;
     while heard < exchange::EARLIER_ROUNDS {
-        let r = compared(
-            text,
-            at,
-            number,
-            heard + 1,
-            due,
-            t1,
-            t2,
-            &mut *w1,
-            &mut *w2,
-            respell,
-        );
+        let k = heard + 1;
+        let r = compared(text, at, number, k, due, t1, t2, &mut *w1, &mut *w2, board);
         let c = r.read;
         if !c.ok {
             return untold();
@@ -260,20 +251,9 @@ fn exchanged(
         let box1 = heard1.state;
         let box2 = heard2.state;
         due = Boxes { box1, box2 };
-        heard += 1;
+        heard = k;
     }
-    let last = compared(
-        text,
-        at,
-        number,
-        compare::words::LAST_ROUND,
-        due,
-        t1,
-        t2,
-        w1,
-        w2,
-        respell,
-    );
+    let last = compared(text, at, number, LAST_ROUND, due, t1, t2, w1, w2, board);
     let c = last.read;
     if !c.ok {
         return untold();
@@ -302,7 +282,7 @@ fn compared(
     t2: &[u32],
     w1: &mut [u32],
     w2: &mut [u32],
-    respell: bool,
+    board: bool,
 ) -> Round
     requires { ⌜ Due number round (boxes .box1) (boxes .box2) (now t1) (now t2) (now w1) (now w2) ⌝ }
     ensures read { λ r. ⌜ r .read
@@ -313,7 +293,7 @@ fn compared(
     ensures box2 { λ r. ⌜ outcome (r .heard .box2) (now (w2 .exit))
         ≡ heardAfter (boxes .box2) (now (t2 .entry)) (now (w2 .entry)) round (message (partyOf (boxes .box1) (now (t1 .entry))) (now (w1 .entry)) round) ⌝ }
     ensures zeros { λ r. ⌜ r .zeros
-        ≡ respelledIn respell
+        ≡ respelledIn board
         (messages (partyOf (boxes .box1) (now (t1 .entry))) (partyOf (boxes .box2) (now (t2 .entry))) (works (now (w1 .entry)) (now (w2 .entry))) round) ⌝ }
 {
     let mut o1 = exchange::memory::blank_words();
@@ -322,8 +302,8 @@ fn compared(
     let words = compare::words::words_of(s1.n, round);
     let due = exchange::both_speak(number, round, boxes, t1, t2, &*w1, &*w2, &mut o1, &mut o2);
     let read = crate::numbers::both_same(text, from, words, &o1, &o2);
-    let zeros1 = carry(s1.n, &mut o1[..words], respell);
-    let zeros2 = carry(s1.n, &mut o2[..words], respell);
+    let zeros1 = carry(s1.n, &mut o1[..words], board);
+    let zeros2 = carry(s1.n, &mut o2[..words], board);
     let heard = exchange::both_hear(
         number,
         round,

@@ -11,12 +11,12 @@ mod job;
 mod numbers;
 
 // How the line of a width begins: what is tried.
-fn tell_width(w: u32, respell: bool)
+fn tell_width(w: u32, board: bool)
     requires { ⌜ listed w ≡ true ⌝ }
 {
     io::write_all(1, b"width ");
     io::print_decimal(1, w as u64);
-    if respell {
+    if board {
         io::write_all(1, b", every zero spelled ");
         io::print_decimal(1, field::modulus_of(w) as u64);
     }
@@ -24,13 +24,13 @@ fn tell_width(w: u32, respell: bool)
 }
 
 // How it ends: what came of it.
-fn tell_jobs(agreed: u64, count: u8, respell: bool, zeros: u64) {
+fn tell_jobs(agreed: u64, count: u8, board: bool, zeros: u64) {
     io::write_all(1, b", ");
     io::print_decimal(1, agreed);
     io::write_all(1, b" of ");
     io::print_decimal(1, count as u64);
     io::write_all(1, b" jobs agree");
-    if respell {
+    if board {
         io::write_all(1, b", ");
         io::print_decimal(1, zeros);
         io::write_all(1, b" zeros respelled");
@@ -38,16 +38,16 @@ fn tell_jobs(agreed: u64, count: u8, respell: bool, zeros: u64) {
     io::write_all(1, b"\n");
 }
 
-fn run_width(w: u32, count: u8, respell: bool)
+fn run_width(w: u32, count: u8, board: bool)
     requires { ⌜ listed w ≡ true ⌝ }
 {
-    tell_width(w, respell);
+    tell_width(w, board);
     let mut agreed: u64 = 0;
     let mut zeros: u64 = 0;
     let mut k: u8 = 0;
     while k < count {
         k += 1;
-        let told = job::compared_with(w, k, respell);
+        let told = job::compared_with(w, k, board);
         if told.agrees {
             io::write_all(1, b" ");
             io::print_decimal(1, told.number as u64);
@@ -55,18 +55,18 @@ fn run_width(w: u32, count: u8, respell: bool)
             zeros += told.zeros as u64;
         }
     }
-    tell_jobs(agreed, count, respell, zeros);
+    tell_jobs(agreed, count, board, zeros);
 }
 
 // Every job: the words go from box to box as they are, or every zero spelled p.
-fn run_widths(respell: bool) {
-    run_width(3, 5, respell);
-    run_width(5, 5, respell);
-    run_width(7, 3, respell);
-    run_width(13, 2, respell);
-    run_width(17, 2, respell);
-    run_width(19, 2, respell);
-    run_width(31, 3, respell);
+fn run_widths(board: bool) {
+    run_width(3, 5, board);
+    run_width(5, 5, board);
+    run_width(7, 3, board);
+    run_width(13, 2, board);
+    run_width(17, 2, board);
+    run_width(19, 2, board);
+    run_width(31, 3, board);
 }
 
 // Says that a deal agrees, and which: only of one that does.

@@ -1,4 +1,4 @@
-// The plain tapes of width 3, and such as are no tapes.
+// The plain tapes of width 3, the tapes of threes, and such as are no tapes.
 ghost use mathlib.Core.Path.{_≡_};
 ghost use Prim.Native.Nat.{_<_};
 ghost use lib.ListN.{length, set};

@@ -99,20 +99,20 @@ to1 c = let a = sent1 (carried1 c) in c .carry2 .last .1 .0 ++ drop (words a) (o
 arrived2 : (c : tie.After-carry) → let a = sent1 c in Arrived (begin a .args .boxes .box1 .n) (message1 a) (to2 c) (words a)
 arrived2 c =
     let v = begin (sent1 c) .args in
-    arrived (v .boxes .box1 .n) (v .respell) (front1 (sent1 c)) (c .carry .last .1 .0) (c .carry .kept .1 .0) (c .carry .ensures .1)
+    arrived (v .boxes .box1 .n) (v .board) (front1 (sent1 c)) (c .carry .last .1 .0) (c .carry .kept .1 .0) (c .carry .ensures .1)
 
 arrived1 : (c : tie.After-carry2) → let a = sent1 (carried1 c) in Arrived (begin a .args .boxes .box1 .n) (message2 a) (to1 c) (words a)
 arrived1 c =
     let a = sent1 (carried1 c) in
     let v = begin a .args in
-    arrived (v .boxes .box1 .n) (v .respell) (front2 a) (c .carry2 .last .1 .0) (c .carry2 .kept .1 .0) (c .carry2 .ensures .1)
+    arrived (v .boxes .box1 .n) (v .board) (front2 a) (c .carry2 .last .1 .0) (c .carry2 .kept .1 .0) (c .carry2 .ensures .1)
 
 -- the zeros of each message
-zeros1 : (c : tie.After-carry) → c .carry .result ≡ respelledIn (begin (sent1 c) .args .respell) (message1 (sent1 c))
-zeros1 c = c .carry .ensures .0 ∙ ap (respelledIn (begin (sent1 c) .args .respell)) (front1 (sent1 c) .front)
+zeros1 : (c : tie.After-carry) → c .carry .result ≡ respelledIn (begin (sent1 c) .args .board) (message1 (sent1 c))
+zeros1 c = c .carry .ensures .0 ∙ ap (respelledIn (begin (sent1 c) .args .board)) (front1 (sent1 c) .front)
 
-zeros2 : (c : tie.After-carry2) → let a = sent1 (carried1 c) in c .carry2 .result ≡ respelledIn (begin a .args .respell) (message2 a)
-zeros2 c = let a = sent1 (carried1 c) in c .carry2 .ensures .0 ∙ ap (respelledIn (begin a .args .respell)) (front2 a .front)
+zeros2 : (c : tie.After-carry2) → let a = sent1 (carried1 c) in c .carry2 .result ≡ respelledIn (begin a .args .board) (message2 a)
+zeros2 c = let a = sent1 (carried1 c) in c .carry2 .ensures .0 ∙ ap (respelledIn (begin a .args .board)) (front2 a .front)
 
 blank-words-requires : tie.Need-blank-words-requires
 blank-words-requires c κs = search needs
@@ -183,8 +183,8 @@ add-t45 c =
     let c1 = carried1 c2 in
     let a = sent1 c1 in
     let v = begin a .args in
-    let most1 = respelled-most (v .respell) (take (words a) (out1 a)) in
-    let most2 = respelled-most (v .respell) (take (words a) (out2 a)) in
+    let most1 = respelled-most (v .board) (take (words a) (out1 a)) in
+    let most2 = respelled-most (v .board) (take (words a) (out2 a)) in
     let most = words-most (v .boxes .box1 .n) (v .round) (width1 (worded a .before)) in
     omega (arith, c1 .carry .ensures .0, most1, front1 a .long, c2 .carry2 .ensures .0, most2, front2 a .long, worded a .words-of .ensures, most)
 
@@ -214,7 +214,7 @@ returns c =
         (
           hears (v .boxes .box1) (v .number) (v .round) (v .t1 .now) (v .w1 .now) ready1 (v .boxes .box2) (v .t2 .now) (v .w2 .now) ready2
               (s .pre .width) _ _ (h .both-hear .result .box2) _ (told .1 .1) read2 (h .both-hear .ensures .1),
-          ap₂ _+_ (zeros1 c1) (zeros2 c2) ∙ sym (respelled-append (v .respell) (message1 a) (message2 a)),
+          ap₂ _+_ (zeros1 c1) (zeros2 c2) ∙ sym (respelled-append (v .board) (message1 a) (message2 a)),
         ),
       ),
     )

@@ -30,17 +30,17 @@ use Rattle.vectors.proofs.job.exchanged.Statement.{statement}
 use Rattle.vectors.proofs.job.exchanged.Tie as tie
 
 abbrev Inv-loop : tie.InvT-loop
-Inv-loop text from number t1 t2 w1₀ w2₀ respell due₀ at₀ zeros₀ heard₀ w1 w2 due at zeros heard =
+Inv-loop text from number t1 t2 w1₀ w2₀ board due₀ at₀ zeros₀ heard₀ w1 w2 due at zeros heard =
     (heard ≤ earlierRounds)
     × Course (due₀ .box1) number t1 heard (after (due₀ .box1) (due₀ .box2) t1 t2 w1₀ w2₀ heard .own) (due .box1) w1
     × Course (due₀ .box2) number t2 heard (after (due₀ .box1) (due₀ .box2) t1 t2 w1₀ w2₀ heard .others) (due .box2) w2
     × (length w1 ≡ length w1₀)
     × (length w2 ≡ length w2₀)
     × (upTo at ≡ read text from (partyOf (due₀ .box1) t1) (partyOf (due₀ .box2) t2) (works w1₀ w2₀) heard)
-    × (zeros ≡ zerosTo respell (partyOf (due₀ .box1) t1) (partyOf (due₀ .box2) t2) (works w1₀ w2₀) heard)
+    × (zeros ≡ zerosTo board (partyOf (due₀ .box1) t1) (partyOf (due₀ .box2) t2) (works w1₀ w2₀) heard)
 
 abbrev μ-loop : tie.MeasureT-loop
-μ-loop text from number t1 t2 w1₀ w2₀ respell due₀ at₀ zeros₀ heard₀ w1 w2 due at zeros heard = earlierRounds - heard
+μ-loop text from number t1 t2 w1₀ w2₀ board due₀ at₀ zeros₀ heard₀ w1 w2 due at zeros heard = earlierRounds - heard
 
 abbrev start : tie.At-loop Inv-loop μ-loop → tie.Start Inv-loop μ-loop
 start l = l .before .before .before .before .before .before
@@ -76,7 +76,7 @@ ToldAt l k =
 abbrev CountedAt : tie.At-loop Inv-loop μ-loop → ℕ → Type 0
 CountedAt l k =
     let s = start l in
-    l .loop .zeros ≡ zerosTo (s .args .respell) (box1 s) (box2 s) (first s) k
+    l .loop .zeros ≡ zerosTo (s .args .board) (box1 s) (box2 s) (first s) k
 
 -- where the loop ends, all rounds but the last are heard
 all-heard : (a : tie.After-loop Inv-loop μ-loop) → a .before .loop .heard ≡ earlierRounds
@@ -99,12 +99,12 @@ counted : (a : tie.After-loop Inv-loop μ-loop) → CountedAt (a .before) earlie
 counted a = subst (CountedAt (a .before)) (all-heard a) (a .before .loop .inv .6)
 
 -- so many rounds' zeros fit a word
-zeros-small : (s : tie.Start Inv-loop μ-loop) (k : ℕ) → zerosTo (s .args .respell) (box1 s) (box2 s) (first s) k ≤ k * 5778
+zeros-small : (s : tie.Start Inv-loop μ-loop) (k : ℕ) → zerosTo (s .args .board) (box1 s) (box2 s) (first s) k ≤ k * 5778
 zeros-small s k =
     let v = s .args in
     let width1 = ranged (v .boxes .box1) (s .pre .box1 .ranged) .width in
     let width2 = ranged (v .boxes .box2) (s .pre .box2 .ranged) .width in
-    zeros-fit (v .respell) (box1 s) (box2 s) (first s) width1 width2 k
+    zeros-fit (v .board) (box1 s) (box2 s) (first s) width1 width2 k
 
 -- a cursor that read all it was asked
 reached : (d : Cursor) → d .ok ≡ true → upTo (d .at) ≡ d
@@ -122,7 +122,7 @@ abbrev RoundTold : tie.At-loop Inv-loop μ-loop → ℕ → ℕ → Round → Ty
 RoundTold l k round r =
     let s = start l in
     let sent = messages (box1 s) (box2 s) (exchanged (box1 s) (box2 s) (first s) k) round in
-    (r .read ≡ spelled (s .args .text .now) (l .loop .at) sent) × (r .zeros ≡ respelledIn (s .args .respell) sent)
+    (r .read ≡ spelled (s .args .text .now) (l .loop .at) sent) × (r .zeros ≡ respelledIn (s .args .board) sent)
 
 round-told : (r : tie.After-compared Inv-loop μ-loop) → let l = r .before .before .before .before in
     RoundTold l (l .loop .heard) (l .loop .heard + 1) (r .compared .result)
@@ -130,7 +130,7 @@ round-told r =
     let l = r .before .before .before .before in
     let v = start l .args in
     let same = sends l (l .loop .heard) (l .loop .inv .1) (l .loop .inv .2) (l .loop .heard + 1) in
-    (r .compared .ensures .0 ∙ ap (spelled (v .text .now) (l .loop .at)) same, r .compared .ensures .1 .1 .1 ∙ ap (respelledIn (v .respell)) same)
+    (r .compared .ensures .0 ∙ ap (spelled (v .text .now) (l .loop .at)) same, r .compared .ensures .1 .1 .1 ∙ ap (respelledIn (v .board)) same)
 
 last-told : (r : tie.After-compared2 Inv-loop μ-loop) → RoundTold (r .before .before .before .before) earlierRounds lastRound (r .compared2 .result)
 last-told r =
@@ -138,22 +138,22 @@ last-told r =
     let l = a .before in
     let v = start l .args in
     let same = sends l earlierRounds (ended1 a) (ended2 a) lastRound in
-    (r .compared2 .ensures .0 ∙ ap (spelled (v .text .now) (l .loop .at)) same, r .compared2 .ensures .1 .1 .1 ∙ ap (respelledIn (v .respell)) same)
+    (r .compared2 .ensures .0 ∙ ap (spelled (v .text .now) (l .loop .at)) same, r .compared2 .ensures .1 .1 .1 ∙ ap (respelledIn (v .board)) same)
 
 -- the count with a round more
 more-zeros : (r : tie.After-compared Inv-loop μ-loop) → let l = r .before .before .before .before in let s = start l in
-    l .loop .zeros + r .compared .result .zeros ≡ zerosTo (s .args .respell) (box1 s) (box2 s) (first s) (l .loop .heard + 1)
+    l .loop .zeros + r .compared .result .zeros ≡ zerosTo (s .args .board) (box1 s) (box2 s) (first s) (l .loop .heard + 1)
 more-zeros r =
     let l = r .before .before .before .before in
     let s = start l in
-    zeros-more (s .args .respell) (box1 s) (box2 s) (first s) (l .loop .heard) _ _ (l .loop .inv .6) (round-told r .1)
+    zeros-more (s .args .board) (box1 s) (box2 s) (first s) (l .loop .heard) _ _ (l .loop .inv .6) (round-told r .1)
 
 all-zeros : (r : tie.After-compared2 Inv-loop μ-loop) → let l = r .before .before .before .before in let s = start l in
-    l .loop .zeros + r .compared2 .result .zeros ≡ zerosTo (s .args .respell) (box1 s) (box2 s) (first s) lastRound
+    l .loop .zeros + r .compared2 .result .zeros ≡ zerosTo (s .args .board) (box1 s) (box2 s) (first s) lastRound
 all-zeros r =
     let a = r .before .before .before in
     let s = start (a .before) in
-    zeros-more (s .args .respell) (box1 s) (box2 s) (first s) earlierRounds _ _ (counted a) (last-told r .1)
+    zeros-more (s .args .board) (box1 s) (box2 s) (first s) earlierRounds _ _ (counted a) (last-told r .1)
 
 loop-holds : tie.Need-loop-holds Inv-loop μ-loop
 unfolding messagesTo spelled exchanged
@@ -166,11 +166,11 @@ loop-holds c =
       refl,
       refl,
       refl,
-      zeros-none (v .respell) (partyOf (v .boxes .box1) (v .t1 .now)) (partyOf (v .boxes .box2) (v .t2 .now)) (works (v .w1 .now) (v .w2 .now)),
+      zeros-none (v .board) (partyOf (v .boxes .box1) (v .t1 .now)) (partyOf (v .boxes .box2) (v .t2 .now)) (works (v .w1 .now) (v .w2 .now)),
     )
 
-add-compared : tie.Need-add-compared Inv-loop μ-loop
-add-compared c = search needs
+add-k : tie.Need-add-k Inv-loop μ-loop
+add-k c = search needs
 
 compared-requires : tie.Need-compared-requires Inv-loop μ-loop
 compared-requires c κs =
@@ -202,9 +202,6 @@ add-zeros c =
     let r = c .before .before .before .before .before .before .before .before in
     let l = r .before .before .before .before in
     omega (arith, more-zeros r, zeros-small (start l) (l .loop .heard + 1), r .before .before .before .loop-test .taken)
-
-add-heard : tie.Need-add-heard Inv-loop μ-loop
-add-heard c = search needs
 
 loop-less : tie.Need-loop-less Inv-loop μ-loop
 loop-less c = search needs
@@ -299,14 +296,13 @@ exchanged-spec =
     Inv-loop
     μ-loop
     loop-holds
-    add-compared
+    add-k
     compared-requires
     untold-requires
     same-length
     same-length-2
     returns
     add-zeros
-    add-heard
     loop-less
     loop-again
     compared-requires-2

@@ -163,7 +163,7 @@ returns-4 c =
     (f .fill .result) (read1 f) (g .fill2 .result) (read2 g) (width l) ok1 ok2 in
     let messages = tapes-sent (v .n) (v .box1 .x) (v .box1 .y) (v .box2 .x) (v .box2 .y) (v .text .now) (v .from) _ _
     (f .fill .result) (read1 f) tape1 tape2 in
-    (c .opened .ensures .0 ∙ ap₂ job tape1 tape2 ∙ told, λ agrees. c .opened .ensures .1 agrees ∙ ap (respelledIn (v .respell)) messages)
+    (c .opened .ensures .0 ∙ ap₂ job tape1 tape2 ∙ told, λ agrees. c .opened .ensures .1 agrees ∙ ap (respelledIn (v .board)) messages)
 
 pub on-tapes-spec : {M : Type 1} → statement M
 on-tapes-spec =

@@ -170,7 +170,7 @@ returns-3 c =
     let messages = job-sent (v .n) (v .box1 .x) (v .box1 .y) (v .box2 .x) (v .box2 .y) (v .t1 .now) (v .t2 .now) party1 party2 work1 work2 in
     let r = c .before .before .exchanged in (
       r .ensures .0 ∙ told-same (v .text .now) (v .from) party1 party2 work1 work2 ∙ told,
-      λ agrees. r .ensures .1 agrees ∙ ap (respelledIn (v .respell)) messages,
+      λ agrees. r .ensures .1 agrees ∙ ap (respelledIn (v .board)) messages,
     )
 
 pub opened-spec : {M : Type 1} → statement M

@@ -90,7 +90,7 @@ returns-3 c =
     let ok = not-false (f .fill .result .ok) (e .if1 .left) in
     let told = c .on-tapes .ensures .0 ∙ agreed-told (v .w) (v .text .now) (f .fill .result) (f .fill .ensures .0) _ (front e) ok (d .if2 .left) in
     let messages = text-sent (v .text .now) (f .fill .result) _ (f .fill .ensures .0) (front e) in
-    ((told, λ _. ap (λ (h : List ℕ). getD h 2 0) (front e)), λ agrees. c .on-tapes .ensures .1 agrees ∙ ap (respelledIn (v .respell)) messages)
+    ((told, λ _. ap (λ (h : List ℕ). getD h 2 0) (front e)), λ agrees. c .on-tapes .ensures .1 agrees ∙ ap (respelledIn (v .board)) messages)
 
 pub run-spec : {M : Type 1} → statement M
 run-spec =
