@@ -1,5 +1,5 @@
 -- With a dealt square or Beaver triple, the two boxes' shares add up to the square or the product. `side` is either box.
-use Prim.Native.Nat.{ℕ, _+_, _-_, _*_, _%_, _<_, _≤_}
+use Prim.Native.Nat.{ℕ, _+_, _*_, _%_, _<_, _≤_}
 use mathlib.Core.Path.{_≡_, sym, ap, _∙_}
 use mathlib.Core.Bool.{true}
 use native.Mathlib.Nat.{mod-lt, add-comm}
