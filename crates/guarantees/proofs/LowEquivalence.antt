@@ -1,4 +1,5 @@
--- Low equivalence: what two runs over one list have in common at every place when they differ in tapes, in-range shares and words of work only.
+-- Low equivalence: what two runs over one list have in common at every place when they differ in tapes, in-range shares, words of
+-- work and spelled zeros only.
 use Prim.Native.Nat.{ℕ, _<_}
 use mathlib.Core.Path.{_≡_}
 use lib.ListN.{length}
