@@ -166,7 +166,7 @@ pub fn both_hear(
 }
 
 // One round: both boxes speak, then both hear the other's words. The words of each stand at the front of its out.
-pub fn round(
+fn round(
     number: u32,
     round: u32,
     boxes: Boxes,
