@@ -31,9 +31,8 @@ fn tell_jobs(agreed: u64, count: u8, board: bool, zeros: u64) {
     io::print_decimal(1, count as u64);
     io::write_all(1, b" jobs agree");
     if board {
-        io::write_all(1, b", ");
+        io::write_all(1, b", zeros respelled: ");
         io::print_decimal(1, zeros);
-        io::write_all(1, b" zeros respelled");
     }
     io::write_all(1, b"\n");
 }
