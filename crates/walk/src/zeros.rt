@@ -49,10 +49,17 @@ fn sevens_as_zeros(b: BoxMemory, side: u32, round: u32) -> bool
     as_zeros(b, side, round, [7; 33])
 }
 
+// Says so: only of a box of which it is so.
+fn tell_as_zeros(b: BoxMemory, side: u32, round: u32)
+    requires { ⌜ HeardAsZeros (b .state) side round (b .work) (tabulate 33 (λ k. 7)) ⌝ }
+{
+    text(b" as of zeros");
+}
+
 fn told(b: BoxMemory, side: u32, round: u32) {
     number(b"box ", side);
     if sevens_as_zeros(b, side, round) {
-        text(b" as of zeros");
+        tell_as_zeros(b, side, round);
     } else {
         text(b" NOT as of zeros");
     }
