@@ -7,7 +7,7 @@ use Rattle.lists.specs.Tabulate.{tabulate}
 use Rattle.rules.specs.Calls.{startRule, hearRule}
 use Rattle.rules.specs.declared.state.Turn.the-variants.{Hear}
 use Rattle.exchange.specs.Opening.{refusalOf}
-use Rattle.walk.specs.Walk.{idleState, jobState, boxTape, freshTally, filler, HeardAsZeros}
+use Rattle.walk.specs.Walk.{idleState, jobState, withSide, boxTape, freshTally, filler, HeardAsZeros}
 use Rattle.walk.specs.declared.sweeps.Sweep.{Sweep}
 use Rattle.walk.specs.declared.sweeps.Sweep.the-variants.{Bytes, Body, Words, Zeros}
 
@@ -19,12 +19,12 @@ placesOf Words = 33
 placesOf Zeros = 33
 
 -- what must come of the call at a place: a start where that byte is tape 0's, a start on a tape with the word 7 there, a hear of zeros
--- with an 8 there, and one with a 7 there
+-- with an 8 there, and box 2's with a 7 there
 abbrev pub RightAt : Sweep → ℕ → Type 0
 RightAt Bytes place = refusalOf (startRule (idleState 4) 0 5 1 (boxTape 1 0) (tabulate 100 (λ k. 0)) (place ∷ 255 ∷ 255 ∷ 255 ∷ []) .reply) ≡ 8
 RightAt Body place = refusalOf (startRule (idleState 4) 0 5 1 (set (boxTape 1 0) place 7) (tabulate 100 (λ k. 0)) freshTally .reply) ≡ 10
 RightAt Words place = refusalOf (hearRule (jobState 4 (Hear 1)) 0 1 (boxTape 1 0) (filler 100) (set (tabulate 33 (λ k. 0)) place 8) .reply) ≡ 13
-RightAt Zeros place = HeardAsZeros (jobState 4 (Hear 1)) 1 1 (tabulate 100 (λ k. 6)) (set (tabulate 33 (λ k. 0)) place 7)
+RightAt Zeros place = HeardAsZeros (withSide (jobState 4 (Hear 1)) 2) 2 1 (tabulate 100 (λ k. 6)) (set (tabulate 33 (λ k. 0)) place 7)
 
 -- of the first so many places, P holds at so many
 pub data Counted (P : ℕ → Type 0) : ℕ → ℕ → Type 0 where

@@ -29,6 +29,10 @@ idleState tally = record { n = 3; side = 1; pair = 5; tally = tally; phase = Idl
 abbrev pub withTally : State → ℕ → State
 withTally s tally = record { n = s .n; side = s .side; pair = s .pair; tally = tally; phase = s .phase }
 
+-- the same, of another side
+abbrev pub withSide : State → ℕ → State
+withSide s side = record { n = s .n; side = side; pair = s .pair; tally = s .tally; phase = s .phase }
+
 -- box 1 in a job on tape 0 with the shares 5 and 1
 abbrev pub jobState : ℕ → Turn → State
 jobState tally turn = record { n = 3; side = 1; pair = 5; tally = tally; phase = Job turn 0 5 1 }

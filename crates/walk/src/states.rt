@@ -1,4 +1,4 @@
-// Box 1's states on the way to its first hear, and whether two states are the same.
+// Box 1's states on the way to its first hear, box 2's there, and whether two states are the same.
 use crate::progress::BoxMemory;
 use rules::state::Phase;
 use rules::state::State;
@@ -8,7 +8,7 @@ ghost use mathlib.Core.Bool.{true};
 ghost use Rattle.lists.specs.Tabulate.{tabulate};
 ghost use Rattle.rules.specs.Modes.{asleepState, roundOf};
 ghost use Rattle.exchange.specs.Opening.{firstState};
-ghost use Rattle.walk.specs.Walk.{idleState, jobState, withTally, wordsOf, callOf};
+ghost use Rattle.walk.specs.Walk.{idleState, jobState, withTally, withSide, wordsOf, callOf};
 ghost use Rattle.rules.specs.declared.state.Turn.the-variants.{Speak, Hear};
 
 // A box at first.
@@ -59,6 +59,20 @@ pub fn longer(state: State) -> State
     }
 }
 
+// The same, but of box 2.
+fn of_box2(state: State) -> State
+    ensures { λ r. ⌜ r ≡ withSide state 2 ⌝ }
+{
+    let phase = state.phase;
+    State {
+        n: state.n,
+        side: 2,
+        pair: state.pair,
+        tally: state.tally,
+        phase,
+    }
+}
+
 // Box 1 in a job on tape 0: speak 1 is due.
 fn started() -> BoxMemory
     ensures { λ r. ⌜ (r .state ≡ jobState 4 (Speak 1)) × (r .work ≡ tabulate 100 (λ k. 6)) × (r .out ≡ tabulate 33 (λ k. 6)) ⌝ }
@@ -78,6 +92,25 @@ pub fn hearing() -> BoxMemory
     ensures { λ r. ⌜ (r .state ≡ jobState 4 (Hear 1)) × (r .work ≡ tabulate 100 (λ k. 6)) ⌝ }
 {
     crate::progress::spoken(started(), 1, 1)
+}
+
+// A box 2 in such a job.
+pub fn box2_hearing() -> BoxMemory
+    ensures { λ r. ⌜ (r .state ≡ withSide (jobState 4 (Hear 1)) 2) × (r .work ≡ tabulate 100 (λ k. 6)) ⌝ }
+{
+    let hearing = hearing();
+    let answer = hearing.answer;
+    let state = of_box2(hearing.state);
+    let work = hearing.work;
+    let out = hearing.out;
+    let tally = hearing.tally;
+    BoxMemory {
+        answer,
+        state,
+        work,
+        out,
+        tally,
+    }
 }
 
 pub fn spoken() -> State

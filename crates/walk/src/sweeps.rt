@@ -1,5 +1,6 @@
 // Three refusals at every place that can give them: each byte but FF, the word 7 in each place of a tape's body, and the word 8
-// in each place of the words that a hear is lent. There a 7 is heard as 0 at every place.
+// in each place of the words that a hear is lent. There a 7 is heard as 0 at every place: by box 2, whose hear is linear in each
+// word. Box 1 multiplies the two openings of a product, so a zero in one hides the other.
 use crate::calls::is_refused;
 use crate::hears::changed;
 use crate::hears::of_changed;
@@ -38,7 +39,7 @@ fn right_at(sweep: Sweep, place: usize) -> bool
         Sweep::Bytes => is_refused(crate::starts::on_byte(place as u8), 8),
         Sweep::Body => is_refused(crate::starts::on_changed(place, 7), 10),
         Sweep::Words => is_refused(of_changed(place, 8), 13),
-        Sweep::Zeros => as_zeros(crate::states::hearing(), 1, 1, changed(place, 7)),
+        Sweep::Zeros => as_zeros(crate::states::box2_hearing(), 2, 1, changed(place, 7)),
     }
 }
 

@@ -44,8 +44,8 @@ is-refused-requires-3 c κs = search needs
 enum-told-4 : tie.Need-enum-told-4
 enum-told-4 c = search needs
 
-hearing-requires : tie.Need-hearing-requires
-hearing-requires c κs = search needs
+box2-hearing-requires : tie.Need-box2-hearing-requires
+box2-hearing-requires c κs = search needs
 
 changed-requires : tie.Need-changed-requires
 changed-requires c κs = omega (arith, rw (c .before .enum-told4 .given .1) at (c .before .before .before .pre))
@@ -79,7 +79,7 @@ returns-4 c =
     let w = c .before in
     let h = w .before in
     rw (h .before .enum-told4 .given .1)
-    (rw (h .hearing .ensures .0, h .hearing .ensures .1, w .changed .ensures .1) at (c .as-zeros .ensures))
+    (rw (h .box2-hearing .ensures .0, h .box2-hearing .ensures .1, w .changed .ensures .1) at (c .as-zeros .ensures))
 
 pub right-at-spec : {M : Type 1} → statement M
 right-at-spec =
@@ -96,7 +96,7 @@ right-at-spec =
     of-changed-requires
     is-refused-requires-3
     enum-told-4
-    hearing-requires
+    box2-hearing-requires
     changed-requires
     as-zeros-requires
     returns
