@@ -1,4 +1,4 @@
-// Box 1's states on the way to its first hear, box 2's there, and whether two states are the same.
+// Box 1's states on the way to its first hear, such a one of a box 2, and whether two states are the same.
 use crate::progress::BoxMemory;
 use rules::state::Phase;
 use rules::state::State;
@@ -59,7 +59,7 @@ pub fn longer(state: State) -> State
     }
 }
 
-// The same, but of box 2.
+// A state as a box 2 would hold it: the side alone changes.
 fn of_box2(state: State) -> State
     ensures { λ r. ⌜ r ≡ withSide state 2 ⌝ }
 {
@@ -94,7 +94,7 @@ pub fn hearing() -> BoxMemory
     crate::progress::spoken(started(), 1, 1)
 }
 
-// A box 2 in such a job.
+// A box 2 in such a job, with the same shares.
 pub fn box2_hearing() -> BoxMemory
     ensures { λ r. ⌜ (r .state ≡ withSide (jobState 4 (Hear 1)) 2) × (r .work ≡ tabulate 100 (λ k. 6)) ⌝ }
 {
