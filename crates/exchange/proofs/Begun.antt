@@ -7,7 +7,7 @@ use borrow.Author.Tests.{lt-ltb, eqb-true}
 use lib.Dec.{eqb}
 use lib.ListN.{length}
 use Rattle.field.specs.Width.{modulus}
-use Rattle.rules.specs.Tally.{tapesOf}
+use Rattle.tally.specs.Tally.{tapesOf}
 use Rattle.rules.specs.Modes.{inRange}
 use Rattle.rules.specs.Grounds.{wakeGround, startGround}
 use Rattle.rules.specs.Answers.{replyOf}

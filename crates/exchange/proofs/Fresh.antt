@@ -17,7 +17,7 @@ use Rattle.encoding.specs.Matching.{indicator}
 use Rattle.protocol.specs.Work.{workLength}
 use Rattle.protocol.specs.Rounds.{roundWords}
 use Rattle.protocol.proofs.Lengths.{words-most}
-use Rattle.rules.specs.Tally.{tallyFits, tapesOf, isFresh, freshCount}
+use Rattle.tally.specs.Tally.{tallyFits, tapesOf, isFresh, freshCount}
 use Rattle.rules.specs.Modes.{inRange, modeOf, isAsleep}
 use Rattle.rules.specs.Grounds.{wakeGround, startGround}
 use Rattle.rules.specs.Answers.{fresh}

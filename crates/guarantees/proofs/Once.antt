@@ -9,12 +9,12 @@ use lib.Dec.{eqb, ltb}
 use lib.ListN.{length}
 use Rattle.lists.proofs.Tests.{and-left, and-right, and-false}
 use Rattle.rules.specs.Answers.{fresh, started, heard, share, refused}
-use Rattle.rules.specs.Tally.{tapesOf, isFresh, marked, cutMarked}
+use Rattle.tally.specs.Tally.{tapesOf, isFresh, marked, cutMarked}
 use Rattle.rules.specs.Grounds.{wakeGround, startGround, speakGround, hearGround, dropGround}
 use Rattle.rules.specs.declared.state.State.{State}
 use Rattle.protocol.specs.Rounds.{lastRound, answerShare}
 use Rattle.rules.specs.Calls.{Result, partyOf, wakeRule, startRule, speakRule, hearRule, dropRule}
-use Rattle.rules.proofs.Marks.{marked-spent, marked-other, cut-other}
+use Rattle.tally.proofs.Marks.{marked-spent, marked-other, cut-other}
 use Rattle.guarantees.specs.Boxes.{Box, box1, box2}
 use Rattle.guarantees.specs.Keys.{Key, keyAt}
 use Rattle.guarantees.specs.Entries.{Lent, Step, wake, start, speak, hear, drop, cut, cutStart, Entry}

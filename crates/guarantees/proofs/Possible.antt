@@ -28,7 +28,7 @@ use Rattle.protocol.specs.Levels.{levelMatch, wrapShare}
 use Rattle.protocol.specs.Rounds.{squareWord, lowProducts, lowSum, levelProducts, wrapProducts, halfShare}
 use Rattle.protocol.specs.Rounds.{halfProduct, lastLeft, lastRight, lastProduct, answerShare, roundWords, message, afterHearing}
 use Rattle.rules.specs.Answers.{share}
-use Rattle.rules.specs.Tally.{tallyFits, tapesOf, isFresh, marked, cutMarked, freshCount}
+use Rattle.tally.specs.Tally.{tallyFits, tapesOf, isFresh, marked, cutMarked, freshCount}
 use Rattle.rules.specs.Modes.{inRange, modeOf, isAsleep}
 use Rattle.rules.specs.Grounds.{wakeGround, startGround, speakGround, hearGround}
 use Rattle.rules.specs.Calls.{wakeRule, startRule, speakRule, hearRule}

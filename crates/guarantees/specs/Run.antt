@@ -8,7 +8,7 @@ use Rattle.lists.specs.Tabulate.{tabulate}
 use Rattle.field.specs.Width.{listed}
 use Rattle.shares.specs.Reading.{delivered}
 use Rattle.rules.specs.Answers.{Reply, fresh, started, spoke, heard, share, dropped, refused}
-use Rattle.rules.specs.Tally.{cutMarked}
+use Rattle.tally.specs.Tally.{cutMarked}
 use Rattle.rules.specs.Modes.{modeOf, inJob, asleepState}
 use Rattle.rules.specs.Grounds.{startGround}
 use Rattle.rules.specs.Calls.{Result, wakeRule, startRule, speakRule, hearRule, dropRule}

@@ -26,7 +26,7 @@ pub fn wake_check(state: State, n: u32, side: u32, tally: &[u8]) -> Check
     let asleep = asleep_check(crate::modes::mode_of(state));
     let width = when(asleep, !field::is_listed(n), Refusal::Width);
     let own = when(width, !shares::is_side(side), Refusal::Side);
-    when(own, !crate::tally::tally_fits(tally.len()), Refusal::Tally)
+    when(own, !tally::tally_fits(tally.len()), Refusal::Tally)
 }
 
 pub fn start_check(

@@ -81,12 +81,12 @@ pub fn job_check(mode: Phase) -> Check
 pub fn mark_check(earlier: Check, number: u32, tally: &[u8]) -> Check
     ensures { λ r. ⌜ groundOf r ≡ thenGround earlier (firstOf (markGrounds number (now (tally .entry)))) ⌝ }
 {
-    if crate::tally::tapes_of(tally.len()) <= number as usize {
+    if tally::tapes_of(tally.len()) <= number as usize {
         return when(earlier, true, Refusal::Number);
     }
     when(
         earlier,
-        !crate::tally::is_fresh(tally, number as usize),
+        !tally::is_fresh(tally, number as usize),
         Refusal::Spent,
     )
 }

@@ -15,10 +15,6 @@ mod checks;
 mod grounds;
 mod modes;
 pub mod numbers;
-mod tally;
-
-// The most bytes that a tally may have.
-pub const LONGEST_TALLY: usize = 2920;
 
 // Counts the fresh tapes, and keeps the width, the side, the pair and the tally's length. The tally is lent for reading only, so it cannot
 // change: the contract's buffer is the tally at entry.

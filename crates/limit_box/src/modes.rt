@@ -27,7 +27,7 @@ fn job_fits(n: u32, tally: u32, turn: Turn, number: u32, x: u32, y: u32) -> bool
     requires { ⌜ listed n ≡ true ⌝ }
     ensures { λ r. ⌜ r ≡ phaseFits n tally (Job turn number x y) ⌝ }
 {
-    if crate::tally::tapes_of(tally as usize) <= number as usize {
+    if tally::tapes_of(tally as usize) <= number as usize {
         return false;
     }
     if !round_fits(round_of(turn)) {
@@ -60,7 +60,7 @@ pub fn mode_of(state: State) -> Phase
     if !shares::is_side(state.side) {
         return Phase::Asleep;
     }
-    if !crate::tally::tally_fits(state.tally as usize) {
+    if !tally::tally_fits(state.tally as usize) {
         return Phase::Asleep;
     }
     let phase = state.phase;

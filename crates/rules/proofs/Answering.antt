@@ -12,7 +12,7 @@ use Rattle.field.specs.Width.{listed, among}
 use Rattle.shares.specs.Side.{isSide}
 use Rattle.refusals.specs.Numbers.{numberOf}
 use Rattle.refusals.specs.Grounds.{Ground, firstOf, numbersOf}
-use Rattle.rules.specs.Tally.{tallyFits, tapesOf, isFresh, marked}
+use Rattle.tally.specs.Tally.{tallyFits, tapesOf, isFresh, marked}
 use Rattle.rules.specs.Modes.{inRange, modeOf, isAsleep, inJob, asleepState}
 use Rattle.rules.specs.Grounds.{wakeGround, startGround, speakGround, hearGround, dropGround}
 use Rattle.rules.specs.Calls.{wakeRule, startRule}
@@ -22,7 +22,7 @@ use Rattle.rules.specs.Answering.{Answering}
 use Rattle.rules.specs.declared.state.Phase.the-variants.{Asleep}
 use Rattle.rules.specs.declared.state.State.{State}
 use Rattle.rules.proofs.Refusals.{call-by-ground, asleep-refuses, awake-refuses}
-use Rattle.rules.proofs.Marks.{marked-spent, marked-length}
+use Rattle.tally.proofs.Marks.{marked-spent, marked-length}
 use Rattle.rules.proofs.Passed.{start-passed}
 use Rattle.rules.proofs.Moves.{woken, started-job, moves, keeps}
 

@@ -1,4 +1,3 @@
-pub mod Marks
 pub mod Decide
 pub mod Ranges
 pub mod Passed

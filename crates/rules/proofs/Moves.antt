@@ -10,7 +10,7 @@ use Rattle.field.specs.Width.{modulus}
 use Rattle.protocol.specs.Rounds.{lastRound}
 use Rattle.refusals.proofs.Chains.{none}
 use Rattle.rules.specs.Answers.{dropped}
-use Rattle.rules.specs.Tally.{tapesOf}
+use Rattle.tally.specs.Tally.{tapesOf}
 use Rattle.rules.specs.Modes.{roundOf, roundFits, inRange, modeOf, isAsleep, inJob}
 use Rattle.rules.specs.Grounds.{wakeGround, startGround, speakGround, hearGround, dropGround, dropGrounds}
 use Rattle.rules.specs.Calls.{Result, inPhase, unless, turned, wakeRule, startRule, speakRule, hearRule, dropRule}

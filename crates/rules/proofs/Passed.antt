@@ -16,7 +16,7 @@ use Rattle.protocol.specs.Work.{workLength}
 use Rattle.protocol.specs.Rounds.{roundWords}
 use Rattle.refusals.specs.Grounds.{firstOf}
 use Rattle.refusals.proofs.Chains.{None, none, both-none, nones}
-use Rattle.rules.specs.Tally.{tallyFits, tapesOf, isFresh}
+use Rattle.tally.specs.Tally.{tallyFits, tapesOf, isFresh}
 use Rattle.rules.specs.Modes.{modeOf, isAsleep, inJob, isDue}
 use Rattle.rules.specs.Grounds.{idleGrounds, jobGrounds, messageFits, roomGrounds, wordGrounds, wordsFit, wakeGrounds, startParts, turnParts, turnGrounds, wakeGround, startGround, speakGround, hearGround}
 use Rattle.rules.specs.Calls.{xOf, yOf}

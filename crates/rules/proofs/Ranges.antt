@@ -8,7 +8,7 @@ use Rattle.lists.proofs.Tests.{and-left, and-right}
 use Rattle.field.specs.Width.{listed, modulus}
 use Rattle.shares.specs.Side.{isSide}
 use Rattle.protocol.specs.Rounds.{lastRound}
-use Rattle.rules.specs.Tally.{tallyFits, tapesOf}
+use Rattle.tally.specs.Tally.{tallyFits, tapesOf}
 use Rattle.rules.specs.Modes.{roundOf, roundFits, phaseFits, inRange, modeOf, isAsleep, isDue, sameTurn}
 use Rattle.rules.specs.Calls.{inPhase, xOf, yOf, turned}
 use Rattle.rules.specs.declared.state.Turn.{Turn}

@@ -8,7 +8,7 @@ use Rattle.field.specs.Width.{listed, among}
 use Rattle.shares.specs.Side.{isSide}
 use Rattle.refusals.specs.Grounds.{firstOf, numbersOf}
 use Rattle.rules.specs.Answers.{refused}
-use Rattle.rules.specs.Tally.{tallyFits}
+use Rattle.tally.specs.Tally.{tallyFits}
 use Rattle.rules.specs.Modes.{inRange, modeOf, isAsleep, inJob, asleepState}
 use Rattle.rules.specs.Calls.{inPhase}
 use Rattle.rules.specs.AnyCall.{Call, wake, groundsOf, groundOf, resultOf, bufferOf, isWake, isRefused, orderOf}

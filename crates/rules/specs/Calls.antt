@@ -8,7 +8,7 @@ use lib.Seq.{sets}
 use Rattle.protocol.specs.Products.{Party, party}
 use Rattle.protocol.specs.Rounds.{lastRound, roundWords, message, afterHearing, answerShare}
 use Rattle.rules.specs.Answers.{Reply, fresh, started, spoke, heard, share, dropped, refused, replyOf}
-use Rattle.rules.specs.Tally.{marked, freshCount}
+use Rattle.tally.specs.Tally.{marked, freshCount}
 use Rattle.rules.specs.Grounds.{wakeGround, startGround, speakGround, hearGround, dropGround}
 use Rattle.rules.specs.declared.state.Turn.{Turn}
 use Rattle.rules.specs.declared.state.Turn.the-variants.{Speak, Hear}

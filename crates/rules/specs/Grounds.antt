@@ -13,7 +13,7 @@ use Rattle.protocol.specs.Work.{workLength}
 use Rattle.protocol.specs.Rounds.{roundWords}
 use Rattle.refusals.specs.Grounds.{Ground, _when_, firstOf, joined}
 use Rattle.refusals.specs.declared.Refusal.the-variants.{Asleep, Width, Side, Tally, Busy, NoJob, Number, Spent, Share, Tape, Turn as NotDue, Room, Word}
-use Rattle.rules.specs.Tally.{tallyFits, tapesOf, isFresh}
+use Rattle.tally.specs.Tally.{tallyFits, tapesOf, isFresh}
 use Rattle.rules.specs.Modes.{modeOf, isAsleep, inJob, isDue}
 use Rattle.rules.specs.declared.state.Turn.{Turn}
 use Rattle.rules.specs.declared.state.Turn.the-variants.{Speak, Hear}

@@ -1,5 +1,4 @@
 pub mod Answers
-pub mod Tally
 pub mod Modes
 pub mod Grounds
 pub mod Calls

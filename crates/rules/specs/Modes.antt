@@ -5,7 +5,7 @@ use lib.Dec.{eqb, leb, ltb}
 use Rattle.field.specs.Width.{listed, modulus}
 use Rattle.shares.specs.Side.{isSide}
 use Rattle.protocol.specs.Rounds.{lastRound}
-use Rattle.rules.specs.Tally.{tallyFits, tapesOf}
+use Rattle.tally.specs.Tally.{tallyFits, tapesOf}
 use Rattle.rules.specs.declared.state.Turn.{Turn}
 use Rattle.rules.specs.declared.state.Turn.the-variants.{Speak, Hear}
 use Rattle.rules.specs.declared.state.Phase.{Phase}

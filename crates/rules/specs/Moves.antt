@@ -6,7 +6,7 @@ use mathlib.Core.List.{List}
 use lib.ListN.{length, getD}
 use Rattle.protocol.specs.Rounds.{lastRound, roundWords}
 use Rattle.rules.specs.Answers.{Reply, fresh, started, spoke, heard, share, dropped}
-use Rattle.rules.specs.Tally.{isFresh, freshCount}
+use Rattle.tally.specs.Tally.{isFresh, freshCount}
 use Rattle.rules.specs.Modes.{modeOf, isAsleep}
 use Rattle.rules.specs.Calls.{Result, startRule}
 use Rattle.rules.specs.AnyCall.{Call, wake, start, speak, hear, drop}

@@ -9,7 +9,7 @@ use Rattle.tape.specs.Layout.{tapeLength}
 use Rattle.protocol.specs.Products.{Party, party}
 use Rattle.protocol.specs.Rounds.{lastRound, message}
 use Rattle.protocol.specs.Exchange.{Both, exchanged, answerOwn, answerOthers}
-use Rattle.rules.specs.Tally.{longestTally}
+use Rattle.tally.specs.Tally.{longestTally}
 use Rattle.exchange.specs.Opening.{refusalOf, begun}
 use Rattle.exchange.specs.Boxes.{works}
 use Rattle.exchange.specs.Memory.{blankWork}

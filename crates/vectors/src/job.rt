@@ -12,7 +12,7 @@ ghost use Rattle.field.specs.Width.{listed};
 ghost use Rattle.shares.specs.Reading.{delivered};
 ghost use Rattle.protocol.specs.Rounds.{lastRound, message};
 ghost use Rattle.rules.specs.Answers.{replyOf};
-ghost use Rattle.rules.specs.Tally.{longestTally};
+ghost use Rattle.tally.specs.Tally.{longestTally};
 ghost use Rattle.rules.specs.Calls.{outcome, partyOf};
 ghost use Rattle.exchange.specs.Opening.{shareOf};
 ghost use Rattle.exchange.specs.Boxes.{heardAfter, works};
@@ -167,10 +167,10 @@ fn on_tapes(
 }
 
 // The tally of a pair of which no tape is used.
-fn unused_tally() -> [u8; limit_box::LONGEST_TALLY]
+fn unused_tally() -> [u8; tally::LONGEST_TALLY]
     ensures { λ r. ⌜ (length r ≡ longestTally) × (r ≡ unusedTally) ⌝ }
 {
-    [255; limit_box::LONGEST_TALLY]
+    [255; tally::LONGEST_TALLY]
 }
 
 // Both boxes come to the job. One that is refused doesn't agree.

@@ -12,7 +12,7 @@ use Rattle.shares.specs.Side.{isSide}
 use Rattle.tape.specs.Plain.{plainTape}
 use Rattle.tape.specs.Order.{inOrder, trailerFits, bodyInRange}
 use Rattle.protocol.specs.Rounds.{roundWords}
-use Rattle.rules.specs.Tally.{tallyFits, tapesOf, isFresh, marked}
+use Rattle.tally.specs.Tally.{tallyFits, tapesOf, isFresh, marked}
 use Rattle.rules.specs.Modes.{inRange, modeOf}
 use Rattle.rules.specs.Grounds.{wakeGround, startGround, speakGround}
 use Rattle.rules.specs.Answers.{replyOf}

@@ -9,7 +9,7 @@ use lib.Dec.{eqb}
 use Rattle.lists.proofs.Tests.{and-false}
 use Rattle.protocol.specs.Rounds.{lastRound, afterHearing, answerShare}
 use Rattle.rules.specs.Answers.{replyOf, started, heard, share}
-use Rattle.rules.specs.Tally.{marked}
+use Rattle.tally.specs.Tally.{marked}
 use Rattle.rules.specs.Grounds.{startGround, hearGround}
 use Rattle.rules.specs.Calls.{Result, inPhase, partyOf, turned, unless, startRule, hearRule}
 use Rattle.rules.proofs.Decide.{decide}

@@ -1,6 +1,6 @@
 -- `limit_box::start` meets its contract: refused by its check, or the mark is written and the job opened.
 use mathlib.Core.Path.{sym}
-use Rattle.rules.specs.Tally.{tapesOf, marked}
+use Rattle.tally.specs.Tally.{tapesOf, marked}
 use Rattle.rules.specs.Calls.{startRule}
 use Rattle.rules.proofs.Passed.{start-passed}
 use Rattle.limit_box.proofs.Outcomes.{refused-outcome, passed-outcome, passed-ground}

@@ -3,9 +3,9 @@ use mathlib.Core.Path.{_≡_, sym}
 use mathlib.Core.Bool.{true}
 use native.Mathlib.Omega.{arith}
 use lib.ListN.{length}
-use Rattle.rules.specs.Tally.{tallyFits}
+use Rattle.tally.specs.Tally.{tallyFits}
 use Rattle.rules.specs.Calls.{wakeRule}
-use Rattle.rules.proofs.Marks.{tally-most}
+use Rattle.tally.proofs.Marks.{tally-most}
 use Rattle.rules.proofs.Passed.{wake-tally}
 use Rattle.limit_box.proofs.Outcomes.{refused-outcome, passed-outcome, passed-ground}
 use borrow.Author.Needs.{needs}

@@ -2,7 +2,7 @@
 use native.Mathlib.Omega.{arith}
 use borrow.Author.Tests.{lt-ltb, le-ltb}
 use lib.ListN.{length}
-use Rattle.rules.specs.Tally.{tapesOf}
+use Rattle.tally.specs.Tally.{tapesOf}
 use borrow.Author.Needs.{needs}
 use Rattle.limit_box.proofs.grounds.mark_check.Statement.{statement}
 use Rattle.limit_box.proofs.grounds.mark_check.Tie as tie

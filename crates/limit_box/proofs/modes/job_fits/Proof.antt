@@ -5,7 +5,7 @@ use native.Mathlib.Omega.{arith}
 use lib.Dec.{ltb}
 use borrow.Author.Needs.{needs}
 use borrow.Author.Tests.{lt-ltb, le-ltb, not-true, not-false}
-use Rattle.rules.specs.Tally.{tapesOf}
+use Rattle.tally.specs.Tally.{tapesOf}
 use Rattle.rules.specs.Modes.{roundOf, roundFits}
 use Rattle.limit_box.proofs.modes.job_fits.Statement.{statement}
 use Rattle.limit_box.proofs.modes.job_fits.Tie as tie

@@ -5,7 +5,7 @@ use borrow.Author.Needs.{needs}
 use borrow.Author.Tests.{not-true, not-false}
 use Rattle.field.specs.Width.{listed}
 use Rattle.shares.specs.Side.{isSide}
-use Rattle.rules.specs.Tally.{tallyFits}
+use Rattle.tally.specs.Tally.{tallyFits}
 use Rattle.rules.specs.Modes.{inRange, modeOf}
 use Rattle.limit_box.proofs.modes.mode_of.Statement.{statement}
 use Rattle.limit_box.proofs.modes.mode_of.Tie as tie

@@ -2,7 +2,7 @@
 use Prim.Native.Nat.{ℕ}
 use mathlib.Core.Path.{refl}
 use lib.ListN.{length-replicate}
-use Rattle.rules.specs.Tally.{longestTally}
+use Rattle.tally.specs.Tally.{longestTally}
 use Rattle.vectors.specs.Job.{unusedTally}
 use Rattle.vectors.proofs.job.unused_tally.Statement.{statement}
 use Rattle.vectors.proofs.job.unused_tally.Tie as tie

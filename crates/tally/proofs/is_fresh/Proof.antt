@@ -1,9 +1,9 @@
--- `limit_box::tally::is_fresh` meets its contract.
+-- `tally::is_fresh` meets its contract.
 use native.Mathlib.Omega.{arith}
 use mathlib.Core.Path.{refl}
-use Rattle.rules.specs.Tally.{tapesOf, isFresh}
-use Rattle.limit_box.proofs.tally.is_fresh.Statement.{statement}
-use Rattle.limit_box.proofs.tally.is_fresh.Tie as tie
+use Rattle.tally.specs.Tally.{tapesOf, isFresh}
+use Rattle.tally.proofs.is_fresh.Statement.{statement}
+use Rattle.tally.proofs.is_fresh.Tie as tie
 
 shared-slice-read-result : tie.Need-shared-slice-read-result
 unfolding tapesOf

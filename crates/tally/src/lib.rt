@@ -3,7 +3,10 @@ ghost use mathlib.Core.Path.{_≡_};
 ghost use mathlib.Core.Bool.{true};
 ghost use Prim.Native.Nat.{_<_};
 ghost use lib.ListN.{length};
-ghost use Rattle.rules.specs.Tally.{tallyFits, tapesOf, isFresh, freshCount};
+ghost use Rattle.tally.specs.Tally.{tallyFits, tapesOf, isFresh, freshCount};
+
+// The most bytes that a tally may have.
+pub const LONGEST_TALLY: usize = 2920;
 
 const FRESH: u8 = 255;
 
@@ -13,7 +16,7 @@ const SPENT: u8 = 0;
 pub fn tally_fits(length: usize) -> bool
     ensures { λ r. ⌜ r ≡ tallyFits length ⌝ }
 {
-    1 <= length && length <= crate::LONGEST_TALLY
+    1 <= length && length <= LONGEST_TALLY
 }
 
 // How many tapes a tally of that length has marks for.

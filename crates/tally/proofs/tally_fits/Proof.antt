@@ -1,10 +1,10 @@
--- `limit_box::tally::tally_fits` meets its contract.
+-- `tally::tally_fits` meets its contract.
 use mathlib.Core.Path.{refl}
 use native.Mathlib.Omega.{arith}
 use borrow.Author.Tests.{le-leb, lt-leb}
-use Rattle.rules.specs.Tally.{tallyFits}
-use Rattle.limit_box.proofs.tally.tally_fits.Statement.{statement}
-use Rattle.limit_box.proofs.tally.tally_fits.Tie as tie
+use Rattle.tally.specs.Tally.{tallyFits}
+use Rattle.tally.proofs.tally_fits.Statement.{statement}
+use Rattle.tally.proofs.tally_fits.Tie as tie
 
 returns : tie.Need-returns
 unfolding tallyFits

@@ -1,4 +1,4 @@
--- `limit_box::tally::fresh_count` meets its contract. The loop's invariant: the count is that of the numbers passed.
+-- `tally::fresh_count` meets its contract. The loop's invariant: the count is that of the numbers passed.
 use Prim.Native.Nat.{ℕ, _-_, _≤_}
 use mathlib.Core.Path.{_≡_, refl, sym, ap, _∙_}
 use mathlib.Core.Logic.{⊎-elim}
@@ -9,10 +9,10 @@ use borrow.Author.Needs.{needs}
 use lib.ListN.{length}
 use Rattle.lists.specs.Tabulate.{sum}
 use Rattle.lists.proofs.Sums.{sum-more}
-use Rattle.rules.specs.Tally.{tapesOf, isFresh, freshCount}
-use Rattle.rules.proofs.Marks.{tally-most, tapes-most}
-use Rattle.limit_box.proofs.tally.fresh_count.Statement.{statement}
-use Rattle.limit_box.proofs.tally.fresh_count.Tie as tie
+use Rattle.tally.specs.Tally.{tapesOf, isFresh, freshCount}
+use Rattle.tally.proofs.Marks.{tally-most, tapes-most}
+use Rattle.tally.proofs.fresh_count.Statement.{statement}
+use Rattle.tally.proofs.fresh_count.Tie as tie
 
 -- 1 for a fresh tape
 abbrev counted : List ℕ → ℕ → ℕ

@@ -10,7 +10,7 @@ use lib.Dec.{eqb, leb}
 use lib.ListN.{length, length-set}
 use lib.Seq.{getD-set-same, getD-set-other}
 use Rattle.lists.proofs.Tests.{and-right}
-use Rattle.rules.specs.Tally.{longestTally, tallyFits, tapesOf, isFresh, marked, cutMarked}
+use Rattle.tally.specs.Tally.{longestTally, tallyFits, tapesOf, isFresh, marked, cutMarked}
 
 -- after a cut the tape is fresh just where the cut left FF
 pub cut-leaves : (tally : List ℕ) (number value : ℕ) → number < tapesOf (length tally)
