@@ -77,18 +77,21 @@ pub fn job_check(mode: Phase) -> Check
     }
 }
 
-// The tape has a mark, and it is fresh.
+// The tape has a mark, it is fresh, and so are those above it.
 pub fn mark_check(earlier: Check, number: u32, tally: &[u8]) -> Check
     ensures { λ r. ⌜ groundOf r ≡ thenGround earlier (firstOf (markGrounds number (now (tally .entry)))) ⌝ }
 {
-    if tally::tapes_of(tally.len()) <= number as usize {
-        return when(earlier, true, Refusal::Number);
+    if let Check::Refused(refusal) = earlier {
+        return Check::Refused(refusal);
     }
-    when(
-        earlier,
-        !tally::is_fresh(tally, number as usize),
-        Refusal::Spent,
-    )
+    let own = number as usize;
+    if tally::tapes_of(tally.len()) <= own {
+        return Check::Refused(Refusal::Number);
+    }
+    if !tally::is_fresh(tally, own) {
+        return Check::Refused(Refusal::Spent);
+    }
+    when(earlier, tally::is_late(tally, own), Refusal::Late)
 }
 
 // Both shares are below p.

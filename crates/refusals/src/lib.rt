@@ -31,6 +31,8 @@ pub enum Refusal {
     Word,
     // 14, seed: the test dealer's alone
     Seed,
+    // 15, late
+    Late,
 }
 
 // What a call's grounds come to: it goes on, or is refused.
@@ -57,5 +59,6 @@ pub fn number_of(r: Refusal) -> u32
         Refusal::Room => 12,
         Refusal::Word => 13,
         Refusal::Seed => 14,
+        Refusal::Late => 15,
     }
 }

@@ -141,6 +141,7 @@ opened s number x y tape work tally z =
       awake = p .awake;
       same-length = p .same-tally;
       was-fresh = p .fresh;
+      not-late = p .in-time;
       is-spent = spends s number x y tape work tally z (p .numbered);
       left-length = keeps-length s number x y tape work tally z;
       others = spends-only s number x y tape work tally z;

@@ -16,7 +16,7 @@ use Rattle.protocol.specs.Work.{workLength}
 use Rattle.protocol.specs.Rounds.{roundWords}
 use Rattle.refusals.specs.Grounds.{firstOf}
 use Rattle.refusals.proofs.Chains.{None, none, both-none, nones}
-use Rattle.tally.specs.Tally.{tallyFits, tapesOf, isFresh}
+use Rattle.tally.specs.Tally.{tallyFits, tapesOf, isFresh, late}
 use Rattle.rules.specs.Modes.{modeOf, isAsleep, inJob, isDue}
 use Rattle.rules.specs.Grounds.{idleGrounds, jobGrounds, messageFits, roomGrounds, wordGrounds, wordsFit, wakeGrounds, startParts, turnParts, turnGrounds, wakeGround, startGround, speakGround, hearGround}
 use Rattle.rules.specs.Calls.{xOf, yOf}
@@ -66,6 +66,7 @@ pub record StartPassed (s : State) (number x y : ℕ) (tape work tally : List �
   pub same-tally : length tally ≡ s .tally
   pub numbered : number < tapesOf (length tally)
   pub fresh : isFresh tally number ≡ true
+  pub in-time : late tally number ≡ false
   pub x-fits : x < modulus (s .n)
   pub y-fits : y < modulus (s .n)
   pub ordered : inOrder (s .n) (s .pair) (s .side) number tape ≡ true
@@ -84,6 +85,7 @@ start-passed s number x y tape work tally e =
       same-tally = eqb-true (length tally) (s .tally) (not-false (eqb (length tally) (s .tally)) (c .1 .0 .0));
       numbered = ltb-true number (tapesOf (length tally)) (not-false (ltb number (tapesOf (length tally))) (mark .0));
       fresh = not-false (isFresh tally number) (mark .1 .0);
+      in-time = mark .1 .1 .0;
       x-fits = ltb-true x (modulus (s .n)) (shares .0);
       y-fits = ltb-true y (modulus (s .n)) (shares .1);
       ordered = not-false (inOrder (s .n) (s .pair) (s .side) number tape) (c .1 .1 .1 .1 .0 .0);

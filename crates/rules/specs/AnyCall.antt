@@ -65,7 +65,7 @@ isRefused (refused k) = true
 -- the grounds that the call has, in document 01's order; there is no other
 abbrev pub orderOf : Call → List ℕ
 orderOf (wake n side pair tally) = 5 ∷ 2 ∷ 3 ∷ 4 ∷ []
-orderOf (start number x y tape work tally) = 1 ∷ 5 ∷ 4 ∷ 7 ∷ 8 ∷ 9 ∷ 10 ∷ 12 ∷ []
+orderOf (start number x y tape work tally) = 1 ∷ 5 ∷ 4 ∷ 7 ∷ 8 ∷ 15 ∷ 9 ∷ 10 ∷ 12 ∷ []
 orderOf (speak number round tape work out) = 1 ∷ 6 ∷ 11 ∷ 10 ∷ 12 ∷ []
 orderOf (hear number round tape work incoming) = 1 ∷ 6 ∷ 11 ∷ 10 ∷ 12 ∷ 13 ∷ []
 orderOf drop = 1 ∷ 6 ∷ []

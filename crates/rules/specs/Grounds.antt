@@ -12,8 +12,8 @@ use Rattle.tape.specs.Order.{inOrder}
 use Rattle.protocol.specs.Work.{workLength}
 use Rattle.protocol.specs.Rounds.{roundWords}
 use Rattle.refusals.specs.Grounds.{Ground, _when_, firstOf, joined}
-use Rattle.refusals.specs.declared.Refusal.the-variants.{Asleep, Width, Side, Tally, Busy, NoJob, Number, Spent, Share, Tape, Turn as NotDue, Room, Word}
-use Rattle.tally.specs.Tally.{tallyFits, tapesOf, isFresh}
+use Rattle.refusals.specs.declared.Refusal.the-variants.{Asleep, Width, Side, Tally, Busy, NoJob, Number, Spent, Late, Share, Tape, Turn as NotDue, Room, Word}
+use Rattle.tally.specs.Tally.{tallyFits, tapesOf, isFresh, late}
 use Rattle.rules.specs.Modes.{modeOf, isAsleep, inJob, isDue}
 use Rattle.rules.specs.declared.state.Turn.{Turn}
 use Rattle.rules.specs.declared.state.Turn.the-variants.{Speak, Hear}
@@ -42,11 +42,12 @@ dueGrounds mode number turn = (NotDue when not (isDue mode number turn)) ∷ []
 abbrev pub tallyGrounds : State → List ℕ → List Ground
 tallyGrounds s tally = (Tally when not (eqb (length tally) (s .tally))) ∷ []
 
--- 7, 8: the tape's mark
+-- 7, 8, 15: the tape's mark, and those above it (document 02, P4)
 abbrev pub markGrounds : ℕ → List ℕ → List Ground
 markGrounds number tally =
     (Number when not (ltb number (tapesOf (length tally))))
     ∷ (Spent when not (isFresh tally number))
+    ∷ (Late when late tally number)
     ∷ []
 
 -- 9: the two shares

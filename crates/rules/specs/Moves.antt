@@ -6,7 +6,7 @@ use mathlib.Core.List.{List}
 use lib.ListN.{length, getD}
 use Rattle.protocol.specs.Rounds.{lastRound, roundWords}
 use Rattle.rules.specs.Answers.{Reply, fresh, started, spoke, heard, share, dropped}
-use Rattle.tally.specs.Tally.{isFresh, freshCount}
+use Rattle.tally.specs.Tally.{isFresh, late, freshCount}
 use Rattle.rules.specs.Modes.{modeOf, isAsleep}
 use Rattle.rules.specs.Calls.{Result, startRule}
 use Rattle.rules.specs.AnyCall.{Call, wake, start, speak, hear, drop}
@@ -28,11 +28,13 @@ pub data Moves (n : ℕ) : Phase → Call → Reply → Phase → Type 0 where
       → Moves n (Job (Hear lastRound) number x y) (hear number lastRound tape work incoming) (share answer) Idle
   drops : {number x y : ℕ} {turn : Turn} → Moves n (Job turn number x y) drop dropped Idle
 
--- a start takes a job: the state is awake, the tape is fresh in a lent tally of the state's length, and the tally that is left differs in its byte alone
+-- a start takes a job: the state is awake, the tape is fresh and not late in a lent tally of the state's length, and the tally that is left
+-- differs in its byte alone
 pub record Opens (s : State) (number x y : ℕ) (lent : List ℕ) (result : Result) : Type 0 where
   pub awake : isAsleep (modeOf s) ≡ false
   pub same-length : length lent ≡ s .tally
   pub was-fresh : isFresh lent number ≡ true
+  pub not-late : late lent number ≡ false
   pub is-spent : isFresh (result .buffer) number ≡ false
   pub left-length : length (result .buffer) ≡ length lent
   pub others : (k : ℕ) → (k ≡ number → ⊥) → getD (result .buffer) k 0 ≡ getD lent k 0

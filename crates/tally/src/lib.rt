@@ -3,7 +3,7 @@ ghost use mathlib.Core.Path.{_≡_};
 ghost use mathlib.Core.Bool.{true};
 ghost use Prim.Native.Nat.{_<_};
 ghost use lib.ListN.{length};
-ghost use Rattle.tally.specs.Tally.{tallyFits, tapesOf, isFresh, freshCount};
+ghost use Rattle.tally.specs.Tally.{tallyFits, tapesOf, isFresh, late, freshCount};
 
 // The most bytes that a tally may have.
 pub const LONGEST_TALLY: usize = 2920;
@@ -31,6 +31,21 @@ pub fn is_fresh(tally: &[u8], number: usize) -> bool
     ensures { λ r. ⌜ r ≡ isFresh (now (tally .entry)) number ⌝ }
 {
     tally[number] == FRESH
+}
+
+// Whether a tape above it is spent: document 02's late (P4). The marks are read from the last one down, to the first that is spent.
+pub fn is_late(tally: &[u8], number: usize) -> bool
+    requires { ⌜ number < tapesOf (length (now tally)) ⌝ }
+    ensures { λ r. ⌜ r ≡ late (now (tally .entry)) number ⌝ }
+{
+    let mut above = tapes_of(tally.len()) - 1;
+    while number < above {
+        if !is_fresh(tally, above) {
+            return true;
+        }
+        above -= 1;
+    }
+    false
 }
 
 // How many tapes are fresh.

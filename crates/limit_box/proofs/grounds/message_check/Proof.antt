@@ -1,5 +1,5 @@
 -- `limit_box::grounds::message_check` meets its contract: room for the turn's message.
-use mathlib.Core.Path.{ap}
+use mathlib.Core.Path.{refl, ap}
 use Rattle.refusals.specs.Checks.{groundOf}
 use borrow.Author.Needs.{needs}
 use Rattle.limit_box.proofs.grounds.message_check.Statement.{statement}
@@ -9,7 +9,7 @@ enum-known-earlier : tie.Need-enum-known-earlier
 enum-known-earlier c = search needs
 
 returns : tie.Need-returns
-returns c = search needs
+returns c = rw (c .before .earlier .given .1) refl
 
 enum-told : tie.Need-enum-told
 enum-told c = search needs

@@ -1,0 +1,71 @@
+-- The laws of late numbers that the calls and the lists go by: a number that is not late has only fresh tapes above it, and spending a tape
+-- makes none less late.
+use Prim.Native.Nat.{ℕ, _<_, _≤_}
+use mathlib.Core.Path.{_≡_, refl, sym, ap, _∙_}
+use mathlib.Core.Bool.{Bool, true, false, not, _||_, true≢false, or-true}
+use mathlib.Core.List.{List}
+use native.Mathlib.Omega.{arith}
+use borrow.Author.Tests.{leb-true, le-leb, lt-leb, ltb-true, ltb-false, lt-ltb, le-ltb, not-false}
+use lib.Dec.{leb, ltb}
+use lib.ListN.{length}
+use Rattle.lists.specs.Every.{every}
+use Rattle.lists.proofs.Every.{every-intro, every-at, every-fails}
+use Rattle.tally.specs.Tally.{tapesOf, isFresh, late}
+use Rattle.tally.specs.Highest.{Highest, LateMeans}
+
+-- at or below the number, or fresh
+abbrev clear : List ℕ → ℕ → ℕ → Bool
+clear tally number k = leb k number || isFresh tally k
+
+-- one spent tape above it is enough
+pub late-by : (tally : List ℕ) (number k : ℕ) → number < k → k < tapesOf (length tally) → isFresh tally k ≡ false → late tally number ≡ true
+unfolding late
+late-by tally number k above within spent =
+    ap not (every-fails (tapesOf (length tally)) (clear tally number) k within (rw (lt-leb k number above, spent) refl))
+
+-- no spent tape above it
+pub not-late : (tally : List ℕ) (number : ℕ) → ((k : ℕ) → number < k → k < tapesOf (length tally) → isFresh tally k ≡ true)
+    → late tally number ≡ false
+unfolding late
+not-late tally number fresh-above = ap not (every-intro (tapesOf (length tally)) (clear tally number) at-each)
+  where
+    at-each : (k : ℕ) → k < tapesOf (length tally) → clear tally number k ≡ true
+    at-each k within = go (ltb number k) refl
+      where
+        go : (t : Bool) → ltb number k ≡ t → clear tally number k ≡ true
+        go true above = rw (fresh-above k (ltb-true number k above) within) (or-true (leb k number))
+        go false below = rw (le-leb k number (ltb-false number k below)) refl
+
+pub above-fresh : (tally : List ℕ) (number : ℕ) → late tally number ≡ false
+    → (k : ℕ) → number < k → k < tapesOf (length tally) → isFresh tally k ≡ true
+above-fresh tally number e k above within = go (isFresh tally k) refl
+  where
+    go : (t : Bool) → isFresh tally k ≡ t → t ≡ true
+    go true fresh = refl
+    go false spent = absurd (true≢false (sym (late-by tally number k above within spent) ∙ e))
+
+-- what is spent is not above it
+pub spent-below : (tally : List ℕ) (number k : ℕ) → late tally number ≡ false → k < tapesOf (length tally) → isFresh tally k ≡ false → k ≤ number
+spent-below tally number k e within spent = go (ltb number k) refl
+  where
+    go : (t : Bool) → ltb number k ≡ t → k ≤ number
+    go true above = absurd (true≢false (sym (above-fresh tally number e k (ltb-true number k above) within) ∙ spent))
+    go false below = ltb-false number k below
+
+-- of two tallies of one length, the one with fewer fresh tapes has no fewer late numbers
+pub late-stays : (before after : List ℕ) (number : ℕ) → length after ≡ length before
+    → ((k : ℕ) → isFresh after k ≡ true → isFresh before k ≡ true) → late after number ≡ false → late before number ≡ false
+late-stays before after number same-length fewer e =
+    not-late before number (λ k above within. fewer k (above-fresh after number e k above (rw same-length within)))
+
+below : (tally : List ℕ) (highest number : ℕ) → Highest tally highest → late tally number ≡ ltb number highest
+below tally highest number h = go (ltb number highest) refl
+  where
+    go : (t : Bool) → ltb number highest ≡ t → late tally number ≡ t
+    go true less = late-by tally number highest (ltb-true number highest less) (h .within) (h .spent)
+    go false most =
+        not-late tally number (λ k above within. h .above k (omega (arith, above, ltb-false number highest most)) within)
+
+pub late-means : LateMeans
+late-means =
+    record { below = below; none-spent = λ tally number all-fresh. not-late tally number (λ k above within. all-fresh k within) }
