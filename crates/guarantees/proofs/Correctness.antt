@@ -28,7 +28,8 @@ use Rattle.guarantees.specs.Outcomes.{kindOf, isOpening}
 use Rattle.guarantees.proofs.Outcomes.{opening-of, share-is}
 use Rattle.guarantees.specs.Correctness.{Happened, Begun, Exchanged, bitFor, Right, Correctness}
 use Rattle.guarantees.specs.Jobs.{blank, sentBy, answerBy}
-use Rattle.guarantees.proofs.Once.{Marked, marked-next, Once, once-next, one-more, next-place, run-grows, found, same-box, same-self}
+use Rattle.guarantees.proofs.Openings.{same-box, same-self, one-more, next-place, run-grows}
+use Rattle.guarantees.proofs.Once.{Marked, marked-next, Once, once-next, found}
 use Rattle.guarantees.proofs.Jobs.{InOrder}
 use Rattle.guarantees.proofs.First.{invariant-first, marked-first, once-first}
 use Rattle.guarantees.proofs.Invariant.{Uttered, Answered, Conforms, Invariant, Booked, invariant-next}
@@ -76,7 +77,7 @@ module _ (g : Setting) (pair : ℕ) (orders : InOrder g pair) (log : List Event)
             invariant-next g (book (g .shares) log) pair orders place w (e .box) (e .step) (r .invariant) (meets .0) (booked es place w (e .box) (e .step) marked at end);
         once = once-next w _ marked (one-more g place w (e .box) (e .step)) (r .once);
       })
-      (marked-next g place w (e .box) (e .step) marked) (next-place g place w (e .box) (e .step) ∙ ap suc at) end (meets .1)
+      (marked-next w _ (one-more g place w (e .box) (e .step)) marked) (next-place g place w (e .box) (e .step) ∙ ap suc at) end (meets .1)
 
 -- ---- the place that was found
 

@@ -3,7 +3,9 @@ pub mod Outcomes
 pub mod Jobs
 pub mod Deliveries
 pub mod Logs
+pub mod Openings
 pub mod Once
+pub mod OnlyUp
 pub mod Invariant
 pub mod LowModes
 pub mod Refusals

@@ -17,9 +17,12 @@ event-before [] e k h = absurd (omega arith)
 event-before (a ∷ log) e zero h = refl
 event-before (a ∷ log) e (suc k) h = event-before log e k (omega arith)
 
+pub event-at : (log : List Event) (e : Event) (more : List Event) → eventAt (log ++ (e ∷ more)) (length log) ≡ e
+event-at [] e more = refl
+event-at (a ∷ log) e more = event-at log e more
+
 pub event-end : (log : List Event) (e : Event) → eventAt (log ++ (e ∷ [])) (length log) ≡ e
-event-end [] e = refl
-event-end (a ∷ log) e = event-end log e
+event-end log e = event-at log e []
 
 pub log-length : (log : List Event) (e : Event) → length (log ++ (e ∷ [])) ≡ suc (length log)
 log-length log e = simp length-append (omega arith)

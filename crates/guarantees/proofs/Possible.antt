@@ -28,7 +28,7 @@ use Rattle.protocol.specs.Levels.{levelMatch, wrapShare}
 use Rattle.protocol.specs.Rounds.{squareWord, lowProducts, lowSum, levelProducts, wrapProducts, halfShare}
 use Rattle.protocol.specs.Rounds.{halfProduct, lastLeft, lastRight, lastProduct, answerShare, roundWords, message, afterHearing}
 use Rattle.rules.specs.Answers.{share}
-use Rattle.tally.specs.Tally.{tallyFits, tapesOf, isFresh, marked, cutMarked, freshCount}
+use Rattle.tally.specs.Tally.{tallyFits, tapesOf, isFresh, late, marked, cutMarked, freshCount}
 use Rattle.rules.specs.Modes.{inRange, modeOf, isAsleep}
 use Rattle.rules.specs.Grounds.{wakeGround, startGround, speakGround, hearGround}
 use Rattle.rules.specs.Calls.{wakeRule, startRule, speakRule, hearRule}
@@ -42,7 +42,7 @@ use Rattle.guarantees.specs.Maps.{sameBox}
 use Rattle.guarantees.specs.Comparison.{Valid, Loose, byBox, worldOf, settingOf}
 use Rattle.guarantees.specs.Possible.{pairNumber, sharesOf, sharesAnew, plainSet, plainCommon, zeros, tape0, lastHears, whole, again}
 use Rattle.guarantees.specs.Possible.{CutInMark, AnswersAt, RightSum, Possible, ZerosRespelled}
-use Rattle.guarantees.proofs.Once.{same-box}
+use Rattle.guarantees.proofs.Openings.{same-box}
 use Rattle.guarantees.proofs.Outcomes.{isMessage, message-of}
 
 -- ---- a computed test of the premises, for lists in which no entry is to be refused
@@ -262,7 +262,7 @@ unfolding modulus listed isSide otherSide constantShare minus read legible deliv
     openLeft openRight openings closed closing bitDifference squareClosing matchCount levelMatch wrapShare
     squareWord lowProducts lowSum levelProducts wrapProducts halfShare halfProduct lastLeft lastRight lastProduct
     answerShare roundWords message afterHearing
-    tallyFits tapesOf isFresh marked cutMarked freshCount inRange modeOf
+    tallyFits tapesOf isFresh late marked cutMarked freshCount inRange modeOf
     wakeGround startGround speakGround hearGround wakeRule startRule speakRule hearRule stepped whole again
 computed box1 = (refl, (refl, refl))
 computed box2 = (refl, (refl, refl))
@@ -302,12 +302,12 @@ unfolding modulus
 right-sum = refl
 
 pub cut-in-mark : CutInMark
-unfolding modulus listed isSide trailerFits bodyInRange inOrder plainTape tallyFits tapesOf isFresh freshCount inRange modeOf
+unfolding modulus listed isSide trailerFits bodyInRange inOrder plainTape tallyFits tapesOf isFresh late freshCount inRange modeOf
     wakeGround startGround wakeRule stepped again
 cut-in-mark = refl
 
 pub zeros-respelled : ZerosRespelled
 unfolding modulus listed isSide otherSide constantShare minus delivered section trailerFits bodyInRange inOrder plainTape
     rangeCode pointCode levelCode complement openLeft openRight openings bitDifference squareWord lowProducts roundWords message
-    tallyFits tapesOf isFresh marked freshCount inRange modeOf wakeGround startGround speakGround wakeRule startRule speakRule stepped whole
+    tallyFits tapesOf isFresh late marked freshCount inRange modeOf wakeGround startGround speakGround wakeRule startRule speakRule stepped whole
 zeros-respelled = (refl, refl)

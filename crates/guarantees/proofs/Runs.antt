@@ -7,7 +7,8 @@ use Rattle.guarantees.specs.Boxes.{Box}
 use Rattle.guarantees.specs.Entries.{Entry}
 use Rattle.guarantees.specs.Run.{Setting, Event, World, stepped, run}
 use Rattle.guarantees.specs.Premises.{Meets, AllCompatible}
-use Rattle.guarantees.proofs.Once.{Marked, marked-next, next-place}
+use Rattle.guarantees.proofs.Openings.{one-more, next-place}
+use Rattle.guarantees.proofs.Once.{Marked, marked-next}
 use Rattle.guarantees.proofs.Books.{bookOf, booked, booked-too}
 use Rattle.guarantees.proofs.Unwinding.{Alike, Related, same-ground, related-next}
 use Rattle.guarantees.proofs.SameGrounds.{compatible-back, keeps-too}
@@ -29,7 +30,7 @@ module _ (b : Box) (g g′ : Setting) (pair : ℕ) (log : List Event) (a : Alike
       (related-next b g g′ pair _ _ a w w′ j place (e .box) (e .step) (meets .0) (compatible .0)
       (booked g log es place w (e .box) marked at (e .step) end)
       (booked-too g log es place w (e .box) marked at g′ w′ (e .step) (j .low) f end))
-      (marked-next g place w (e .box) (e .step) marked)
+      (marked-next w _ (one-more g place w (e .box) (e .step)) marked)
       (next-place g place w (e .box) (e .step) ∙ ap suc at) end (meets .1) (compatible .1) in
       record {
         related = rest .related;

@@ -12,4 +12,5 @@ pub mod Counting
 pub mod AnyTapes
 pub mod Jobs
 pub mod Correctness
+pub mod OnlyUp
 pub mod Possible

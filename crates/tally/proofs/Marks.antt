@@ -1,11 +1,11 @@
 -- The laws of the tally that the calls and the lists go by: a mark is not fresh, a cut leaves a tape fresh only by FF, and a mark or a cut at
 -- one number changes no other's.
 use Prim.Native.Nat.{ℕ, _<_, _≤_}
-use mathlib.Core.Path.{_≡_, refl, ap}
-use mathlib.Core.Bool.{true, false}
+use mathlib.Core.Path.{_≡_, refl, sym, ap, _∙_}
+use mathlib.Core.Bool.{Bool, true, false}
 use mathlib.Core.List.{List}
 use native.Mathlib.Omega.{arith}
-use borrow.Author.Tests.{leb-true}
+use borrow.Author.Tests.{leb-true, eqb-true, eqb-false}
 use lib.Dec.{eqb, leb}
 use lib.ListN.{length, length-set}
 use lib.Seq.{getD-set-same, getD-set-other}
@@ -30,6 +30,15 @@ marked-other tally number k differ = ap (λ (v : ℕ). eqb v 255) (getD-set-othe
 pub cut-other : (tally : List ℕ) (number value k : ℕ) → (k ≡ number → ⊥) → isFresh (cutMarked tally number value) k ≡ isFresh tally k
 unfolding isFresh cutMarked
 cut-other tally number value k differ = ap (λ (v : ℕ). eqb v 255) (getD-set-other tally number k value 0 differ)
+
+-- a tally that differs from another at one number, fresh in that, has no other number fresh
+pub frees-none : (before after : List ℕ) (number : ℕ) → isFresh before number ≡ true
+    → ((k : ℕ) → (k ≡ number → ⊥) → isFresh after k ≡ isFresh before k) → (k : ℕ) → isFresh after k ≡ true → isFresh before k ≡ true
+frees-none before after number was same k f = go (eqb k number) refl
+  where
+    go : (t : Bool) → eqb k number ≡ t → isFresh before k ≡ true
+    go true q = ap (isFresh before) (eqb-true k number q) ∙ was
+    go false q = sym (same k (eqb-false k number q)) ∙ f
 
 pub marked-length : (tally : List ℕ) (number : ℕ) → length (marked tally number) ≡ length tally
 unfolding marked
