@@ -17,7 +17,7 @@ use Rattle.encoding.specs.Matching.{indicator}
 use Rattle.protocol.specs.Work.{workLength}
 use Rattle.protocol.specs.Rounds.{roundWords}
 use Rattle.protocol.proofs.Lengths.{words-most}
-use Rattle.tally.specs.Tally.{tallyFits, tapesOf, isFresh, freshCount}
+use Rattle.tally.specs.Tally.{tallyFits, tapesOf, isFresh, late, freshCount}
 use Rattle.rules.specs.Modes.{inRange, modeOf, isAsleep}
 use Rattle.rules.specs.Grounds.{wakeGround, startGround}
 use Rattle.rules.specs.Answers.{fresh}
@@ -62,7 +62,7 @@ module _ (n side pair x y : ℕ) (tape work : List ℕ) (width : listed n ≡ tr
   -- of all that a start looks at, only the shares can be wrong
   share-test : (a b : Bool) → ltb x (modulus n) ≡ a → ltb y (modulus n) ≡ b
       → refusalOf (startRule idle 0 x y tape work oneFresh .reply) ≡ cond (a && b) 0 9
-  unfolding startRule startGround tapesOf isFresh
+  unfolding startRule startGround tapesOf isFresh late
   share-test true true ea eb = rw (stays-idle, ea, eb, order, enough) refl
   share-test true false ea eb = rw (stays-idle, ea, eb) refl
   share-test false b ea eb = rw (stays-idle, ea) refl

@@ -12,7 +12,7 @@ use Rattle.shares.specs.Side.{isSide}
 use Rattle.tape.specs.Plain.{plainTape}
 use Rattle.tape.specs.Order.{inOrder, trailerFits, bodyInRange}
 use Rattle.protocol.specs.Rounds.{roundWords}
-use Rattle.tally.specs.Tally.{tallyFits, tapesOf, isFresh, marked}
+use Rattle.tally.specs.Tally.{tallyFits, tapesOf, isFresh, late, marked}
 use Rattle.rules.specs.Modes.{inRange, modeOf}
 use Rattle.rules.specs.Grounds.{wakeGround, startGround, speakGround}
 use Rattle.rules.specs.Answers.{replyOf}
@@ -36,7 +36,7 @@ unfolding wakeRule wakeGround modeOf inRange listed isSide tallyFits
 woken-tally = refl
 
 pub opened-four : startRule (idleState 4) 0 5 1 (boxTape 1 0) (tabulate 100 (λ k. 6)) freshTally .state ≡ jobState 4 (Speak 1)
-unfolding startRule startGround modeOf inRange listed isSide tallyFits tapesOf isFresh modulus inOrder trailerFits bodyInRange plainTape
+unfolding startRule startGround modeOf inRange listed isSide tallyFits tapesOf isFresh late modulus inOrder trailerFits bodyInRange plainTape
 opened-four = refl
 
 pub spoken-four : speakRule (jobState 4 (Speak 1)) 0 1 (boxTape 1 0) (tabulate 100 (λ k. 6)) (tabulate 33 (λ k. 6)) .state ≡ jobState 4 (Hear 1)
@@ -44,7 +44,7 @@ unfolding speakRule speakGround modeOf inRange listed isSide tallyFits tapesOf m
 spoken-four = refl
 
 pub marked-four : startRule (idleState 4) 0 5 1 (boxTape 1 0) (tabulate 100 (λ k. 6)) freshTally .buffer ≡ tallyAfter 1
-unfolding startRule startGround modeOf inRange listed isSide tallyFits tapesOf isFresh marked modulus inOrder trailerFits bodyInRange plainTape
+unfolding startRule startGround modeOf inRange listed isSide tallyFits tapesOf isFresh late marked modulus inOrder trailerFits bodyInRange plainTape
 marked-four = refl
 
 -- ---- a call that is its rule

@@ -1,4 +1,4 @@
--- The sweeps: the bytes but FF, the words of a tape's body at width 3, the words of round 1 with an 8 and with a 7 among them.
+-- The sweeps: the bytes but FF, of a tape and of the one above it, the words of a tape's body at width 3, the words of round 1 with an 8 and with a 7 among them.
 use Prim.Native.Nat.{ℕ, _+_}
 use mathlib.Core.Path.{_≡_}
 use mathlib.Core.List.{[], _∷_}
@@ -9,19 +9,21 @@ use Rattle.rules.specs.declared.state.Turn.the-variants.{Hear}
 use Rattle.exchange.specs.Opening.{refusalOf}
 use Rattle.walk.specs.Walk.{idleState, jobState, withSide, boxTape, freshTally, filler, HeardAsZeros}
 use Rattle.walk.specs.declared.sweeps.Sweep.{Sweep}
-use Rattle.walk.specs.declared.sweeps.Sweep.the-variants.{Bytes, Body, Words, Zeros}
+use Rattle.walk.specs.declared.sweeps.Sweep.the-variants.{Bytes, Above, Body, Words, Zeros}
 
 -- how many places each has
 abbrev pub placesOf : Sweep → ℕ
 placesOf Bytes = 255
+placesOf Above = 255
 placesOf Body = 141
 placesOf Words = 33
 placesOf Zeros = 33
 
--- what must come of the call at a place: a start where that byte is tape 0's, a start on a tape with the word 7 there, a hear of zeros
+-- what must come of the call at a place: a start where that byte is tape 0's, one where it is tape 1's, a start on a tape with the word 7 there, a hear of zeros
 -- with an 8 there, and box 2's with a 7 there
 abbrev pub RightAt : Sweep → ℕ → Type 0
 RightAt Bytes place = refusalOf (startRule (idleState 4) 0 5 1 (boxTape 1 0) (tabulate 100 (λ k. 0)) (place ∷ 255 ∷ 255 ∷ 255 ∷ []) .reply) ≡ 8
+RightAt Above place = refusalOf (startRule (idleState 4) 0 5 1 (boxTape 1 0) (tabulate 100 (λ k. 0)) (255 ∷ place ∷ 255 ∷ 255 ∷ []) .reply) ≡ 15
 RightAt Body place = refusalOf (startRule (idleState 4) 0 5 1 (set (boxTape 1 0) place 7) (tabulate 100 (λ k. 0)) freshTally .reply) ≡ 10
 RightAt Words place = refusalOf (hearRule (jobState 4 (Hear 1)) 0 1 (boxTape 1 0) (filler 100) (set (tabulate 33 (λ k. 0)) place 8) .reply) ≡ 13
 RightAt Zeros place = HeardAsZeros (withSide (jobState 4 (Hear 1)) 2) 2 1 (tabulate 100 (λ k. 6)) (set (tabulate 33 (λ k. 0)) place 7)

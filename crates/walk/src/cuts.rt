@@ -42,6 +42,32 @@ fn cut_in_write(value: u8) {
     asleep(states::cut(before), 1, tally);
 }
 
+// A start on each tape.
+fn each_tape(state: State, tally: [u8; 4]) {
+    short(five::start_on(state, 0, tally));
+    short(five::start_on(state, 1, tally));
+    short(five::start_on(state, 2, tally));
+    short(five::start_on(state, 3, tally));
+    text(b"\n");
+}
+
+// In a start on tape 2: the tapes below it are late, unless FF was left.
+fn cut_above(value: u8) {
+    let b = progress::box1_after(0);
+    let before = b.state;
+    let mut tally = b.tally;
+    tally[2] = value;
+    number(
+        b"cut in the write of a start on tape 2, byte ",
+        value as u32,
+    );
+    text(b": wake");
+    let woken = crate::calls::wake(states::cut(before), 3, 1, &tally);
+    short(woken);
+    text(b", a start on each tape");
+    each_tape(woken.state, tally);
+}
+
 fn drop(step: u32) {
     let b = progress::box1_after(step);
     let before = b.state;
@@ -75,4 +101,6 @@ pub fn lines() {
     cut_in_write(0);
     cut_in_write(254);
     cut_in_write(128);
+    cut_above(255);
+    cut_above(127);
 }

@@ -22,16 +22,16 @@ fn wakes() {
     text(b"\n");
 }
 
-// A start with shares, tape and work that are refused, where byte 0 is spent.
+// A start with shares, tape and work that are refused, where tapes 0 and 2 are spent: 0 and 1 are late.
 fn wrong_start(state: State, number: u32) -> Tried
-    ensures { λ r. ⌜ Answered r state (0 ∷ 255 ∷ 255 ∷ 255 ∷ [])
-        (startRule state number 7 7 (boxTape 2 0) (tabulate 99 (λ k. 0)) (0 ∷ 255 ∷ 255 ∷ 255 ∷ [])) ⌝ }
+    ensures { λ r. ⌜ Answered r state (0 ∷ 255 ∷ 0 ∷ 255 ∷ [])
+        (startRule state number 7 7 (boxTape 2 0) (tabulate 99 (λ k. 0)) (0 ∷ 255 ∷ 0 ∷ 255 ∷ [])) ⌝ }
 {
     let work = [0u32; 99];
-    calls::plain_start(state, number, 7, 7, 2, 0, &work, [0, 255, 255, 255])
+    calls::plain_start(state, number, 7, 7, 2, 0, &work, [0, 255, 0, 255])
 }
 
-// The same, where byte 0 is fresh.
+// The same, where all are fresh.
 fn wrong_tapes() {
     let less = [0u32; 99];
     let fresh = [255u8; 4];
@@ -55,6 +55,7 @@ fn starts() {
     short(wrong_start(states::longer(states::idle()), 4));
     short(wrong_start(states::idle(), 4));
     short(wrong_start(states::idle(), 0));
+    short(wrong_start(states::idle(), 1));
     wrong_tapes();
     right_tapes();
     text(b"\n");

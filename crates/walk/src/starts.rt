@@ -1,14 +1,14 @@
-// Start's grounds: 1, 5, 4, 7, 8, 9, 10, 12.
+// Start's grounds: 1, 5, 4, 7, 8, 15, 9, 10, 12.
 use crate::calls::Tried;
 use crate::calls::plain_start;
 use crate::calls::start;
+use crate::five::start_on;
 use crate::say::line;
 use crate::say::number;
 use crate::say::text;
 use crate::states;
 use crate::tapes;
 use rules::state::State;
-ghost use mathlib.Core.List.{[], _∷_};
 ghost use Prim.Native.Nat.{_<_};
 ghost use lib.ListN.{set};
 ghost use Rattle.lists.specs.Tabulate.{tabulate};
@@ -19,7 +19,7 @@ ghost use Rattle.walk.specs.Walk.{idleState, boxTape, freshTally, Answer
 fn on_number(state: State, number: u32) -> Tried
     ensures { λ r. ⌜ Answered r state freshTally (startRule state number 5 1 (boxTape 1 number) (tabulate 100 (λ k. 0)) freshTally) ⌝ }
 {
-    crate::five::start_on(state, number, [255u8; 4])
+    start_on(state, number, [255u8; 4])
 }
 
 fn states_and_numbers() {
@@ -36,20 +36,39 @@ fn states_and_numbers() {
     );
 }
 
-// A start where that byte is tape 0's.
-pub fn on_byte(byte: u8) -> Tried
-    ensures { λ r. ⌜ Answered r (idleState 4) (byte ∷ 255 ∷ 255 ∷ 255 ∷ [])
-        (startRule (idleState 4) 0 5 1 (boxTape 1 0) (tabulate 100 (λ k. 0)) (byte ∷ 255 ∷ 255 ∷ 255 ∷ [])) ⌝ }
+// A start on tape 0 with those marks.
+pub fn on_marks(tally: [u8; 4]) -> Tried
+    ensures { λ r. ⌜ Answered r (idleState 4) tally (startRule (idleState 4) 0 5 1 (boxTape 1 0) (tabulate 100 (λ k. 0)) tally) ⌝ }
 {
-    let work = [0u32; 100];
-    plain_start(states::idle(), 0, 5, 1, 1, 0, &work, [byte, 255, 255, 255])
+    start_on(states::idle(), 0, tally)
 }
 
 // Half-written bytes are spent too.
 fn spent_bytes() {
-    line(b"start, byte 00: ", on_byte(0));
-    line(b"start, byte 7F: ", on_byte(127));
-    line(b"start, byte FE: ", on_byte(254));
+    line(b"start, byte 00: ", on_marks([0, 255, 255, 255]));
+    line(b"start, byte 7F: ", on_marks([127, 255, 255, 255]));
+    line(b"start, byte FE: ", on_marks([254, 255, 255, 255]));
+}
+
+// Around the highest spent number, and far below it.
+fn around_spent() {
+    let spent = [255u8, 255, 0, 255];
+    line(
+        b"start, tape 2 spent, number 1: ",
+        start_on(states::idle(), 1, spent),
+    );
+    line(
+        b"start, tape 2 spent, number 2: ",
+        start_on(states::idle(), 2, spent),
+    );
+    line(
+        b"start, tape 2 spent, number 3: ",
+        start_on(states::idle(), 3, spent),
+    );
+    line(
+        b"start, tape 3 spent, number 0: ",
+        on_marks([255, 255, 255, 0]),
+    );
 }
 
 // A start with those shares, and that work.
@@ -123,6 +142,7 @@ fn mark() {
 pub fn lines() {
     states_and_numbers();
     spent_bytes();
+    around_spent();
     shares_and_room();
     tape_lengths();
     trailers();

@@ -1,10 +1,11 @@
-// Three refusals at every place that can give them: each byte but FF, the word 7 in each place of a tape's body, and the word 8
+// Four refusals at every place that can give them: each byte but FF, for its own tape and for the one below, the word 7 in each place of a tape's body, and the word 8
 // in each place of the words that a hear is lent. There a 7 is heard as 0 at every place: by box 2, whose hear is linear in each
 // word. Box 1 multiplies a word of a product by what it has of the other factor, and of β that is 0.
 use crate::calls::is_refused;
 use crate::hears::changed;
 use crate::hears::of_changed;
 use crate::say::text;
+use crate::starts::on_marks;
 use crate::zeros::as_zeros;
 ghost use mathlib.Core.Path.{_≡_};
 ghost use mathlib.Core.Bool.{true};
@@ -13,6 +14,7 @@ ghost use Rattle.walk.specs.Sweeps.{placesOf, RightAt, Counted};
 
 pub enum Sweep {
     Bytes,
+    Above,
     Body,
     Words,
     Zeros,
@@ -24,6 +26,7 @@ fn places(sweep: Sweep) -> usize
 {
     match sweep {
         Sweep::Bytes => 255,
+        Sweep::Above => 255,
         Sweep::Body => crate::tapes::BODY,
         Sweep::Words => 33,
         Sweep::Zeros => 33,
@@ -36,7 +39,8 @@ fn right_at(sweep: Sweep, place: usize) -> bool
     ensures { λ r. ⌜ (r ≡ true → RightAt sweep place) × (RightAt sweep place → r ≡ true) ⌝ }
 {
     match sweep {
-        Sweep::Bytes => is_refused(crate::starts::on_byte(place as u8), 8),
+        Sweep::Bytes => is_refused(on_marks([place as u8, 255, 255, 255]), 8),
+        Sweep::Above => is_refused(on_marks([255, place as u8, 255, 255]), 15),
         Sweep::Body => is_refused(crate::starts::on_changed(place, 7), 10),
         Sweep::Words => is_refused(of_changed(place, 8), 13),
         Sweep::Zeros => as_zeros(crate::states::box2_hearing(), 2, 1, changed(place, 7)),
@@ -72,6 +76,11 @@ pub fn lines() {
         b"start, a byte that is not FF: ",
         Sweep::Bytes,
         b" refused 8\n",
+    );
+    line(
+        b"start, a byte above that is not FF: ",
+        Sweep::Above,
+        b" refused 15\n",
     );
     line(
         b"start, a body word 7: ",

@@ -1,4 +1,4 @@
--- `walk::sweeps::right_at` meets its contract: a place of the sweep is a byte, a place of the tape, or a place of the words, with an 8 or a 7 there.
+-- `walk::sweeps::right_at` meets its contract: a place of the sweep is a byte, of one tape or of the next, a place of the tape, or a place of the words, with an 8 or a 7 there.
 use native.Mathlib.Omega.{arith}
 use borrow.Author.Needs.{needs}
 use mathlib.Core.List.{[], _∷_}
@@ -14,11 +14,11 @@ use Rattle.walk.proofs.sweeps.right_at.Tie as tie
 enum-told : tie.Need-enum-told
 enum-told c = search needs
 
-cast-on-byte : tie.Need-cast-on-byte
-cast-on-byte c = omega (arith, rw (c .enum-told .given .1) at (c .before .before .pre))
+cast-t5 : tie.Need-cast-t5
+cast-t5 c = omega (arith, rw (c .enum-told .given .1) at (c .before .before .pre))
 
-on-byte-requires : tie.Need-on-byte-requires
-on-byte-requires c κs = search needs
+on-marks-requires : tie.Need-on-marks-requires
+on-marks-requires c κs = search needs
 
 is-refused-requires : tie.Need-is-refused-requires
 is-refused-requires c κs = search needs
@@ -26,8 +26,11 @@ is-refused-requires c κs = search needs
 enum-told-2 : tie.Need-enum-told-2
 enum-told-2 c = search needs
 
-on-changed-requires : tie.Need-on-changed-requires
-on-changed-requires c κs = omega (arith, rw (c .enum-told2 .given .1) at (c .before .before .pre))
+cast-t8 : tie.Need-cast-t8
+cast-t8 c = omega (arith, rw (c .enum-told2 .given .1) at (c .before .before .pre))
+
+on-marks-requires-2 : tie.Need-on-marks-requires-2
+on-marks-requires-2 c κs = search needs
 
 is-refused-requires-2 : tie.Need-is-refused-requires-2
 is-refused-requires-2 c κs = search needs
@@ -35,8 +38,8 @@ is-refused-requires-2 c κs = search needs
 enum-told-3 : tie.Need-enum-told-3
 enum-told-3 c = search needs
 
-of-changed-requires : tie.Need-of-changed-requires
-of-changed-requires c κs = omega (arith, rw (c .enum-told3 .given .1) at (c .before .before .pre))
+on-changed-requires : tie.Need-on-changed-requires
+on-changed-requires c κs = omega (arith, rw (c .enum-told3 .given .1) at (c .before .before .pre))
 
 is-refused-requires-3 : tie.Need-is-refused-requires-3
 is-refused-requires-3 c κs = search needs
@@ -44,11 +47,20 @@ is-refused-requires-3 c κs = search needs
 enum-told-4 : tie.Need-enum-told-4
 enum-told-4 c = search needs
 
+of-changed-requires : tie.Need-of-changed-requires
+of-changed-requires c κs = omega (arith, rw (c .enum-told4 .given .1) at (c .before .before .pre))
+
+is-refused-requires-4 : tie.Need-is-refused-requires-4
+is-refused-requires-4 c κs = search needs
+
+enum-told-5 : tie.Need-enum-told-5
+enum-told-5 c = search needs
+
 box2-hearing-requires : tie.Need-box2-hearing-requires
 box2-hearing-requires c κs = search needs
 
 changed-requires : tie.Need-changed-requires
-changed-requires c κs = omega (arith, rw (c .before .enum-told4 .given .1) at (c .before .before .before .pre))
+changed-requires c κs = omega (arith, rw (c .before .enum-told5 .given .1) at (c .before .before .before .pre))
 
 as-zeros-requires : tie.Need-as-zeros-requires
 as-zeros-requires c κs = search needs
@@ -57,28 +69,35 @@ returns : tie.Need-returns
 returns c =
     let b = c .before in
     let p = b .before .before .before .args .place in
-    let refused = start-refused (idleState 4) 0 5 1 (boxTape 1 0) (tabulate 100 (λ k. 0)) (p ∷ 255 ∷ 255 ∷ 255 ∷ []) 8 (omega arith) (b .on-byte .ensures) in
+    let refused = start-refused (idleState 4) 0 5 1 (boxTape 1 0) (tabulate 100 (λ k. 0)) (p ∷ 255 ∷ 255 ∷ 255 ∷ []) 8 (omega arith) (b .on-marks .ensures) in
     rw (b .before .enum-told .given .1) (tells (c .is-refused .ensures ∙ refused))
 
 returns-2 : tie.Need-returns-2
 returns-2 c =
     let b = c .before in
     let p = b .before .before .before .args .place in
-    let refused = start-refused (idleState 4) 0 5 1 (set (boxTape 1 0) p 7) (tabulate 100 (λ k. 0)) freshTally 10 (omega arith) (b .on-changed .ensures) in
+    let refused = start-refused (idleState 4) 0 5 1 (boxTape 1 0) (tabulate 100 (λ k. 0)) (255 ∷ p ∷ 255 ∷ 255 ∷ []) 15 (omega arith) (b .on-marks2 .ensures) in
     rw (b .before .enum-told2 .given .1) (tells (c .is-refused2 .ensures ∙ refused))
 
 returns-3 : tie.Need-returns-3
 returns-3 c =
     let b = c .before in
     let p = b .before .before .before .args .place in
-    let refused = hear-refused (jobState 4 (Hear 1)) 0 1 (boxTape 1 0) (filler 100) (set (tabulate 33 (λ k. 0)) p 8) 13 (omega arith) (b .of-changed .ensures) in
+    let refused = start-refused (idleState 4) 0 5 1 (set (boxTape 1 0) p 7) (tabulate 100 (λ k. 0)) freshTally 10 (omega arith) (b .on-changed .ensures) in
     rw (b .before .enum-told3 .given .1) (tells (c .is-refused3 .ensures ∙ refused))
 
 returns-4 : tie.Need-returns-4
 returns-4 c =
+    let b = c .before in
+    let p = b .before .before .before .args .place in
+    let refused = hear-refused (jobState 4 (Hear 1)) 0 1 (boxTape 1 0) (filler 100) (set (tabulate 33 (λ k. 0)) p 8) 13 (omega arith) (b .of-changed .ensures) in
+    rw (b .before .enum-told4 .given .1) (tells (c .is-refused4 .ensures ∙ refused))
+
+returns-5 : tie.Need-returns-5
+returns-5 c =
     let w = c .before in
     let h = w .before in
-    rw (h .before .enum-told4 .given .1)
+    rw (h .before .enum-told5 .given .1)
     (rw (h .box2-hearing .ensures .0, h .box2-hearing .ensures .1, w .changed .ensures .1) at (c .as-zeros .ensures))
 
 pub right-at-spec : {M : Type 1} → statement M
@@ -86,20 +105,25 @@ right-at-spec =
     tie.close
     (tie.spec
     enum-told
-    cast-on-byte
-    on-byte-requires
+    cast-t5
+    on-marks-requires
     is-refused-requires
     enum-told-2
-    on-changed-requires
+    cast-t8
+    on-marks-requires-2
     is-refused-requires-2
     enum-told-3
-    of-changed-requires
+    on-changed-requires
     is-refused-requires-3
     enum-told-4
+    of-changed-requires
+    is-refused-requires-4
+    enum-told-5
     box2-hearing-requires
     changed-requires
     as-zeros-requires
     returns
     returns-2
     returns-3
-    returns-4)
+    returns-4
+    returns-5)
