@@ -21,3 +21,11 @@ and-false false e = refl
 pub or-cases : (a b : Bool) → a || b ≡ true → (a ≡ true) ⊎ (b ≡ true)
 or-cases true b e = inl refl
 or-cases false b e = inr e
+
+pub or-either : (a : Bool) {b : Bool} → (a ≡ true) ⊎ (b ≡ true) → a || b ≡ true
+or-either true e = refl
+or-either false (inl e) = absurd (false≢true e)
+or-either false (inr e) = e
+
+pub or-neither : {a b : Bool} → a ≡ false → b ≡ false → a || b ≡ false
+or-neither {a} {b} ha hb = rw (ha, hb) refl

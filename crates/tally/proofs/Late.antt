@@ -2,39 +2,34 @@
 -- makes none less late.
 use Prim.Native.Nat.{ℕ, _<_, _≤_}
 use mathlib.Core.Path.{_≡_, refl, sym, ap, _∙_}
-use mathlib.Core.Bool.{Bool, true, false, not, _||_, true≢false, or-true}
+use mathlib.Core.Bool.{Bool, true, false, not, true≢false}
 use mathlib.Core.List.{List}
+use mathlib.Core.Logic.{_⊎_, inl, inr}
 use native.Mathlib.Omega.{arith}
-use borrow.Author.Tests.{leb-true, le-leb, lt-leb, ltb-true, ltb-false, lt-ltb, le-ltb, not-false}
+use borrow.Author.Tests.{le-leb, lt-leb, ltb-true, ltb-false}
 use lib.Dec.{leb, ltb}
 use lib.ListN.{length}
-use Rattle.lists.specs.Every.{every}
-use Rattle.lists.proofs.Every.{every-intro, every-at, every-fails}
+use Rattle.lists.proofs.Every.{every-intro, every-fails}
+use Rattle.lists.proofs.Tests.{or-either, or-neither}
 use Rattle.tally.specs.Tally.{tapesOf, isFresh, late}
 use Rattle.tally.specs.Highest.{Highest, LateMeans}
-
--- at or below the number, or fresh
-abbrev clear : List ℕ → ℕ → ℕ → Bool
-clear tally number k = leb k number || isFresh tally k
 
 -- one spent tape above it is enough
 pub late-by : (tally : List ℕ) (number k : ℕ) → number < k → k < tapesOf (length tally) → isFresh tally k ≡ false → late tally number ≡ true
 unfolding late
 late-by tally number k above within spent =
-    ap not (every-fails (tapesOf (length tally)) (clear tally number) k within (rw (lt-leb k number above, spent) refl))
+    ap not (every-fails (tapesOf (length tally)) _ k within (or-neither (lt-leb k number above) spent))
 
 -- no spent tape above it
 pub not-late : (tally : List ℕ) (number : ℕ) → ((k : ℕ) → number < k → k < tapesOf (length tally) → isFresh tally k ≡ true)
     → late tally number ≡ false
 unfolding late
-not-late tally number fresh-above = ap not (every-intro (tapesOf (length tally)) (clear tally number) at-each)
+not-late tally number fresh-above =
+    ap not (every-intro (tapesOf (length tally)) _ (λ k within. or-either _ (go k within (ltb number k) refl)))
   where
-    at-each : (k : ℕ) → k < tapesOf (length tally) → clear tally number k ≡ true
-    at-each k within = go (ltb number k) refl
-      where
-        go : (t : Bool) → ltb number k ≡ t → clear tally number k ≡ true
-        go true above = rw (fresh-above k (ltb-true number k above) within) (or-true (leb k number))
-        go false below = rw (le-leb k number (ltb-false number k below)) refl
+    go : (k : ℕ) → k < tapesOf (length tally) → (t : Bool) → ltb number k ≡ t → (leb k number ≡ true) ⊎ (isFresh tally k ≡ true)
+    go k within true above = inr (fresh-above k (ltb-true number k above) within)
+    go k within false below = inl (le-leb k number (ltb-false number k below))
 
 pub above-fresh : (tally : List ℕ) (number : ℕ) → late tally number ≡ false
     → (k : ℕ) → number < k → k < tapesOf (length tally) → isFresh tally k ≡ true

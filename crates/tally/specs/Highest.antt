@@ -2,7 +2,7 @@
 use Prim.Native.Nat.{ℕ, _<_}
 use mathlib.Core.Path.{_≡_}
 use mathlib.Core.Bool.{true, false}
-use mathlib.Core.List.{List}
+use mathlib.Core.List.{List, [], _∷_}
 use lib.Dec.{ltb}
 use lib.ListN.{length}
 use Rattle.tally.specs.Tally.{tapesOf, isFresh, late}
@@ -16,3 +16,9 @@ pub record Highest (tally : List ℕ) (number : ℕ) : Type 0 where
 pub record LateMeans : Type 0 where
   pub below : (tally : List ℕ) (highest number : ℕ) → Highest tally highest → late tally number ≡ ltb number highest
   pub none-spent : (tally : List ℕ) (number : ℕ) → ((k : ℕ) → k < tapesOf (length tally) → isFresh tally k ≡ true) → late tally number ≡ false
+
+-- three tapes with a half-written mark, 7F, in the middle: the number below it is late, its own and the one above it are not
+pub record Around : Type 0 where
+  pub just-below : late (255 ∷ 127 ∷ 255 ∷ []) 0 ≡ true
+  pub at-it : late (255 ∷ 127 ∷ 255 ∷ []) 1 ≡ false
+  pub just-above : late (255 ∷ 127 ∷ 255 ∷ []) 2 ≡ false
