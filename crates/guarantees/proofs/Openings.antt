@@ -11,9 +11,11 @@ use Rattle.lists.proofs.Tests.{and-left, and-right, and-false}
 use Rattle.tally.specs.Tally.{tapesOf, isFresh, late, marked, cutMarked}
 use Rattle.tally.proofs.Marks.{marked-spent, marked-other, marked-length, cut-other, cut-length, frees-none}
 use Rattle.protocol.specs.Rounds.{lastRound, answerShare}
-use Rattle.rules.specs.Answers.{heard, share}
+use Rattle.rules.specs.Answers.{started, heard, share}
 use Rattle.rules.specs.Grounds.{wakeGround, startGround, speakGround, hearGround, dropGround}
-use Rattle.rules.specs.Calls.{Result, partyOf, wakeRule, startRule, speakRule, hearRule, dropRule}
+use Rattle.rules.specs.Calls.{Result, inPhase, partyOf, wakeRule, startRule, speakRule, hearRule, dropRule}
+use Rattle.rules.specs.declared.state.Turn.the-variants.{Speak}
+use Rattle.rules.specs.declared.state.Phase.the-variants.{Job}
 use Rattle.rules.specs.declared.state.State.{State}
 use Rattle.rules.proofs.Decide.{decide}
 use Rattle.rules.proofs.Passed.{start-passed}
@@ -105,10 +107,11 @@ at-each w box1 m e P here there box2 = there box2 refl
 at-each w box2 m e P here there box1 = there box1 refl
 at-each w box2 m e P here there box2 = here
 
-more : (w : World) (b : Box) (m : Memory) (e : Event) → e .box ≡ b → length (m .tally) ≡ length (memoryOf w b .tally)
+more : (w : World) (b : Box) (m : Memory) (e : Event) → e .box ≡ b
+    → ((number : ℕ) → Opening b number e → Taken (memoryOf w b .tally) (m .tally) number)
     → ((number : ℕ) → isFresh (m .tally) number ≡ true → isFresh (memoryOf w b .tally) number ≡ true)
-    → ((number : ℕ) → Opening b number e → Taken (memoryOf w b .tally) (m .tally) number) → OneMore w (after w b m e)
-more w b m e at long frees taken =
+    → length (m .tally) ≡ length (memoryOf w b .tally) → OneMore w (after w b m e)
+more w b m e at taken frees long =
     record {
       event = e;
       is = after-log w b m e;
@@ -124,14 +127,14 @@ more w b m e at long frees taken =
 
 -- an entry that opens nothing
 dull : (w : World) (b : Box) (m : Memory) (e : Event) → e .box ≡ b → isOpening (kindOf (e .said)) ≡ false
-    → length (m .tally) ≡ length (memoryOf w b .tally)
-    → ((number : ℕ) → isFresh (m .tally) number ≡ true → isFresh (memoryOf w b .tally) number ≡ true) → OneMore w (after w b m e)
-dull w b m e at none long frees = more w b m e at long frees (λ number o. absurd (false≢true (sym none ∙ o .told)))
+    → ((number : ℕ) → isFresh (m .tally) number ≡ true → isFresh (memoryOf w b .tally) number ≡ true)
+    → length (m .tally) ≡ length (memoryOf w b .tally) → OneMore w (after w b m e)
+dull w b m e at none frees long = more w b m e at (λ number o. absurd (false≢true (sym none ∙ o .told))) frees long
 
 -- so of one that leaves the tally as it was
 same-tally : (w : World) (b : Box) (m : Memory) (e : Event) → e .box ≡ b → isOpening (kindOf (e .said)) ≡ false → m .tally ≡ memoryOf w b .tally
     → OneMore w (after w b m e)
-same-tally w b m e at none same = dull w b m e at none (ap length same) (λ number f. ap (λ (t : List ℕ). isFresh t number) (sym same) ∙ f)
+same-tally w b m e at none same = dull w b m e at none (λ number f. ap (λ (t : List ℕ). isFresh t number) (sym same) ∙ f) (ap length same)
 
 -- a start marks the number that it opens
 start-more : (w : World) (b : Box) (number x y : ℕ) (tape : List ℕ)
@@ -144,6 +147,8 @@ unfolding startRule
 start-more w b number x y tape =
     let m = memoryOf w b in
     let tally = m .tally in
+    let opened : Result =
+    record { reply = started; state = inPhase (m .state) (Job (Speak 1) number x y); buffer = marked tally number } in
     decide
     (λ r.
     OneMore w
@@ -152,10 +157,11 @@ start-more w b number x y tape =
     (startGround (m .state) number x y tape (m .work) tally) (m .state) tally _
     (λ ground.
     let p = start-passed (m .state) number x y tape (m .work) tally ground in
-    more w b _ _ refl (marked-length tally number) (frees-none tally (marked tally number) number (p .fresh) (marked-other tally number))
+    more w b (afterStart m opened) _ refl
     (λ k o.
     rw (o .number-is)
-    (record { within = p .numbered; fresh = p .fresh; in-time = p .in-time; spent = marked-spent tally number (p .numbered) })))
+    (record { within = p .numbered; fresh = p .fresh; in-time = p .in-time; spent = marked-spent tally number (p .numbered) }))
+    (frees-none tally (marked tally number) number (p .fresh) (marked-other tally number)) (marked-length tally number))
     (same-tally w b _ _ refl refl refl)
 
 -- a cut in a start's mark: the tally stays, or the mark's number was fresh
@@ -170,10 +176,11 @@ cut-more w b m e ground number value at none was left = go (eqb ground 0) refl l
     go : (t : Bool) → eqb ground 0 ≡ t → m .tally ≡ cond t (cutMarked tally number value) tally → OneMore w (after w b m e)
     go false q same = same-tally w b m e at none same
     go true q written =
-        dull w b m e at none (ap length written ∙ cut-length tally number value)
+        dull w b m e at none
         (λ k f.
         frees-none tally (cutMarked tally number value) number (was (eqb-true ground 0 q)) (cut-other tally number value) k
         (ap (λ (t : List ℕ). isFresh t k) (sym written) ∙ f))
+        (ap length written ∙ cut-length tally number value)
 
 pub one-more : (g : Setting) (place : ℕ) (w : World) (b : Box) (step : Step) → OneMore w (stepped g place w b step)
 unfolding stepped
