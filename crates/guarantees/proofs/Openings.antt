@@ -22,7 +22,7 @@ use Rattle.rules.proofs.Passed.{start-passed}
 use Rattle.guarantees.specs.Boxes.{Box, box1, box2}
 use Rattle.guarantees.specs.Keys.{keyAt}
 use Rattle.guarantees.specs.Entries.{Lent, Step, wake, start, speak, hear, drop, cut, cutStart, Entry}
-use Rattle.guarantees.specs.Run.{Setting, Memory, replied, Event, World, memoryOf, after, afterStart, tapeWords, incomingWords, stepped, run}
+use Rattle.guarantees.specs.Run.{Setting, Memory, replied, Event, World, memoryOf, after, afterStart, afterCut, tapeWords, incomingWords, stepped, run}
 use Rattle.guarantees.specs.Maps.{sameBox, opens}
 use Rattle.guarantees.specs.Outcomes.{kindOf, isOpening}
 use Rattle.guarantees.proofs.Outcomes.{cut-plain}
@@ -193,7 +193,9 @@ one-more g place w b (hear number round lent incoming) =
     same-tally w b _ _ refl
     (hear-opens (m .state) number round (tapeWords g lent) (m .work) (incomingWords g place (m .state) (w .log) incoming)) refl
 one-more g place w b drop = same-tally w b _ _ refl (drop-opens (memoryOf w b .state)) refl
-one-more g place w b (cut room) = same-tally w b _ _ refl (ap isOpening (cut-plain (memoryOf w b .state))) refl
+one-more g place w b (cut room) =
+    let m = memoryOf w b in
+    same-tally w b (afterCut g place room m (m .tally)) _ refl (ap isOpening (cut-plain (m .state))) refl
 one-more g place w b (cutStart number lent value room) =
     let m = memoryOf w b in
     let x = g .shares b place .x in
