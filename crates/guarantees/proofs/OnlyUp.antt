@@ -7,10 +7,9 @@ use mathlib.Core.Logic.{_⊎_, inl, inr, ⊎-elim}
 use native.Mathlib.Nat.{eq-or-lt-of-le}
 use native.Mathlib.Omega.{arith}
 use borrow.Author.Tests.{eq-eqb}
-use lib.Dec.{eqb}
 use lib.ListN.{length}
 use Rattle.lists.proofs.Tests.{and-both}
-use Rattle.tally.specs.Tally.{tapesOf, isFresh}
+use Rattle.tally.specs.Tally.{isFresh}
 use Rattle.tally.proofs.Late.{spent-below}
 use Rattle.rules.specs.Answers.{started}
 use Rattle.guarantees.specs.Boxes.{Box}
@@ -20,7 +19,7 @@ use Rattle.guarantees.specs.Run.{Setting, replied, Event, World, memoryO
 use Rattle.guarantees.specs.Maps.{sameBox, opens}
 use Rattle.guarantees.specs.Outcomes.{kindOf, isOpening}
 use Rattle.guarantees.specs.Correctness.{Happened}
-use Rattle.guarantees.specs.OnlyUp.{Rising, SpentAt, OnlyUp}
+use Rattle.guarantees.specs.OnlyUp.{SpentAt, OnlyUp}
 use Rattle.guarantees.proofs.Logs.{event-at}
 use Rattle.guarantees.proofs.Openings.{same-self, Taken, OneMore, one-more, next-place, run-grows}
 

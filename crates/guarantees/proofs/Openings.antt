@@ -7,7 +7,7 @@ use mathlib.Core.List.{List, [], _∷_, _++_, append-assoc, append-nil}
 use borrow.Author.Tests.{eqb-true}
 use lib.Dec.{eqb}
 use lib.ListN.{length}
-use Rattle.lists.proofs.Tests.{and-left, and-right, and-false}
+use Rattle.lists.proofs.Tests.{and-left, and-right}
 use Rattle.tally.specs.Tally.{tapesOf, isFresh, late, marked, cutMarked}
 use Rattle.tally.proofs.Marks.{marked-spent, marked-other, marked-length, cut-other, cut-length, frees-none}
 use Rattle.protocol.specs.Rounds.{lastRound, answerShare}
@@ -21,7 +21,7 @@ use Rattle.rules.proofs.Decide.{decide}
 use Rattle.rules.proofs.Passed.{start-passed}
 use Rattle.guarantees.specs.Boxes.{Box, box1, box2}
 use Rattle.guarantees.specs.Keys.{keyAt}
-use Rattle.guarantees.specs.Entries.{Lent, Step, wake, start, speak, hear, drop, cut, cutStart, Entry}
+use Rattle.guarantees.specs.Entries.{Step, wake, start, speak, hear, drop, cut, cutStart, Entry}
 use Rattle.guarantees.specs.Run.{Setting, Memory, replied, Event, World, memoryOf, after, afterStart, afterCut, tapeWords, incomingWords, stepped, run}
 use Rattle.guarantees.specs.Maps.{sameBox, opens}
 use Rattle.guarantees.specs.Outcomes.{kindOf, isOpening}

@@ -30,8 +30,8 @@ use Rattle.protocol.specs.Rounds.{halfProduct, lastLeft, lastRight, lastProduct
 use Rattle.rules.specs.Answers.{share}
 use Rattle.tally.specs.Tally.{tallyFits, tapesOf, isFresh, late, marked, cutMarked, freshCount}
 use Rattle.rules.specs.Modes.{inRange, modeOf, isAsleep}
-use Rattle.rules.specs.Grounds.{wakeGround, startGround, speakGround, hearGround}
-use Rattle.rules.specs.Calls.{wakeRule, startRule, speakRule, hearRule}
+use Rattle.rules.specs.Grounds.{wakeGround, startGround, speakGround, hearGround, dropGround}
+use Rattle.rules.specs.Calls.{wakeRule, startRule, speakRule, hearRule, dropRule}
 use Rattle.guarantees.specs.Boxes.{Box, box1, box2, otherBox}
 use Rattle.guarantees.specs.Keys.{Key, keyAt}
 use Rattle.guarantees.specs.Outcomes.{kindOf}
@@ -40,8 +40,8 @@ use Rattle.guarantees.specs.Run.{Lending, Setting, Memory, Said, replied
 use Rattle.guarantees.specs.Premises.{TrueMessage, Keeps, Meets, AtFirst, InBoth, Compatible, AllCompatible}
 use Rattle.guarantees.specs.Maps.{sameBox}
 use Rattle.guarantees.specs.Comparison.{Valid, Loose, byBox, worldOf, settingOf}
-use Rattle.guarantees.specs.Possible.{pairNumber, sharesOf, sharesAnew, plainSet, plainCommon, zeros, tape0, lastHears, whole, again}
-use Rattle.guarantees.specs.Possible.{CutInMark, AnswersAt, RightSum, Possible, ZerosRespelled}
+use Rattle.guarantees.specs.Possible.{pairNumber, sharesOf, sharesAnew, plainSet, plainCommon, zeros, tape0, lastHears, whole, again, startsTwice}
+use Rattle.guarantees.specs.Possible.{CutInMark, AnswersAt, RightSum, Possible, ZerosRespelled, UpAndDown}
 use Rattle.guarantees.proofs.Openings.{same-box}
 use Rattle.guarantees.proofs.Outcomes.{isMessage, message-of}
 
@@ -311,3 +311,8 @@ unfolding modulus listed isSide otherSide constantShare minus delivered section 
     rangeCode pointCode levelCode complement openLeft openRight openings bitDifference squareWord lowProducts roundWords message
     tallyFits tapesOf isFresh late marked freshCount inRange modeOf wakeGround startGround speakGround wakeRule startRule speakRule stepped whole
 zeros-respelled = (refl, refl)
+
+pub up-and-down : UpAndDown
+unfolding modulus listed isSide trailerFits bodyInRange inOrder plainTape tallyFits tapesOf isFresh late marked freshCount inRange modeOf
+    wakeGround startGround dropGround wakeRule startRule dropRule stepped startsTwice
+up-and-down = record { up = refl; down = refl }

@@ -1,5 +1,5 @@
 -- The premises of demand 3 are not empty: two lists at width 3 that meet them, on the plain tapes, in which both boxes answer; one of them also
--- with a board that spells every zero as p.
+-- with a board that spells every zero as p. Nor is the law for the depots: two lists in which box 1 starts twice, upwards and downwards.
 use Prim.Native.Nat.{ℕ, zero, suc, _+_, _*_, _%_}
 use mathlib.Core.Path.{_≡_}
 use mathlib.Core.Bool.{Bool, true, false}
@@ -11,13 +11,13 @@ use Rattle.tape.specs.Plain.{plainTape}
 use Rattle.encoding.specs.Matching.{indicator}
 use Rattle.protocol.specs.Work.{workLength}
 use Rattle.protocol.specs.Rounds.{earlierRounds, lastRound, roundWords}
-use Rattle.rules.specs.Answers.{share}
+use Rattle.rules.specs.Answers.{started, share, refused}
 use Rattle.rules.specs.Grounds.{startGround}
 use Rattle.rules.specs.declared.state.Phase.the-variants.{Asleep}
 use Rattle.guarantees.specs.Boxes.{Box, box1, box2, sideOf, otherBox}
 use Rattle.guarantees.specs.Keys.{Key, jobKey}
-use Rattle.guarantees.specs.Entries.{dealt, spokenAt, Step, wake, start, speak, hear, cutStart, Entry}
-use Rattle.guarantees.specs.Run.{Lending, replied, Event, eventAt, tapeWords, run}
+use Rattle.guarantees.specs.Entries.{dealt, spokenAt, Step, wake, start, speak, hear, drop, cutStart, Entry}
+use Rattle.guarantees.specs.Run.{Lending, Said, replied, Event, eventAt, tapeWords, run}
 use Rattle.guarantees.specs.Comparison.{TapeSet, Valid, Common, Loose, worldOf, settingOf, events, Premises}
 
 abbrev pub pairNumber : ℕ
@@ -126,3 +126,23 @@ abbrev pub ZerosRespelled : Type 0
 ZerosRespelled =
     let log = events (plainCommon whole box1) box1 (plainSet box1) (sharesOf box1) (zeros true) in
     (getD (eventAt log 6 .incoming) 27 0 ≡ 7) × (getD (eventAt log 7 .incoming) 28 0 ≡ 7)
+
+-- box 1 opens a job, drops it and starts another
+unfoldable pub startsTwice : ℕ → ℕ → List Entry
+startsTwice first second =
+    wakes box1
+    ∷ (box1 does start first (dealt box1 first 3))
+    ∷ (box1 does drop)
+    ∷ (box1 does start second (dealt box1 second 3))
+    ∷ []
+
+-- what its two starts come to: the events 1 and 3
+abbrev pub saidTwice : ℕ → ℕ → Said × Said
+saidTwice first second =
+    let log = events (plainCommon (startsTwice first second) box1) box1 (plainSet box1) (sharesOf box1) (zeros false) in
+    (eventAt log 1 .said, eventAt log 3 .said)
+
+-- upwards both jobs are opened; downwards the second number is late
+pub record UpAndDown : Type 0 where
+  pub up : saidTwice 0 1 ≡ (replied started, replied started)
+  pub down : saidTwice 1 0 ≡ (replied started, replied (refused 15))

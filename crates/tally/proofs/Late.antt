@@ -1,5 +1,4 @@
--- The laws of late numbers that the calls and the lists go by: a number that is not late has only fresh tapes above it, and spending a tape
--- makes none less late.
+-- The laws of late numbers that the calls and the lists go by: a number is late just where a tape above it is spent.
 use Prim.Native.Nat.{ℕ, _<_, _≤_}
 use mathlib.Core.Path.{_≡_, refl, sym, ap, _∙_}
 use mathlib.Core.Bool.{Bool, true, false, not, true≢false}
@@ -31,27 +30,13 @@ not-late tally number fresh-above =
     go k within true above = inr (fresh-above k (ltb-true number k above) within)
     go k within false below = inl (le-leb k number (ltb-false number k below))
 
-pub above-fresh : (tally : List ℕ) (number : ℕ) → late tally number ≡ false
-    → (k : ℕ) → number < k → k < tapesOf (length tally) → isFresh tally k ≡ true
-above-fresh tally number e k above within = go (isFresh tally k) refl
-  where
-    go : (t : Bool) → isFresh tally k ≡ t → t ≡ true
-    go true fresh = refl
-    go false spent = absurd (true≢false (sym (late-by tally number k above within spent) ∙ e))
-
 -- what is spent is not above it
 pub spent-below : (tally : List ℕ) (number k : ℕ) → late tally number ≡ false → k < tapesOf (length tally) → isFresh tally k ≡ false → k ≤ number
 spent-below tally number k e within spent = go (ltb number k) refl
   where
     go : (t : Bool) → ltb number k ≡ t → k ≤ number
-    go true above = absurd (true≢false (sym (above-fresh tally number e k (ltb-true number k above) within) ∙ spent))
+    go true above = absurd (true≢false (sym (late-by tally number k (ltb-true number k above) within spent) ∙ e))
     go false below = ltb-false number k below
-
--- of two tallies of one length, the one with fewer fresh tapes has no fewer late numbers
-pub late-stays : (before after : List ℕ) (number : ℕ) → length after ≡ length before
-    → ((k : ℕ) → isFresh after k ≡ true → isFresh before k ≡ true) → late after number ≡ false → late before number ≡ false
-late-stays before after number same-length fewer e =
-    not-late before number (λ k above within. fewer k (above-fresh after number e k above (rw same-length within)))
 
 below : (tally : List ℕ) (highest number : ℕ) → Highest tally highest → late tally number ≡ ltb number highest
 below tally highest number h = go (ltb number highest) refl
