@@ -1,5 +1,5 @@
--- The laws of the tally that the calls and the lists go by: a mark is not fresh, a cut leaves a tape fresh only by FF, and a mark or a cut at
--- one number changes no other's.
+-- The laws of the tally that the calls and the lists go by: a mark is not fresh, a cut leaves a tape fresh only by FF, a mark or a cut at
+-- one number changes no other's, and frees none.
 use Prim.Native.Nat.{ℕ, _<_, _≤_}
 use mathlib.Core.Path.{_≡_, refl, sym, ap, _∙_}
 use mathlib.Core.Bool.{Bool, true, false}
@@ -31,7 +31,7 @@ pub cut-other : (tally : List ℕ) (number value k : ℕ) → (k ≡ number → 
 unfolding isFresh cutMarked
 cut-other tally number value k differ = ap (λ (v : ℕ). eqb v 255) (getD-set-other tally number k value 0 differ)
 
--- a tally that differs from another at one number, fresh in that, has no other number fresh
+-- where a tally is changed at one number, and that was fresh, no number becomes fresh
 pub frees-none : (before after : List ℕ) (number : ℕ) → isFresh before number ≡ true
     → ((k : ℕ) → (k ≡ number → ⊥) → isFresh after k ≡ isFresh before k) → (k : ℕ) → isFresh after k ≡ true → isFresh before k ≡ true
 frees-none before after number was same k f = go (eqb k number) refl
