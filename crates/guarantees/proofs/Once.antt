@@ -55,7 +55,7 @@ marked-next w w′ one h = record { unopened = go }
     go : (b : Box) (number : ℕ) → isFresh (memoryOf w′ b .tally) number ≡ true → Unopened (w′ .log) b number
     go b number f =
         subst (λ (l : List Event). Unopened l b number) (sym (one .is))
-        (unopened-more (w .log) (one .event) b number (h .unopened b number (one .frees b number f)) (unopens b number f (opens b number (one .event)) refl))
+        (unopened-more (w .log) (one .event) b number (h .unopened b number (one .was-fresh b number f)) (unopens b number f (opens b number (one .event)) refl))
 
 started-said : (s : State) (number x y : ℕ) (tape work tally : List ℕ) → startGround s number x y tape work tally ≡ 0
     → startRule s number x y tape work tally .reply ≡ started

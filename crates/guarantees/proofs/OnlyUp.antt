@@ -30,7 +30,7 @@ spent-next w w′ one b number s =
     record { within = rw (one .same-length b) (s .within); spent = go (isFresh (memoryOf w′ b .tally) number) refl }
   where
     go : (t : Bool) → isFresh (memoryOf w′ b .tally) number ≡ t → t ≡ false
-    go true f = absurd (true≢false (sym (one .frees b number f) ∙ s .spent))
+    go true f = absurd (true≢false (sym (one .was-fresh b number f) ∙ s .spent))
     go false f = refl
 
 -- what is taken is spent from then on

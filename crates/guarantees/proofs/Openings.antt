@@ -69,12 +69,12 @@ same-self box1 = refl
 same-self box2 = refl
 
 -- an event that opens a job is of that box and number, and says so
-pub record Opening (b : Box) (number : ℕ) (e : Event) : Type 0 where
-  pub box : b ≡ e .box
-  pub number-is : number ≡ e .key .number
-  pub told : isOpening (kindOf (e .said)) ≡ true
+record Opening (b : Box) (number : ℕ) (e : Event) : Type 0 where
+  box : b ≡ e .box
+  number-is : number ≡ e .key .number
+  told : isOpening (kindOf (e .said)) ≡ true
 
-pub opening : (b : Box) (number : ℕ) (e : Event) → opens b number e ≡ true → Opening b number e
+opening : (b : Box) (number : ℕ) (e : Event) → opens b number e ≡ true → Opening b number e
 opening b number e h =
     let both = and-left (sameBox b (e .box) && eqb number (e .key .number)) (isOpening (kindOf (e .said))) h in
     record {
@@ -92,11 +92,12 @@ pub record Taken (before after : List ℕ) (number : ℕ) : Type 0 where
   pub in-time : late before number ≡ false
   pub spent : isFresh after number ≡ false
 
+-- one event more; at both boxes the tally is as long as it was, what is fresh was fresh, and what the event opens is taken
 pub record OneMore (w w′ : World) : Type 0 where
   pub event : Event
   pub is : w′ .log ≡ w .log ++ (event ∷ [])
   pub same-length : (c : Box) → length (memoryOf w′ c .tally) ≡ length (memoryOf w c .tally)
-  pub frees : (c : Box) (number : ℕ) → isFresh (memoryOf w′ c .tally) number ≡ true → isFresh (memoryOf w c .tally) number ≡ true
+  pub was-fresh : (c : Box) (number : ℕ) → isFresh (memoryOf w′ c .tally) number ≡ true → isFresh (memoryOf w c .tally) number ≡ true
   pub taken : (c : Box) (number : ℕ) → opens c number event ≡ true → Taken (memoryOf w c .tally) (memoryOf w′ c .tally) number
 
 -- the entry's own box goes on, the other box's memory stays
@@ -111,13 +112,13 @@ more : (w : World) (b : Box) (m : Memory) (e : Event) → e .box ≡ b
     → ((number : ℕ) → Opening b number e → Taken (memoryOf w b .tally) (m .tally) number)
     → ((number : ℕ) → isFresh (m .tally) number ≡ true → isFresh (memoryOf w b .tally) number ≡ true)
     → length (m .tally) ≡ length (memoryOf w b .tally) → OneMore w (after w b m e)
-more w b m e at taken frees long =
+more w b m e at taken was-fresh long =
     record {
       event = e;
       is = after-log w b m e;
       same-length = at-each w b m e (λ c before now. length (now .tally) ≡ length (before .tally)) long (λ c other. refl);
-      frees =
-          at-each w b m e (λ c before now. (number : ℕ) → isFresh (now .tally) number ≡ true → isFresh (before .tally) number ≡ true) frees
+      was-fresh =
+          at-each w b m e (λ c before now. (number : ℕ) → isFresh (now .tally) number ≡ true → isFresh (before .tally) number ≡ true) was-fresh
           (λ c other number f. f);
       taken =
           at-each w b m e (λ c before now. (number : ℕ) → opens c number e ≡ true → Taken (before .tally) (now .tally) number)
@@ -129,7 +130,7 @@ more w b m e at taken frees long =
 dull : (w : World) (b : Box) (m : Memory) (e : Event) → e .box ≡ b → isOpening (kindOf (e .said)) ≡ false
     → ((number : ℕ) → isFresh (m .tally) number ≡ true → isFresh (memoryOf w b .tally) number ≡ true)
     → length (m .tally) ≡ length (memoryOf w b .tally) → OneMore w (after w b m e)
-dull w b m e at none frees long = more w b m e at (λ number o. absurd (false≢true (sym none ∙ o .told))) frees long
+dull w b m e at none was-fresh long = more w b m e at (λ number o. absurd (false≢true (sym none ∙ o .told))) was-fresh long
 
 -- so of one that leaves the tally as it was
 same-tally : (w : World) (b : Box) (m : Memory) (e : Event) → e .box ≡ b → isOpening (kindOf (e .said)) ≡ false → m .tally ≡ memoryOf w b .tally
