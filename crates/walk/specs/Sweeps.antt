@@ -1,4 +1,5 @@
--- The sweeps: the bytes but FF, of a tape and of the one above it, the words of a tape's body at width 3, the words of round 1 with an 8 and with a 7 among them.
+-- The sweeps: the bytes but FF, of a tape and of the one above it, the words of a tape's body at width 3, the words of round 1 with an 8 and
+-- with a 7 among them.
 use Prim.Native.Nat.{ℕ, _+_}
 use mathlib.Core.Path.{_≡_}
 use mathlib.Core.List.{[], _∷_}
@@ -19,8 +20,8 @@ placesOf Body = 141
 placesOf Words = 33
 placesOf Zeros = 33
 
--- what must come of the call at a place: a start where that byte is tape 0's, one where it is tape 1's, a start on a tape with the word 7 there, a hear of zeros
--- with an 8 there, and box 2's with a 7 there
+-- what must come of the call at a place: a start where that byte is tape 0's, one where it is tape 1's, a start on a tape with the word 7
+-- there, a hear of zeros with an 8 there, and box 2's with a 7 there
 abbrev pub RightAt : Sweep → ℕ → Type 0
 RightAt Bytes place = refusalOf (startRule (idleState 4) 0 5 1 (boxTape 1 0) (tabulate 100 (λ k. 0)) (place ∷ 255 ∷ 255 ∷ 255 ∷ []) .reply) ≡ 8
 RightAt Above place = refusalOf (startRule (idleState 4) 0 5 1 (boxTape 1 0) (tabulate 100 (λ k. 0)) (255 ∷ place ∷ 255 ∷ 255 ∷ []) .reply) ≡ 15

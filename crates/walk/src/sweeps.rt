@@ -1,6 +1,7 @@
-// Four refusals at every place that can give them: each byte but FF, for its own tape and for the one below, the word 7 in each place of a tape's body, and the word 8
-// in each place of the words that a hear is lent. There a 7 is heard as 0 at every place: by box 2, whose hear is linear in each
-// word. Box 1 multiplies a word of a product by what it has of the other factor, and of β that is 0.
+// Four refusals at every place that can give them: each byte but FF, for its own tape and for the one below it, the word 7 in each
+// place of a tape's body, and the word 8 in each place of the words that a hear is lent. There a 7 is heard as 0 at every place: by
+// box 2, whose hear is linear in each word. Box 1 multiplies a word of a product by what it has of the other factor, and of β that
+// is 0.
 use crate::calls::is_refused;
 use crate::hears::changed;
 use crate::hears::of_changed;
