@@ -50,19 +50,19 @@ fn spent_bytes() {
     line(b"start, byte FE: ", on_marks([254, 255, 255, 255]));
 }
 
-// Around the highest spent number, and far below it.
+// Around the highest spent number, and far below it. Of the four only number 1 is fresh and late.
 fn around_spent() {
-    let spent = [255u8, 255, 0, 255];
+    let spent = [0u8, 255, 0, 255];
     line(
-        b"start, tape 2 spent, number 1: ",
+        b"start, tapes 0 and 2 spent, number 1: ",
         start_on(states::idle(), 1, spent),
     );
     line(
-        b"start, tape 2 spent, number 2: ",
+        b"start, tapes 0 and 2 spent, number 2: ",
         start_on(states::idle(), 2, spent),
     );
     line(
-        b"start, tape 2 spent, number 3: ",
+        b"start, tapes 0 and 2 spent, number 3: ",
         start_on(states::idle(), 3, spent),
     );
     line(

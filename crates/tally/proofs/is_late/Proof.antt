@@ -49,8 +49,9 @@ returns : tie.Need-returns Inv-loop μ-loop
 returns c =
     let l = c .before .before .before in
     let a = l .before .before .before .args in
+    let spent = sym (c .before .is-fresh .ensures) ∙ not-true (c .before .is-fresh .result) (c .if1 .taken) in
     sym
-    (late-by (a .tally .now) (a .number) (l .loop .above) (c .before .before .loop-test .taken) (l .loop .inv .0) (sym (c .before .is-fresh .ensures) ∙ not-true _ (c .if1 .taken)))
+    (late-by (a .tally .now) (a .number) (l .loop .above) (omega (arith, c .before .before .loop-test .taken)) (l .loop .inv .0) spent)
 
 sub-above-2 : tie.Need-sub-above-2 Inv-loop μ-loop
 sub-above-2 c = search needs
@@ -62,7 +63,7 @@ loop-again : tie.Need-loop-again Inv-loop μ-loop
 loop-again c =
     let l = c .before .before .before in
     let tally = l .before .before .before .args .tally .now in
-    let here = sym (c .before .is-fresh .ensures) ∙ not-false _ (c .if1 .left) in
+    let here = sym (c .before .is-fresh .ensures) ∙ not-false (c .before .is-fresh .result) (c .if1 .left) in
     (omega (arith, l .loop .inv .0), fresh-from tally (l .loop .above) here (l .loop .inv .1))
 
 returns-2 : tie.Need-returns-2 Inv-loop μ-loop
