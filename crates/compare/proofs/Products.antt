@@ -9,17 +9,13 @@ use lib.ListN.{getD}
 use Rattle.lists.specs.Tabulate.{tabulate}
 use Rattle.lists.proofs.Tabulate.{getD-tabulate, tabulate-same}
 use Rattle.field.specs.Width.{listed, modulus}
-use Rattle.field.proofs.Widths.{bounds}
-use Rattle.shares.specs.Side.{other}
 use Rattle.shares.specs.Share.{masked}
-use Rattle.shares.proofs.Sides.{constant-below}
 use Rattle.tape.specs.Letters.{tripleLeft, tripleRight}
 use Rattle.tape.specs.Order.{Readable}
 use Rattle.tape.proofs.Letters.{group-inverse-below}
-use Rattle.protocol.specs.Tests.{lowBit}
 use Rattle.protocol.specs.Work.{sumSlot, wrapSlot, held}
 use Rattle.protocol.specs.Products.{Party, Products, triplesOf, openLeft, openRight, alternating, openings, closed, closing}
-use Rattle.protocol.specs.Rounds.{powersOf, lowProducts, levelProducts, wrapProducts}
+use Rattle.protocol.specs.Rounds.{powersOf, levelProducts, wrapProducts}
 use Rattle.protocol.proofs.Reading.{held-below}
 
 -- the left factors side by side, the right ones at a distance
@@ -77,18 +73,11 @@ listed-factors b ps left right =
       right = λ i inside. rw (mul-one, getD-tabulate (ps .count) (ps .right) i 0 inside) (mod-eq-of-lt (right i));
     }
 
-module _ (b : Party) (width : listed (b .n) ≡ true) where
-  pub low-factors : Factors b (lowProducts b) (tabulate 3 (lowProducts b .left)) (tabulate 3 (lowProducts b .right)) 1
-  unfolding lowProducts
-  low-factors =
-      let bit : (t : ℕ) → lowBit (b .n) (b .x) (b .y) t < modulus (b .n) = λ t. omega (arith, bounds width) in
-      listed-factors b (lowProducts b) (λ t. constant-below (b .side) (bit t)) (λ t. constant-below (other (b .side)) (bit t))
-
-  module _ (work : List ℕ) where
-    pub wrap-factors : Factors b (wrapProducts b work) (tabulate 3 (λ t. held (b .n) work (sumSlot (b .n) t))) (tabulate 3 (λ t. held (b .n) work (wrapSlot (b .n) t))) 1
-    unfolding wrapProducts
-    wrap-factors =
-        listed-factors b (wrapProducts b work) (λ t. held-below (b .n) work (sumSlot (b .n) t) width) (λ t. held-below (b .n) work (wrapSlot (b .n) t) width)
+pub wrap-factors : (b : Party) → listed (b .n) ≡ true → (work : List ℕ)
+    → Factors b (wrapProducts b work) (tabulate 3 (λ t. held (b .n) work (sumSlot (b .n) t))) (tabulate 3 (λ t. held (b .n) work (wrapSlot (b .n) t))) 1
+unfolding wrapProducts
+wrap-factors b width work =
+    listed-factors b (wrapProducts b work) (λ t. held-below (b .n) work (sumSlot (b .n) t) width) (λ t. held-below (b .n) work (wrapSlot (b .n) t) width)
 
 -- read from work and from the tape as they are
 pub level-factors : (b : Party) (work : List ℕ) → Readable (b .n) (b .tape) → Factors b (levelProducts b work) work (powersOf b) (b .n + 1)

@@ -2,7 +2,6 @@
 ghost use mathlib.Core.Path.{_≡_};
 ghost use mathlib.Core.Bool.{true};
 ghost use Prim.Native.Nat.{ℕ, _<_, _≤_};
-ghost use mathlib.Core.List.{List};
 ghost use lib.ListN.{length};
 ghost use lib.Seq.{sets};
 ghost use Rattle.field.specs.Width.{modulus};
@@ -11,23 +10,6 @@ ghost use Rattle.tape.specs.Order.{Readable};
 ghost use Rattle.protocol.specs.Work.{workLength};
 ghost use Rattle.protocol.specs.Products.{party};
 ghost use Rattle.protocol.specs.Rounds.{roundWords, message};
-
-// Round 1's words: all squares, then alpha * beta of each test. Box 1 alone has alpha, box 2 alone beta.
-fn speak_first(n: u32, side: u32, x: u32, y: u32, tape: &[u32], out: &mut [u32])
-    requires { ⌜ (isSide side ≡ true) × (x < modulus n) × (y < modulus n) × Readable n (now tape) × (roundWords n 1 ≤ length (now out)) ⌝ }
-    ensures { λ _. ⌜ ((work : List ℕ) → now (out .exit) ≡ sets (now (out .entry)) 0 (message (party n side x y (now (tape .entry))) work 1)) ⌝ }
-{
-    let tests = steps::tests::tests_of(n, x, y);
-    let squares = tape::section_of(tape, n, tape::SQUARES);
-    steps::squares::open_squares(n, side, tests, squares, &mut *out);
-    let triples = tape::section_of(tape, n, tape::TRIPLES);
-    let low = tests.low;
-    let own = crate::factors::lows(side, low);
-    let others = crate::factors::lows(3 - side, low);
-    let first = steps::places::low_triple(n);
-    let at = steps::places::square_count(n);
-    steps::products::open_products(n, &own, &others, 1, triples, first, 3, out, at);
-}
 
 // Round 6's words: the last product.
 fn speak_last(n: u32, side: u32, tape: &[u32], work: &[u32], out: &mut [u32])
@@ -65,7 +47,7 @@ pub fn speak(
 {
     let m = n as usize;
     match round {
-        1 => speak_first(n, side, x, y, tape, out),
+        1 => crate::filling::fill(n, side, x, y, tape, crate::words::words_of(n, 1), out),
         2 => {
             let powers = tape::section_of(tape, n, tape::POWERS);
             let triples = tape::section_of(tape, n, tape::TRIPLES);

@@ -3,5 +3,7 @@ pub mod Every
 pub mod Tabulate
 pub mod Maps
 pub mod Sets
+pub mod Span
 pub mod Stores
+pub mod Parts
 pub mod Sums

@@ -29,3 +29,4 @@ pub mod Secrecy
 pub mod Lengths
 pub mod Reuse
 pub mod Ranges
+pub mod Filling

@@ -5,6 +5,7 @@ pub mod Products
 pub mod Squares
 pub mod Levels
 pub mod Rounds
+pub mod Filling
 pub mod Exchange
 pub mod Clear
 pub mod Bench

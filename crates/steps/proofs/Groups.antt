@@ -1,27 +1,32 @@
--- The groups of squares: the test of a group, and a run of stores that grows by a whole group.
-use Prim.Native.Nat.{ℕ, zero, suc, _+_, _*_, _/_, _<_}
+-- The groups of squares: the test of a group and of a square, and a run of stores that grows by a whole group, up or down.
+use Prim.Native.Nat.{ℕ, _+_, _*_, _/_, _<_, _≤_}
 use mathlib.Core.Path.{_≡_, sym, ap, _∙_}
-use mathlib.Core.List.{List, [], _∷_, _++_, append-assoc, append-nil}
-use native.Mathlib.Nat.{add-zero, add-suc, div-lt-iff-lt-mul}
+use mathlib.Core.List.{List}
+use native.Mathlib.Nat.{div-lt-iff-lt-mul, div-eq-of-lt-le, div-div-eq-div-mul}
 use native.Mathlib.Omega.{arith}
 use lib.ListN.{length}
 use lib.Seq.{sets}
 use Rattle.lists.specs.Tabulate.{tabulate}
+use Rattle.lists.specs.Span.{span, later}
 use Rattle.lists.proofs.Sets.{sets-append}
-use Rattle.lists.proofs.Tabulate.{length-tabulate, tabulate-same}
+use Rattle.lists.proofs.Span.{sets-later}
+use Rattle.lists.proofs.Tabulate.{length-tabulate, tabulate-same, tabulate-append}
 use Rattle.tape.specs.Layout.{groupCount}
+use Rattle.protocol.specs.Squares.{bitDifference}
 
 -- the test of a group
 pub test-of : (n g : ℕ) → 0 < n → g < groupCount n → g / n < 3
 test-of n g pos l = div-lt-iff-lt-mul pos .1 l
 
--- one tabulated list after another
-tabulate-append : (a n : ℕ) (f : ℕ → ℕ) → tabulate (a + n) f ≡ tabulate a f ++ tabulate n (λ k. f (a + k))
-tabulate-append a zero f = rw (add-zero a) (sym (append-nil (tabulate a f)))
-tabulate-append a (suc n) f =
-    rw (add-suc a n, tabulate-append a n f) (append-assoc (tabulate a f) (tabulate n (λ k. f (a + k))) (f (a + n) ∷ []))
+-- the squares of a test ask for its doubled share alone
+pub one-test : (n side : ℕ) (d : ℕ → ℕ) (test j : ℕ) → test * (n * n) ≤ j → j < (test + 1) * (n * n)
+    → bitDifference n side (λ t. d test) j ≡ bitDifference n side d j
+unfolding bitDifference
+one-test n side d test j from below =
+    let tested : j / n / n ≡ test = div-div-eq-div-mul j n n ∙ div-eq-of-lt-le (n * n) from below in
+    rw tested
 
--- a turn of a loop that stores a whole group: the run grows by its words
+-- a turn of a loop that stores a whole group: the run grows by its words, at its end
 pub sets-group : (l : List ℕ) (n g : ℕ) (f h : ℕ → ℕ) → ((k : ℕ) → k < n → h k ≡ f (g * n + k))
     → sets (sets l 0 (tabulate (g * n) f)) (g * n) (tabulate n h) ≡ sets l 0 (tabulate ((g + 1) * n) f)
 sets-group l n g f h same =
@@ -33,3 +38,11 @@ sets-group l n g f h same =
     ∙ sym (sets-append l 0 (tabulate (g * n) f) (tabulate n group))
     ∙ ap (λ (ws : List ℕ). sets l 0 ws) (sym (tabulate-append (g * n) n f))
     ∙ ap (λ (m : ℕ). sets l 0 (tabulate m f)) next
+
+-- a turn of a loop that stores a group's words before those of the groups after it, all of them from place `from` on
+pub turn-down : (l : List ℕ) (n g from stop : ℕ) (f : ℕ → ℕ) → (g + 1) * n ≤ stop
+    → sets (sets l (later ((g + 1) * n) from) (span (later ((g + 1) * n) from) stop f)) (later (g * n) from) (span (later (g * n) from) ((g + 1) * n) f)
+    ≡ sets l (later (g * n) from) (span (later (g * n) from) stop f)
+turn-down l n g from stop f room =
+    let upper : later ((g + 1) * n) (later (g * n) from) ≡ later ((g + 1) * n) from = omega arith in
+    rw upper at (sets-later l (later (g * n) from) ((g + 1) * n) stop f room)

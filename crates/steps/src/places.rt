@@ -1,7 +1,7 @@
 // Places in work and on the tape, by the names that the definitions give them.
 ghost use mathlib.Core.Path.{_≡_};
 ghost use mathlib.Core.Bool.{true};
-ghost use Prim.Native.Nat.{_<_};
+ghost use Prim.Native.Nat.{_-_, _<_};
 ghost use Rattle.field.specs.Width.{listed};
 ghost use Rattle.tape.specs.Layout.{squareCount, groupCount};
 ghost use Rattle.protocol.specs.Work.{sumSlot, wrapSlot, halfSlot, bothSlot};
@@ -72,4 +72,14 @@ pub fn square_count(n: u32) -> usize
 {
     let m = n as usize;
     3 * (m * m)
+}
+
+// How far a place lies beyond a start: 0 for one before it.
+pub fn beyond(place: usize, start: usize) -> usize
+    ensures { λ r. ⌜ r ≡ place - start ⌝ }
+{
+    if place <= start {
+        return 0;
+    }
+    place - start
 }

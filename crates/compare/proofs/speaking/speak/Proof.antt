@@ -7,7 +7,10 @@ use lib.ListN.{length}
 use lib.Seq.{sets}
 use Rattle.protocol.specs.Products.{party}
 use Rattle.protocol.specs.Rounds.{roundWords, message}
+use Rattle.protocol.specs.Filling.{filled}
 use Rattle.protocol.proofs.ByRound.{no-message}
+use Rattle.protocol.proofs.Filling.{filled-whole}
+use Rattle.protocol.proofs.Lengths.{message-length}
 use Rattle.compare.proofs.Sound.{sound}
 use Rattle.compare.proofs.Messages.{level-message, wrap-message, half-message}
 use borrow.Author.Needs.{needs}
@@ -18,11 +21,15 @@ use Rattle.compare.proofs.speaking.speak.Tie as tie
 room : (s : tie.Start) (round : ℕ) → s .args .round ≡ round → roundWords (s .args .n) round ≤ length (s .args .out .now)
 room s round e = rw e at (s .pre .1 .1)
 
-speak-first-requires : tie.Need-speak-first-requires
-speak-first-requires c κs =
-    let m = c .before in
+words-of-requires : tie.Need-words-of-requires
+words-of-requires c κs = search needs
+
+fill-requires : tie.Need-fill-requires
+fill-requires c κs =
+    let w = c .before in
+    let m = w .before in
     let s = m .before .before .before .before in
-    (s .pre .0 .0, s .pre .0 .1, s .pre .0 .2, s .pre .0 .3, room s 1 (m .match .keys1))
+    (s .pre .0, (omega (arith, w .words-of .ensures), room s 1 (m .match .keys1)))
 
 section-of-requires : tie.Need-section-of-requires
 section-of-requires c κs = search needs
@@ -129,9 +136,13 @@ same-length c = search needs
 
 returns : tie.Need-returns
 returns c =
-    let p = c .before .before in
-    let m = p .before .before in
-    rw (m .match .keys1) (p .speak-first .ensures (m .before .before .before .before .args .work .now))
+    let done = c .before .before in
+    let w = done .before .before in
+    let m = w .before in
+    let a = m .before .before .before .before .args in
+    let words = message (party (a .n) (a .side) (a .x) (a .y) (a .tape .now)) (a .work .now) 1 in
+    let whole : w .words-of .result ≡ length words = w .words-of .ensures ∙ sym (message-length (party (a .n) (a .side) (a .x) (a .y) (a .tape .now)) (a .work .now) 1) in
+    rw (m .match .keys1) (done .fill .ensures (a .work .now) ∙ ap (filled (a .out .now) words) whole ∙ filled-whole (a .out .now) words)
 
 same-length-2 : tie.Need-same-length-2
 same-length-2 c = search needs
@@ -213,7 +224,8 @@ pub speak-spec : {M : Type 1} → statement M
 speak-spec =
     tie.close
     (tie.spec
-    speak-first-requires
+    words-of-requires
+    fill-requires
     section-of-requires
     section-of-requires-2
     group-count-requires

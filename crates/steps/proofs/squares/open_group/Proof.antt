@@ -1,98 +1,160 @@
--- `steps::squares::open_group` meets its contract. The loop's invariant: the words of the bits passed stand in their places.
-use Prim.Native.Nat.{ℕ, _+_, _-_, _*_, _<_}
+-- `steps::squares::open_group` meets its contract: what is stored from the group's place on are its words, by the code of its level.
+use Prim.Native.Nat.{ℕ, _+_, _-_, _*_, _%_, _<_, _≤_}
 use mathlib.Core.List.{List}
-use mathlib.Core.Path.{refl}
-use native.Mathlib.Nat.{mul-le-mul, le-of-lt, le-refl}
+use mathlib.Core.Path.{_≡_, sym, ap, ap₂, _∙_}
+use native.Mathlib.Nat.{mod-lt, mul-le-mul-right}
 use native.Mathlib.Omega.{arith}
 use borrow.Author.Needs.{needs}
-use Rattle.lists.proofs.Stores.{Stored, stored-none, stored-more, stored-all}
+use borrow.Rule.Slice.PartMut.{putMid}
+use lib.ListN.{length, getD, take, drop, length-drop}
+use lib.Seq.{sets, take-all, getD-drop}
+use Rattle.lists.specs.Span.{span}
+use Rattle.lists.proofs.Parts.{put-sets}
+use Rattle.lists.proofs.Span.{length-span, span-shift}
+use Rattle.field.proofs.Widths.{bounds}
+use Rattle.shares.specs.Share.{masked}
 use Rattle.tape.specs.Layout.{squareCount}
-use Rattle.tape.proofs.Letters.{square-index}
 use Rattle.tape.proofs.Sizes.{small}
-use Rattle.protocol.specs.Squares.{codeDifference, squareOpening}
+use Rattle.encoding.specs.Codes.{levelCode}
+use Rattle.protocol.specs.Squares.{codeDifference, bitDifference, squareOpening}
+use Rattle.protocol.proofs.Matches.{group-difference}
 use Rattle.steps.proofs.squares.open_group.Statement.{statement}
 use Rattle.steps.proofs.squares.open_group.Tie as tie
 
--- the word of bit k
-abbrev word : ℕ → ℕ → ℕ → List ℕ → ℕ → ℕ → ℕ
-word n side code squares g k = squareOpening n (codeDifference n side code k) squares (g * n + k)
+-- the rest of a list, as it is lent
+rest : (at : ℕ) (l : List ℕ) → take (length l - at) (drop at l) ≡ drop at l
+rest at l = take-all (length l - at) (drop at l) (omega (arith, length-drop at l))
 
-abbrev Inv-loop : tie.InvT-loop
-Inv-loop n side code squares g out₀ base k₀ out k = Stored out₀ (g * n) n (word n side code squares g) out k
+module _ (n side doubled : ℕ) (squares out : List ℕ) (g : ℕ) where
+  -- a word by its bit and by its place
+  abbrev bit-word : ℕ → ℕ
+  bit-word k = squareOpening n (codeDifference n side (levelCode n side doubled (g % n)) k) (drop (g * n * 2) squares) k
 
-abbrev μ-loop : tie.MeasureT-loop
-μ-loop n side code squares g out₀ base k₀ out k = n - k
+  abbrev word : ℕ → ℕ
+  word j = squareOpening n (bitDifference n side (λ t. doubled) j) squares j
 
-abbrev start : tie.In-loop Inv-loop μ-loop → tie.Start Inv-loop μ-loop
-start t = t .before .before .before .before
+  same-word : (k : ℕ) → k < n → bit-word k ≡ word (g * n + k)
+  same-word k less =
+      let place : g * n * 2 + k * 2 ≡ (g * n + k) * 2 = omega arith in
+      ap₂ (masked n) (sym (group-difference n side (λ t. doubled) g k less))
+      (getD-drop (g * n * 2) squares (k * 2) 0 ∙ ap (λ (i : ℕ). getD squares i 0) place)
 
--- the square of bit k is dealt
-placed : (t : tie.In-loop Inv-loop μ-loop) → start t .args .g * start t .args .n + t .before .loop .k < squareCount (start t .args .n)
-placed t =
-    let s = start t in
-    square-index (s .args .n) (s .args .g) (t .before .loop .k) (s .pre .0 .1) (t .loop-test .taken)
+  -- stored in the rest of out, from bit `low` up
+  group-words : (low : ℕ) → low ≤ n → g * n + n ≤ length out
+      → putMid (g * n) (length out - g * n) out (sets (take (length out - g * n) (drop (g * n) out)) low (span low n bit-word))
+      ≡ sets out (g * n + low) (span (g * n + low) ((g + 1) * n) word)
+  group-words low most room =
+      let end : g * n + n ≡ (g + 1) * n = omega arith in
+      put-sets (g * n) (length out - g * n) out low (span low n bit-word) (omega (arith, length-span low n bit-word))
+      ∙ ap (λ (ws : List ℕ). sets out (g * n + low) ws)
+      (span-shift (g * n) low n bit-word word (λ k above less. same-word k less) ∙ ap (λ (stop : ℕ). span (g * n + low) stop word) end)
 
-mul-base : tie.Need-mul-base Inv-loop μ-loop
-mul-base c =
+-- the group's squares are dealt
+placed : (s : tie.Start) → s .args .g * s .args .n + s .args .n ≤ squareCount (s .args .n)
+placed s = omega (arith, mul-le-mul-right (s .args .n) (s .pre .0 .2))
+
+levelled : (s : tie.Start) → s .args .level < s .args .n
+levelled s = rw (s .pre .0 .3) (mod-lt (s .args .g) (omega (arith, bounds (s .pre .0 .0))))
+
+mul-at : tie.Need-mul-at
+mul-at c =
     let s = c .before .before in
-    omega (arith, mul-le-mul (le-of-lt (s .pre .0 .1)) (le-refl (s .args .n)), small (s .pre .0 .0))
+    omega (arith, placed s, small (s .pre .0 .0))
 
-loop-holds : tie.Need-loop-holds Inv-loop μ-loop
-loop-holds c = stored-none
+cast-level-code : tie.Need-cast-level-code
+cast-level-code c =
+    let s = c .before .before in
+    omega (arith, levelled s, s .fits .n)
 
-cast-j : tie.Need-cast-j Inv-loop μ-loop
-cast-j c = omega arith
+level-code-requires : tie.Need-level-code-requires
+level-code-requires c κs =
+    let s = c .before .before in
+    (s .pre .0 .0, s .pre .0 .1, levelled s)
 
-add-j : tie.Need-add-j Inv-loop μ-loop
-add-j c = omega (arith, placed c, small (start c .pre .0 .0))
+beyond-requires : tie.Need-beyond-requires
+beyond-requires c κs = search needs
 
-opening-requires : tie.Need-opening-requires Inv-loop μ-loop
-opening-requires c κs =
-    let s = start c in
-    (s .pre .0 .0, c .loop-test .taken, s .pre .1 .0, omega (arith, placed c, s .pre .1))
+mul-open-bits : tie.Need-mul-open-bits
+mul-open-bits c =
+    let s = c .before .before .before .before in
+    omega (arith, placed s, small (s .pre .0 .0))
 
-mul-out : tie.Need-mul-out Inv-loop μ-loop
-mul-out c =
-    let t = c .before in
-    omega (arith, placed t, small (start t .pre .0 .0))
+mul-open-bits-2 : tie.Need-mul-open-bits-2
+mul-open-bits-2 c =
+    let s = c .before .before .before .before in
+    omega (arith, placed s, small (s .pre .0 .0))
 
-slice-write-out : tie.Need-slice-write-out Inv-loop μ-loop
-slice-write-out c =
-    let t = c .before in
-    omega (arith, placed t, start t .pre .1, t .before .loop .inv .long)
+sub-open-bits : tie.Need-sub-open-bits
+sub-open-bits c =
+    let s = c .before .before .before .before in
+    omega (arith, placed s, s .pre .1 .1)
 
-add-k : tie.Need-add-k Inv-loop μ-loop
-add-k c = omega (arith, small (start (c .before) .pre .0 .0))
+part-open-bits-start : tie.Need-part-open-bits-start
+part-open-bits-start c = sub-open-bits c
 
-loop-less : tie.Need-loop-less Inv-loop μ-loop
-loop-less c = search needs
+part-open-bits-end : tie.Need-part-open-bits-end
+part-open-bits-end c = search needs
 
-loop-again : tie.Need-loop-again Inv-loop μ-loop
-loop-again c =
-    let t = c .before in
-    stored-more (t .before .loop .inv) _ _ (t .loop-test .taken) refl (c .opening .ensures .0)
+mul-open-bits-3 : tie.Need-mul-open-bits-3
+mul-open-bits-3 c =
+    let s = c .before .before .before .before .before in
+    omega (arith, placed s, small (s .pre .0 .0))
 
-same-length : tie.Need-same-length Inv-loop μ-loop
+sub-open-bits-2 : tie.Need-sub-open-bits-2
+sub-open-bits-2 c =
+    let s = c .before .before .before .before .before in
+    omega (arith, placed s, s .pre .1 .2)
+
+part-open-bits-start-2 : tie.Need-part-open-bits-start-2
+part-open-bits-start-2 c = sub-open-bits-2 c
+
+part-open-bits-end-2 : tie.Need-part-open-bits-end-2
+part-open-bits-end-2 c = search needs
+
+open-bits-requires : tie.Need-open-bits-requires
+open-bits-requires c κs =
+    let b = c .before .before in
+    let s = b .before .before .before .before in
+    let a = s .args in (
+      (s .pre .0 .0, omega (arith, b .beyond .ensures, s .pre .0 .4)),
+      rw (rest (a .g * a .n * 2) (a .squares .now), rest (a .g * a .n) (a .out .now)) (
+        record { at = λ i. rw (getD-drop (a .g * a .n * 2) (a .squares .now) i 0) (s .pre .1 .0 .at (a .g * a .n * 2 + i)) },
+        omega (arith, placed s, length-drop (a .g * a .n * 2) (a .squares .now), s .pre .1 .1),
+        omega (arith, placed s, length-drop (a .g * a .n) (a .out .now), s .pre .1 .2),
+      ),
+    )
+
+same-length : tie.Need-same-length
 same-length c = search needs
 
-returns : tie.Need-returns Inv-loop μ-loop
-returns c = stored-all (c .before .loop .inv) (c .loop-test .left)
+returns : tie.Need-returns
+returns c =
+    let call = c .before .before in
+    let b = call .before .before .before in
+    let s = b .before .before .before .before in
+    let a = s .args in
+    let low = a .from - a .g * a .n in
+    ap (putMid (a .g * a .n) (length (a .out .now) - a .g * a .n) (a .out .now))
+    (rw (rest (a .g * a .n * 2) (a .squares .now), b .beyond .ensures, b .before .level-code .ensures, s .pre .0 .3) at (call .open-bits .ensures))
+    ∙ group-words (a .n) (a .side) (a .doubled) (a .squares .now) (a .out .now) (a .g) low (omega (arith, s .pre .0 .4)) (omega (arith, placed s, s .pre .1 .2))
 
 pub open-group-spec : {M : Type 1} → statement M
 open-group-spec =
     tie.close
     (tie.spec
-    Inv-loop
-    μ-loop
-    mul-base
-    loop-holds
-    cast-j
-    add-j
-    opening-requires
-    mul-out
-    slice-write-out
-    add-k
-    loop-less
-    loop-again
+    mul-at
+    cast-level-code
+    level-code-requires
+    beyond-requires
+    mul-open-bits
+    mul-open-bits-2
+    sub-open-bits
+    part-open-bits-start
+    part-open-bits-end
+    mul-open-bits-3
+    sub-open-bits-2
+    part-open-bits-start-2
+    part-open-bits-end-2
+    open-bits-requires
     same-length
     returns)
