@@ -45,11 +45,12 @@ quotient {p} {w} pos few =
 
 module _ (n : ℕ) (b : Bounds n) where
   -- 2^n is 1 modulo p: the part above bit n may be added to the part below it
-  pub fold-same : (x : ℕ) → x ≡ (x % 2 ^ n + x / 2 ^ n) + modulus n * (x / 2 ^ n)
+  pub fold-same : (x : ℕ) → (x % 2 ^ n + x / 2 ^ n) % modulus n ≡ x % modulus n
   fold-same x =
       let q = x / 2 ^ n in
       let wide : 2 ^ n * q ≡ (modulus n + 1) * q = ap (λ (m : ℕ). m * q) (sym (b .power)) in
-      omega (arith, mod-add-div x (2 ^ n))
+      let same : x ≡ x % 2 ^ n + q + modulus n * q = omega (arith, mod-add-div x (2 ^ n)) in
+      sym (ap (λ (y : ℕ). y % modulus n) same ∙ add-mul-mod-self-left _ (modulus n) q)
 
   pub below : (x : ℕ) → x % 2 ^ n ≤ modulus n
   below x = omega (arith, mod-lt x (pow-pos n))

@@ -38,7 +38,7 @@ pub record Bounds (n : ℕ) : Type 0 where
   pub most : n ≤ 31
   pub power : modulus n + 1 ≡ 2 ^ n
   pub seven : 7 ≤ modulus n
-  pub wide : n ≤ modulus n
+  pub wide : 2 * n ≤ modulus n
   pub word : modulus n < 2 ^ 31
   pub square : modulus n * modulus n < 2 ^ 62
 
@@ -55,7 +55,7 @@ bounds {n} l =
       most = high;
       power = omega arith;
       seven = omega arith;
-      wide = leb-true n (modulus n) (each-listed (λ w. leb w (modulus w)) refl l);
+      wide = leb-true (2 * n) (modulus n) (each-listed (λ w. leb (2 * w) (modulus w)) refl l);
       word = omega arith;
       square = omega (arith, mul-le-mul few-more few-more);
     }

@@ -89,13 +89,22 @@ pub fn reduce_once(n: u32, x: u64) -> u32
     difference(n, x as u32, modulus_of(n))
 }
 
-// A sum of up to four products of words below p, brought below 2p. The last subtraction can wait until several are summed.
+// A sum of up to four products of words below p, folded once. Below 5p it is small enough where a few are summed before they are reduced.
+pub fn fold_once(n: u32, x: u64) -> u64
+    requires { ⌜ (listed n ≡ true) × (x < 4 * (modulus n * modulus n)) ⌝ }
+    ensures { λ r. ⌜ r % modulus n ≡ x % modulus n ⌝ }
+    ensures below { λ r. ⌜ r < 5 * modulus n ⌝ }
+{
+    folded(n, x)
+}
+
+// The same, folded twice: below 2p. The last subtraction can wait.
 pub fn fold_wide(n: u32, x: u64) -> u64
     requires { ⌜ (listed n ≡ true) × (x < 4 * (modulus n * modulus n)) ⌝ }
     ensures { λ r. ⌜ r % modulus n ≡ x % modulus n ⌝ }
     ensures below { λ r. ⌜ r < 2 * modulus n ⌝ }
 {
-    folded(n, folded(n, x))
+    folded(n, fold_once(n, x))
 }
 
 // The same, reduced without a division.

@@ -115,16 +115,16 @@ pub fn open_squares(n: u32, side: u32, tests: Tests, squares: &[u32], from: usiz
     }
 }
 
-// The share of a square by square j, below 2p, from the word that this box sent and the other box's at j of incoming.
+// The share of a square by square j, below 5p, from the word that this box sent and the other box's at j of incoming.
 fn close_square(n: u32, side: u32, sent: u32, squares: &[u32], incoming: &[u32], j: usize) -> u64
     requires { ⌜ (listed n ≡ true) × (sent < modulus n) × Below (modulus n) (now squares) × (j * 2 + 1 < length (now squares)) ⌝ }
     requires { ⌜ FromLine n (j + 1) (now incoming) ⌝ }
     ensures { λ r. ⌜ r % modulus n
         ≡ squareShare n side (opened n sent (getD (now (incoming .entry)) j 0)) (squareMask (now (squares .entry)) j) (squareValue (now (squares .entry)) j) ⌝ }
-    ensures below { λ r. ⌜ r < 2 * modulus n ⌝ }
+    ensures below { λ r. ⌜ r < 5 * modulus n ⌝ }
 {
     let e = shares::open(n, sent, incoming[j]);
-    field::fold_wide(
+    field::fold_once(
         n,
         shares::square(n, side, e, squares[j * 2], squares[j * 2 + 1]),
     )

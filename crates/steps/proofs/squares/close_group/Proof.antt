@@ -1,4 +1,4 @@
--- `steps::squares::close_group` meets its contract. The loop's invariant: the total is, modulo p, the share of 1 + the squares of the bits passed, and below 2p for each.
+-- `steps::squares::close_group` meets its contract. The loop's invariant: the total is, modulo p, the share of 1 + the squares of the bits passed, and below 5p for each.
 use Prim.Native.Nat.{ℕ, _+_, _-_, _*_, _≤_, _<_}
 use mathlib.Core.List.{List}
 use mathlib.Core.Path.{_≡_, refl, _∙_}
@@ -27,7 +27,7 @@ term n side code squares g incoming k = squareClosing n side (codeDifference n s
 abbrev Inv-loop : tie.InvT-loop
 Inv-loop n side code squares g incoming base total₀ k₀ total k =
     (k ≤ n)
-    × (total ≤ 1 + k * (2 * modulus n))
+    × (total ≤ 1 + k * (5 * modulus n))
     × Cong (modulus n) total (constantShare side 1 + sum k (term n side code squares g incoming))
 
 abbrev μ-loop : tie.MeasureT-loop
@@ -73,10 +73,10 @@ close-square-requires c κs =
     let s = start t in
     ((s .pre .0 .0, c .opening .ensures .1, s .pre .1 .0, omega (arith, placed t, s .pre .1)), fewer (s .pre .1 .2) _ (omega (arith, placed t)))
 
--- the sum so far and one square more, each below 2p
+-- the sum so far and one square more, each below 5p
 room : (c : tie.After-close-square Inv-loop μ-loop)
     → let t = c .before .before in
-    t .before .loop .total + c .close-square .result ≤ 1 + (t .before .loop .k + 1) * (2 * modulus (start t .args .n))
+    t .before .loop .total + c .close-square .result ≤ 1 + (t .before .loop .k + 1) * (5 * modulus (start t .args .n))
 room c =
     let t = c .before .before in
     omega (arith, t .before .loop .inv .1, c .close-square .ensures .1)
@@ -86,7 +86,7 @@ add-total c =
     let t = c .before .before in
     let b = bounds (start t .pre .0 .0) in
     let few : t .before .loop .k + 1 ≤ 31 = omega (arith, b, t .loop-test .taken) in
-    omega (arith, room c, b, mul-le-mul-right (2 * modulus (start t .args .n)) few)
+    omega (arith, room c, b, mul-le-mul-right (5 * modulus (start t .args .n)) few)
 
 add-k : tie.Need-add-k Inv-loop μ-loop
 add-k c = omega (arith, bounds (start (c .before .before) .pre .0 .0))
@@ -120,8 +120,8 @@ total-below c =
     let s = l .before .before .before .before in
     let p = modulus (s .args .n) in
     let b = bounds (s .pre .0 .0) in
-    let few : l .loop .k ≤ p = omega (arith, l .loop .inv .0, b) in
-    omega (arith, l .loop .inv .1, mul-le-mul-right (2 * p) few, b, mul-le-mul-right p (b .seven))
+    let few : 2 * l .loop .k ≤ p = omega (arith, l .loop .inv .0, b) in
+    omega (arith, l .loop .inv .1, mul-le-mul-right (5 * p) few, b, mul-le-mul-right p (b .seven))
 
 reduce-wide-requires : tie.Need-reduce-wide-requires Inv-loop μ-loop
 reduce-wide-requires c κs = (c .before .before .before .before .before .pre .0 .0, total-below c)

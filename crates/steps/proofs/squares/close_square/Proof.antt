@@ -42,13 +42,13 @@ square-requires c κs =
     let s = e .before .before .before .before in
     (s .pre .0 .0, e .«open» .ensures .1, s .pre .0 .2 .at _, s .pre .0 .2 .at _)
 
-fold-wide-requires : tie.Need-fold-wide-requires
-fold-wide-requires c κs = search needs
+fold-once-requires : tie.Need-fold-once-requires
+fold-once-requires c κs = search needs
 
 returns : tie.Need-returns
 returns c =
     let q = c .before in
-    (c .fold-wide .ensures .0 ∙ q .square .ensures .0 ∙ rw (q .before .before .before .«open» .ensures .0) refl, c .fold-wide .ensures .1)
+    (c .fold-once .ensures .0 ∙ q .square .ensures .0 ∙ rw (q .before .before .before .«open» .ensures .0) refl, c .fold-once .ensures .1)
 
 pub close-square-spec : {M : Type 1} → statement M
 close-square-spec =
@@ -65,5 +65,5 @@ close-square-spec =
     mul-square-4
     shared-slice-read-square-2
     square-requires
-    fold-wide-requires
+    fold-once-requires
     returns)
