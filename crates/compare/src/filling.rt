@@ -29,7 +29,7 @@ fn low_word(n: u32, side: u32, low: [u32; 3], triples: &[u32], j: usize) -> u32
     shares::mask(n, shares::constant(owner, low[t]), triples[i * 3 + second])
 }
 
-// Those from word `from` on, in their places behind the squares'.
+// These words from word `from` on, in their places behind the squares', from the last one down.
 fn open_lows(n: u32, side: u32, low: [u32; 3], triples: &[u32], from: usize, out: &mut [u32])
     requires { ⌜ (isSide side ≡ true) × (listed n ≡ true) × Below (modulus n) low × (from ≤ 6) ⌝ }
     requires { ⌜ Below (modulus n) (now triples) × ((lowTriple n + 3) * 3 ≤ length (now triples)) × (squareCount n + 6 ≤ length (now out)) ⌝ }

@@ -24,7 +24,7 @@ fn opening(n: u32, side: u32, code: u32, k: u32, squares: &[u32], j: usize) -> u
     field::sub(n, shares::constant(side, 1), taken)
 }
 
-// The words that open the bits from `low` up of a code, from the last one down. The squares and out are lent from the code's own on.
+// Opens the bits of a code from bit `low` up, from the last one down. The squares and out are lent from the code's first one on.
 fn open_bits(n: u32, side: u32, code: u32, squares: &[u32], low: usize, out: &mut [u32])
     requires { ⌜ (listed n ≡ true) × (low ≤ n) ⌝ }
     requires { ⌜ Below (modulus n) (now squares) × (n * 2 ≤ length (now squares)) × (n ≤ length (now out)) ⌝ }
@@ -38,7 +38,7 @@ fn open_bits(n: u32, side: u32, code: u32, squares: &[u32], low: usize, out: &mu
     }
 }
 
-// The words of a group's squares from place `from` on. The code of its level is worked out once.
+// The words of group g from place `from` on. The code of its level is worked out once.
 fn open_group(
     n: u32,
     side: u32,
@@ -63,7 +63,7 @@ fn open_group(
     open_bits(n, side, code, &squares[at * 2..], low, &mut out[at..]);
 }
 
-// Those of a test's squares from place `from` on, from the last level down.
+// The words of a test from place `from` on, from the last level down.
 fn open_test(
     n: u32,
     side: u32,
@@ -99,7 +99,7 @@ fn open_test(
     }
 }
 
-// Those of all squares from place `from` on, from the last test down.
+// The words of all squares from place `from` on, from the last test down.
 pub fn open_squares(n: u32, side: u32, tests: Tests, squares: &[u32], from: usize, out: &mut [u32])
     requires { ⌜ (listed n ≡ true) × Below (modulus n) (tests .doubled) ⌝ }
     requires { ⌜ Below (modulus n) (now squares) × (squareCount n * 2 ≤ length (now squares)) × (squareCount n ≤ length (now out)) ⌝ }
