@@ -1,16 +1,12 @@
--- The groups of squares: the test of a group and of a square, and a run of stores that grows by a whole group, up or down.
+-- The groups of squares: the test of a group and of a square, and a stretch of stores that grows down by a whole group.
 use Prim.Native.Nat.{ℕ, _+_, _*_, _/_, _<_, _≤_}
-use mathlib.Core.Path.{_≡_, sym, ap, _∙_}
+use mathlib.Core.Path.{_≡_, _∙_}
 use mathlib.Core.List.{List}
 use native.Mathlib.Nat.{div-lt-iff-lt-mul, div-eq-of-lt-le, div-div-eq-div-mul}
 use native.Mathlib.Omega.{arith}
-use lib.ListN.{length}
 use lib.Seq.{sets}
-use Rattle.lists.specs.Tabulate.{tabulate}
 use Rattle.lists.specs.Span.{span, later}
-use Rattle.lists.proofs.Sets.{sets-append}
 use Rattle.lists.proofs.Span.{sets-later}
-use Rattle.lists.proofs.Tabulate.{length-tabulate, tabulate-same, tabulate-append}
 use Rattle.tape.specs.Layout.{groupCount}
 use Rattle.protocol.specs.Squares.{bitDifference}
 
@@ -25,19 +21,6 @@ unfolding bitDifference
 one-test n side d test j from below =
     let tested : j / n / n ≡ test = div-div-eq-div-mul j n n ∙ div-eq-of-lt-le (n * n) from below in
     rw tested
-
--- a turn of a loop that stores a whole group: the run grows by its words, at its end
-pub sets-group : (l : List ℕ) (n g : ℕ) (f h : ℕ → ℕ) → ((k : ℕ) → k < n → h k ≡ f (g * n + k))
-    → sets (sets l 0 (tabulate (g * n) f)) (g * n) (tabulate n h) ≡ sets l 0 (tabulate ((g + 1) * n) f)
-sets-group l n g f h same =
-    let next : g * n + n ≡ (g + 1) * n = omega arith in
-    let place : 0 + length (tabulate (g * n) f) ≡ g * n = omega (arith, length-tabulate (g * n) f) in
-    let group : ℕ → ℕ = λ k. f (g * n + k) in
-    ap (λ (ws : List ℕ). sets (sets l 0 (tabulate (g * n) f)) (g * n) ws) (tabulate-same n h group same)
-    ∙ ap (λ (at : ℕ). sets (sets l 0 (tabulate (g * n) f)) at (tabulate n group)) (sym place)
-    ∙ sym (sets-append l 0 (tabulate (g * n) f) (tabulate n group))
-    ∙ ap (λ (ws : List ℕ). sets l 0 ws) (sym (tabulate-append (g * n) n f))
-    ∙ ap (λ (m : ℕ). sets l 0 (tabulate m f)) next
 
 -- a turn of a loop that stores a group's words before those of the groups after it, all of them from place `from` on
 pub turn-down : (l : List ℕ) (n g from stop : ℕ) (f : ℕ → ℕ) → (g + 1) * n ≤ stop

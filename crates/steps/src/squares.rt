@@ -2,7 +2,7 @@
 use crate::tests::Tests;
 ghost use mathlib.Core.Path.{_≡_};
 ghost use mathlib.Core.Bool.{true};
-ghost use Prim.Native.Nat.{_+_, _*_, _%_, _<_, _≤_};
+ghost use Prim.Native.Nat.{_+_, _*_, _/_, _%_, _<_, _≤_};
 ghost use lib.ListN.{length, getD};
 ghost use lib.Seq.{sets};
 ghost use Rattle.lists.specs.Tabulate.{tabulate, sum};
@@ -11,6 +11,7 @@ ghost use Rattle.field.specs.Width.{listed, modulus};
 ghost use Rattle.shares.specs.Share.{constantShare, opened, squareShare};
 ghost use Rattle.tape.specs.Layout.{squareCount, groupCount};
 ghost use Rattle.tape.specs.Letters.{squareMask, squareValue};
+ghost use Rattle.encoding.specs.Codes.{levelCode};
 ghost use Rattle.protocol.specs.Words.{Below, FromLine};
 ghost use Rattle.protocol.specs.Squares.{codeDifference, bitDifference, squareOpening, squareClosing, matchCount};
 
@@ -152,31 +153,29 @@ fn close_group(n: u32, side: u32, code: u32, squares: &[u32], g: usize, incoming
     field::reduce_wide(n, total)
 }
 
-// The counts of a test's groups, each in its place of work. A level's code is worked out once.
-fn close_test(
-    n: u32,
-    side: u32,
-    doubled: u32,
-    squares: &[u32],
-    test: usize,
-    incoming: &[u32],
-    work: &mut [u32],
-)
-    requires { ⌜ (listed n ≡ true) × (doubled < modulus n) × (test < 3) × (groupCount n ≤ length (now work)) ⌝ }
-    requires { ⌜ Below (modulus n) (now squares) × (squareCount n * 2 ≤ length (now squares)) ⌝ }
-    requires { ⌜ FromLine n (squareCount n) (now incoming) ⌝ }
-    ensures { λ _. ⌜ now (work .exit)
-        ≡ sets (now (work .entry)) (test * n)
-        (tabulate n (λ i. matchCount n side (λ t. doubled) (now (squares .entry)) (now (incoming .entry)) (test * n + i))) ⌝ }
+// The test of group g. Groups stand in the order test, level; two comparisons take less time than a division.
+fn test_of(n: u32, g: usize) -> usize
+    requires { ⌜ (listed n ≡ true) × (g < groupCount n) ⌝ }
+    ensures { λ r. ⌜ r ≡ g / n ⌝ }
 {
     let m = n as usize;
-    let first = test * m;
-    let mut level = 0;
-    while level < m {
-        let code = encoding::codes::level_code(n, side, doubled, level as u32);
-        work[first + level] = close_group(n, side, code, squares, first + level, incoming);
-        level += 1;
+    if g < m {
+        return 0;
     }
+    if g < 2 * m {
+        return 1;
+    }
+    2
+}
+
+// The code of group g: level g % n of test g / n.
+fn code_of(n: u32, side: u32, tests: Tests, g: usize) -> u32
+    requires { ⌜ (listed n ≡ true) × Below (modulus n) (tests .doubled) × (g < groupCount n) ⌝ }
+    ensures { λ r. ⌜ r ≡ levelCode n side (getD (tests .doubled) (g / n) 0) (g % n) ⌝ }
+{
+    let t = test_of(n, g);
+    let level = g - t * (n as usize);
+    encoding::codes::level_code(n, side, tests.doubled[t], level as u32)
 }
 
 // The counts of all groups, at the front of work.
@@ -196,17 +195,10 @@ pub fn close_squares(
         (tabulate (groupCount n)
         (matchCount n side (λ t. getD (tests .doubled) t 0) (now (squares .entry)) (now (incoming .entry)))) ⌝ }
 {
-    let mut test = 0;
-    while test < 3 {
-        close_test(
-            n,
-            side,
-            tests.doubled[test],
-            squares,
-            test,
-            incoming,
-            &mut *work,
-        );
-        test += 1;
+    let groups = crate::places::group_count(n);
+    let mut g: usize = 0;
+    while g < groups {
+        work[g] = close_group(n, side, code_of(n, side, tests, g), squares, g, incoming);
+        g += 1;
     }
 }

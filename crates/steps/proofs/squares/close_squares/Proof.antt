@@ -1,92 +1,102 @@
--- `steps::squares::close_squares` meets its contract. The loop's invariant: the counts of the tests passed stand at the front.
-use Prim.Native.Nat.{ℕ, _+_, _-_, _*_, _%_, _<_, _≤_}
-use mathlib.Core.Path.{_≡_, refl, ap, _∙_}
+-- `steps::squares::close_squares` meets its contract. The loop's invariant: the counts of the groups passed stand at the front.
+use Prim.Native.Nat.{ℕ, _+_, _-_, _*_, _/_, _%_, _<_}
+use mathlib.Core.Path.{_≡_, sym, ap, _∙_}
 use mathlib.Core.List.{List}
-use native.Mathlib.Nat.{zero-mul, mul-le-mul-right}
 use native.Mathlib.Omega.{arith}
+use native.Mathlib.Nat.{zero-add}
 use borrow.Author.Needs.{needs}
-use lib.ListN.{length, getD}
-use lib.Seq.{sets}
-use Rattle.lists.specs.Tabulate.{tabulate}
+use lib.ListN.{getD}
+use Rattle.lists.specs.Tabulate.{sum}
+use Rattle.lists.proofs.Stores.{Stored, stored-none, stored-more, stored-all}
 use Rattle.lists.proofs.Sums.{sum-same}
 use Rattle.field.specs.Width.{modulus}
 use Rattle.shares.specs.Share.{constantShare}
-use Rattle.protocol.specs.Squares.{squareClosing, matchCount}
-use Rattle.steps.proofs.Groups.{one-test, sets-group}
+use Rattle.tape.specs.Layout.{groupCount}
+use Rattle.encoding.specs.Codes.{levelCode}
+use Rattle.protocol.specs.Squares.{codeDifference, bitDifference, squareClosing, matchCount}
+use Rattle.protocol.proofs.Matches.{group-difference}
 use Rattle.steps.proofs.squares.close_squares.Statement.{statement}
 use Rattle.steps.proofs.squares.close_squares.Tie as tie
 
--- the counts of a test ask for its doubled share alone
-one-count : (n side : ℕ) (d : ℕ → ℕ) (squares incoming : List ℕ) (test i : ℕ) → i < n
-    → matchCount n side (λ t. d test) squares incoming (test * n + i) ≡ matchCount n side d squares incoming (test * n + i)
+-- what a turn of the loop stores
+counts : (n side : ℕ) (d : ℕ → ℕ) (squares incoming : List ℕ) (g : ℕ)
+    → (constantShare side 1
+    + sum n (λ k. squareClosing n side (codeDifference n side (levelCode n side (d (g / n)) (g % n)) k) squares incoming (g * n + k)))
+    % modulus n
+    ≡ matchCount n side d squares incoming g
 unfolding matchCount
-one-count n side d squares incoming test i inside =
-    let g = test * n + i in
-    let row = mul-le-mul-right n inside in
+counts n side d squares incoming g =
     ap (λ (s : ℕ). (constantShare side 1 + s) % modulus n)
-    (sum-same n _ _
-    (λ k less.
-    ap (λ (v : ℕ). squareClosing n side v squares incoming (g * n + k))
-    (one-test n side d test (g * n + k) (omega arith) (omega (arith, row, less)))))
+    (sum-same n
+    (λ k. squareClosing n side (codeDifference n side (levelCode n side (d (g / n)) (g % n)) k) squares incoming (g * n + k))
+    (λ k. squareClosing n side (bitDifference n side d (g * n + k)) squares incoming (g * n + k))
+    (λ k less. ap (λ (v : ℕ). squareClosing n side v squares incoming (g * n + k)) (sym (group-difference n side d g k less))))
 
 abbrev Inv-loop : tie.InvT-loop
-Inv-loop n side squares incoming work₀ tests test₀ work test =
-    (test ≤ 3)
-    × (length work ≡ length work₀)
-    × (work ≡ sets work₀ 0 (tabulate (test * n) (matchCount n side (λ t. getD (tests .doubled) t 0) squares incoming)))
+Inv-loop n side tests squares incoming work₀ groups g₀ work g =
+    Stored work₀ 0 (groupCount n) (matchCount n side (λ t. getD (tests .doubled) t 0) squares incoming) work g
 
 abbrev μ-loop : tie.MeasureT-loop
-μ-loop n side squares incoming work₀ tests test₀ work test = 3 - test
+μ-loop n side tests squares incoming work₀ groups g₀ work g = groupCount n - g
 
 abbrev start : tie.In-loop Inv-loop μ-loop → tie.Start Inv-loop μ-loop
-start t = t .before .before .before .before .before
+start t = t .before .before .before .before .before .before
+
+inside : (t : tie.In-loop Inv-loop μ-loop) → t .before .loop .g < groupCount (start t .args .n)
+inside t = omega (arith, t .before .before .group-count .ensures, t .loop-test .taken)
+
+group-count-requires : tie.Need-group-count-requires Inv-loop μ-loop
+group-count-requires c κs = search needs
 
 loop-holds : tie.Need-loop-holds Inv-loop μ-loop
-loop-holds c = (omega arith, refl, rw (zero-mul (c .before .before .before .args .n)))
+loop-holds c = stored-none
 
-mul-close-test : tie.Need-mul-close-test Inv-loop μ-loop
-mul-close-test c = search needs
+code-of-requires : tie.Need-code-of-requires Inv-loop μ-loop
+code-of-requires c κs =
+    let s = start c in
+    (s .pre .0 .0, s .pre .0 .1, inside c)
 
-element-copy-out-close-test : tie.Need-element-copy-out-close-test Inv-loop μ-loop
-element-copy-out-close-test c = search needs
+close-group-requires : tie.Need-close-group-requires Inv-loop μ-loop
+close-group-requires c κs =
+    let t = c .before in
+    let s = start t in
+    ((s .pre .0 .0, inside t), (s .pre .1 .0 .0, s .pre .1 .0 .1, s .pre .1 .1))
 
-close-test-requires : tie.Need-close-test-requires Inv-loop μ-loop
-close-test-requires c κs =
+mul-work : tie.Need-mul-work Inv-loop μ-loop
+mul-work c =
     let t = c .before .before in
-    let s = start t in (
-      (s .pre .0 .0, s .pre .0 .1 .at _, t .loop-test .taken, omega (arith, t .before .loop .inv .1, s .pre .0 .2)),
-      s .pre .1,
-    )
+    omega (arith, inside t, start t .fits .n)
 
-add-test : tie.Need-add-test Inv-loop μ-loop
-add-test c = search needs
+slice-write-work : tie.Need-slice-write-work Inv-loop μ-loop
+slice-write-work c =
+    let t = c .before .before in
+    omega (arith, inside t, t .before .loop .inv .long, start t .pre .0 .2)
+
+add-g : tie.Need-add-g Inv-loop μ-loop
+add-g c =
+    let t = c .before .before in
+    omega (arith, inside t, start t .fits .n)
 
 loop-less : tie.Need-loop-less Inv-loop μ-loop
-loop-less c = search needs
+loop-less c =
+    let t = c .before .before in
+    omega (arith, inside t)
 
 loop-again : tie.Need-loop-again Inv-loop μ-loop
 loop-again c =
-    let call = c .before .before in
-    let t = call .before .before .before in
-    let l = t .before in
+    let code = c .before in
+    let t = code .before in
     let a = start t .args in
-    let d : ℕ → ℕ = λ i. getD (a .t3 .doubled) i 0 in
-    let test = l .loop .test in (
-      omega arith,
-      search needs,
-      call .close-test .ensures
-          ∙ rw (l .loop .inv .2)
-          (sets-group (a .work .now) (a .n) test (matchCount (a .n) (a .side) d (a .squares .now) (a .incoming .now)) _
-          (one-count (a .n) (a .side) d (a .squares .now) (a .incoming .now) test)),
-    )
+    let g = t .before .loop .g in
+    stored-more (t .before .loop .inv) _ _ (inside t) (sym (zero-add g))
+    (c .close-group .ensures .0
+    ∙ rw (code .code-of .ensures) (counts (a .n) (a .side) (λ i. getD (a .tests .doubled) i 0) (a .squares .now) (a .incoming .now) g))
 
 same-length : tie.Need-same-length Inv-loop μ-loop
 same-length c = search needs
 
 returns : tie.Need-returns Inv-loop μ-loop
-returns c =
-    let done : c .before .loop .test ≡ 3 = omega arith in
-    rw done at (c .before .loop .inv .2)
+returns c = stored-all (c .before .loop .inv) (omega (arith, c .before .before .group-count .ensures, c .loop-test .left))
 
 pub close-squares-spec : {M : Type 1} → statement M
 close-squares-spec =
@@ -94,11 +104,13 @@ close-squares-spec =
     (tie.spec
     Inv-loop
     μ-loop
+    group-count-requires
     loop-holds
-    mul-close-test
-    element-copy-out-close-test
-    close-test-requires
-    add-test
+    code-of-requires
+    close-group-requires
+    mul-work
+    slice-write-work
+    add-g
     loop-less
     loop-again
     same-length
