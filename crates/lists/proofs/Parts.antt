@@ -2,11 +2,12 @@
 use Prim.Native.Nat.{ℕ, suc, _+_, _≤_}
 use mathlib.Core.Path.{_≡_, sym, ap, ap₂, _∙_}
 use mathlib.Core.List.{List, [], _∷_, _++_}
-use native.Mathlib.Nat.{add-suc}
+use native.Mathlib.Nat.{add-zero, add-suc}
 use native.Mathlib.Omega.{arith}
 use borrow.Rule.Slice.PartMut.{midOf, putMid, put-same}
 use lib.ListN.{length, set, take, drop}
 use lib.Seq.{sets, take-set-le, take-set-lt, drop-set-lt, drop-set-add}
+use Rattle.lists.proofs.Sets.{sets-whole}
 
 -- one store in the part
 mid-set : (at count : ℕ) (l : List ℕ) (i v : ℕ) → suc i ≤ count → set (midOf at count l) i v ≡ midOf at count (set l (at + i) v)
@@ -29,3 +30,10 @@ put-sets at count l low (v ∷ vs) room =
     ∙ ap (λ (part : List ℕ). putMid at count next (sets part (suc low) vs)) (mid-set at count l low v less)
     ∙ put-sets at count next (suc low) vs (omega arith)
     ∙ ap (λ (k : ℕ). sets next k vs) (add-suc at low)
+
+-- a part that is written whole
+pub put-whole : (at count : ℕ) (l part : List ℕ) → length part ≡ length (midOf at count l) → length part ≤ count → putMid at count l part ≡ sets l at part
+put-whole at count l part same room =
+    ap (putMid at count l) (sym (sets-whole (midOf at count l) part same))
+    ∙ put-sets at count l 0 part (omega arith)
+    ∙ ap (λ (k : ℕ). sets l k part) (add-zero at)

@@ -1,35 +1,96 @@
--- The laws of the tally that the calls and the lists go by: a mark is not fresh, a cut leaves a tape fresh only by FF, a mark or a cut at
--- one number changes no other's, and frees none.
-use Prim.Native.Nat.{ℕ, _<_, _≤_}
+-- The laws of the tally that the calls and the lists go by: a mark is not fresh, a cut leaves a tape fresh only by four bytes FF, a mark or a cut
+-- at one number changes no byte outside its group, and frees none.
+use Prim.Native.Nat.{ℕ, _+_, _%_, _<_, _≤_}
 use mathlib.Core.Path.{_≡_, refl, sym, ap, _∙_}
-use mathlib.Core.Bool.{Bool, true, false}
-use mathlib.Core.List.{List}
+use mathlib.Core.Bool.{Bool, true, false, _&&_}
+use mathlib.Core.List.{List, [], _∷_}
+use mathlib.Core.Logic.{_⊎_, inl, inr}
 use native.Mathlib.Omega.{arith}
-use borrow.Author.Tests.{leb-true, eqb-true, eqb-false}
-use lib.Dec.{eqb, leb}
-use lib.ListN.{length, length-set}
-use lib.Seq.{getD-set-same, getD-set-other}
-use Rattle.lists.proofs.Tests.{and-right}
-use Rattle.tally.specs.Tally.{longestTally, tallyFits, tapesOf, isFresh, marked, cutMarked}
+use borrow.Author.Tests.{leb-true, ltb-true, ltb-false, eqb-true, eqb-false}
+use lib.Dec.{eqb, leb, ltb}
+use lib.ListN.{length, getD}
+use lib.Seq.{length-sets}
+use Rattle.lists.proofs.Tests.{and-left, and-right}
+use Rattle.lists.proofs.Sets.{getD-sets-in, getD-sets-out}
+use Rattle.tally.specs.Tally.{Mark, markBytes, longestTally, tallyFits, tapesOf, markAt, markOf, withMark, allFF, isFresh, marked, cutMarked}
 
--- after a cut the tape is fresh just where the cut left FF
-pub cut-leaves : (tally : List ℕ) (number value : ℕ) → number < tapesOf (length tally)
-    → isFresh (cutMarked tally number value) number ≡ eqb value 255
-unfolding tapesOf isFresh cutMarked
-cut-leaves tally number value less = rw (getD-set-same tally number value 0 less) refl
+-- ---- a write of a mark
 
--- a start's mark is 00
+-- a tape's mark lies within the tally
+pub mark-within : (len number : ℕ) → number < tapesOf len → markAt number + markBytes ≤ len
+unfolding tapesOf markAt
+mark-within len number less = omega arith
+
+-- no byte outside its group changes
+pub write-beside : (tally : List ℕ) (number : ℕ) (m : Mark) (k : ℕ) → (k < markAt number) ⊎ (markAt number + markBytes ≤ k)
+    → getD (withMark tally number m) k 0 ≡ getD tally k 0
+unfolding withMark
+write-beside tally number m k beside = getD-sets-out tally (markAt number) (m .first ∷ m .second ∷ m .third ∷ m .fourth ∷ []) k beside
+
+-- the mark with these bytes, by their index
+markFrom : (ℕ → ℕ) → Mark
+markFrom byte = record { first = byte 0; second = byte 1; third = byte 2; fourth = byte 3 }
+
+same-mark : (f g : ℕ → ℕ) → ((i : ℕ) → i < markBytes → f i ≡ g i) → markFrom f ≡ markFrom g
+unfolding markFrom
+same-mark f g same = rw (same 0 (omega arith), same 1 (omega arith), same 2 (omega arith), same 3 (omega arith)) refl
+
+-- what is written is read back
+pub write-read : (tally : List ℕ) (number : ℕ) (m : Mark) → number < tapesOf (length tally) → markOf (withMark tally number m) number ≡ m
+unfolding markOf withMark markFrom
+write-read tally number m less =
+    let bytes : List ℕ = m .first ∷ m .second ∷ m .third ∷ m .fourth ∷ [] in
+    same-mark _ (λ i. getD bytes i 0) (λ i within. getD-sets-in tally (markAt number) bytes i within (mark-within (length tally) number less))
+
+-- the bytes of two marks are apart
+apart : (number k : ℕ) → (k ≡ number → ⊥) → (i : ℕ) → i < markBytes
+    → (markAt k + i < markAt number) ⊎ (markAt number + markBytes ≤ markAt k + i)
+unfolding markAt
+apart number k differ i within = go (ltb k number) refl
+  where
+    go : (t : Bool) → ltb k number ≡ t → (markAt k + i < markAt number) ⊎ (markAt number + markBytes ≤ markAt k + i)
+    go true below = inl (omega (arith, ltb-true k number below))
+    go false above = inr (omega (arith, ltb-false k number above, differ))
+
+-- another tape's mark is as it was
+pub write-other : (tally : List ℕ) (number : ℕ) (m : Mark) (k : ℕ) → (k ≡ number → ⊥) → markOf (withMark tally number m) k ≡ markOf tally k
+unfolding markOf markFrom
+write-other tally number m k differ = same-mark _ _ (λ i within. write-beside tally number m (markAt k + i) (apart number k differ i within))
+
+pub write-length : (tally : List ℕ) (number : ℕ) (m : Mark) → length (withMark tally number m) ≡ length tally
+unfolding withMark
+write-length tally number m = length-sets tally (markAt number) (m .first ∷ m .second ∷ m .third ∷ m .fourth ∷ [])
+
+-- ---- a start's mark, and a cut in it
+
+-- after a cut the tape is fresh just where the cut left four bytes FF
+pub cut-leaves : (tally : List ℕ) (number : ℕ) (left : Mark) → number < tapesOf (length tally)
+    → isFresh (cutMarked tally number left) number ≡ allFF left
+unfolding isFresh cutMarked
+cut-leaves tally number left less = ap allFF (write-read tally number left less)
+
+-- a start's mark is 00 00 00 00
 pub marked-spent : (tally : List ℕ) (number : ℕ) → number < tapesOf (length tally) → isFresh (marked tally number) number ≡ false
-unfolding marked cutMarked
-marked-spent tally number less = cut-leaves tally number 0 less
+unfolding isFresh marked allFF
+marked-spent tally number less = ap allFF (write-read tally number _ less)
 
 pub marked-other : (tally : List ℕ) (number k : ℕ) → (k ≡ number → ⊥) → isFresh (marked tally number) k ≡ isFresh tally k
 unfolding isFresh marked
-marked-other tally number k differ = ap (λ (v : ℕ). eqb v 255) (getD-set-other tally number k 0 0 differ)
+marked-other tally number k differ = ap allFF (write-other tally number _ k differ)
 
-pub cut-other : (tally : List ℕ) (number value k : ℕ) → (k ≡ number → ⊥) → isFresh (cutMarked tally number value) k ≡ isFresh tally k
+pub marked-beside : (tally : List ℕ) (number k : ℕ) → (k < markAt number) ⊎ (markAt number + markBytes ≤ k)
+    → getD (marked tally number) k 0 ≡ getD tally k 0
+unfolding marked
+marked-beside tally number k beside = write-beside tally number _ k beside
+
+pub cut-other : (tally : List ℕ) (number : ℕ) (left : Mark) (k : ℕ) → (k ≡ number → ⊥) → isFresh (cutMarked tally number left) k ≡ isFresh tally k
 unfolding isFresh cutMarked
-cut-other tally number value k differ = ap (λ (v : ℕ). eqb v 255) (getD-set-other tally number k value 0 differ)
+cut-other tally number left k differ = ap allFF (write-other tally number left k differ)
+
+pub cut-beside : (tally : List ℕ) (number : ℕ) (left : Mark) (k : ℕ) → (k < markAt number) ⊎ (markAt number + markBytes ≤ k)
+    → getD (cutMarked tally number left) k 0 ≡ getD tally k 0
+unfolding cutMarked
+cut-beside tally number left k beside = write-beside tally number left k beside
 
 -- where a tally is changed at one number, and that was fresh, no number becomes fresh
 pub frees-none : (before after : List ℕ) (number : ℕ) → isFresh before number ≡ true
@@ -42,15 +103,19 @@ frees-none before after number was same k f = go (eqb k number) refl
 
 pub marked-length : (tally : List ℕ) (number : ℕ) → length (marked tally number) ≡ length tally
 unfolding marked
-marked-length tally number = length-set tally number 0
+marked-length tally number = write-length tally number _
 
-pub cut-length : (tally : List ℕ) (number value : ℕ) → length (cutMarked tally number value) ≡ length tally
+pub cut-length : (tally : List ℕ) (number : ℕ) (left : Mark) → length (cutMarked tally number left) ≡ length tally
 unfolding cutMarked
-cut-length tally number value = length-set tally number value
+cut-length tally number left = write-length tally number left
+
+-- ---- lengths
 
 pub tally-most : (len : ℕ) → tallyFits len ≡ true → len ≤ longestTally
 unfolding tallyFits
-tally-most len e = leb-true len longestTally (and-right (leb 1 len) (leb len longestTally) e)
+tally-most len e =
+    let ranged = and-left (leb markBytes len && leb len longestTally) (eqb (len % markBytes) 0) e in
+    leb-true len longestTally (and-right (leb markBytes len) (leb len longestTally) ranged)
 
 pub tapes-most : (len : ℕ) → tapesOf len ≤ len
 unfolding tapesOf

@@ -17,8 +17,13 @@ pub record LateMeans : Type 0 where
   pub below : (tally : List ℕ) (highest number : ℕ) → Highest tally highest → late tally number ≡ ltb number highest
   pub none-spent : (tally : List ℕ) (number : ℕ) → ((k : ℕ) → k < tapesOf (length tally) → isFresh tally k ≡ true) → late tally number ≡ false
 
--- three tapes with a half-written mark, 7F, in the middle: the number below it is late, its own and the one above it are not
+-- three tapes with a half-written mark, FF FF FF 00, in the middle
+abbrev pub halfWritten : List ℕ
+halfWritten = 255 ∷ 255 ∷ 255 ∷ 255 ∷ 255 ∷ 255 ∷ 255 ∷ 0 ∷ 255 ∷ 255 ∷ 255 ∷ 255 ∷ []
+
+-- it is spent, the number below it is late, its own and the one above it are not
 pub record Around : Type 0 where
-  pub just-below : late (255 ∷ 127 ∷ 255 ∷ []) 0 ≡ true
-  pub at-it : late (255 ∷ 127 ∷ 255 ∷ []) 1 ≡ false
-  pub just-above : late (255 ∷ 127 ∷ 255 ∷ []) 2 ≡ false
+  pub spent : isFresh halfWritten 1 ≡ false
+  pub just-below : late halfWritten 0 ≡ true
+  pub at-it : late halfWritten 1 ≡ false
+  pub just-above : late halfWritten 2 ≡ false
