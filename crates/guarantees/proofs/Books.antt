@@ -53,7 +53,7 @@ module _ (g : Setting) (log : List Event) (es : List Entry) (place : ℕ) (w : W
   booked (hear number round lent incoming) end = tt
   booked drop end = tt
   booked (cut room) end = tt
-  booked (cutStart number lent value room) end = tt
+  booked (cutStart number lent mark room) end = tt
 
   -- the second run's shares stand at the same places
   pub booked-too : (g′ : Setting) (w′ : World) (step : Step) → LowEquivalent w w′ → SameGround g g′ place w w′ c step
@@ -71,4 +71,4 @@ module _ (g : Setting) (log : List Event) (es : List Entry) (place : ℕ) (w : W
   booked-too g′ w′ (hear number round lent incoming) k f end = tt
   booked-too g′ w′ drop k f end = tt
   booked-too g′ w′ (cut room) k f end = tt
-  booked-too g′ w′ (cutStart number lent value room) k f end = tt
+  booked-too g′ w′ (cutStart number lent mark room) k f end = tt

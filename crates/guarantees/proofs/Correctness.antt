@@ -60,7 +60,7 @@ module _ (g : Setting) (pair : ℕ) (orders : InOrder g pair) (log : List Event)
   booked es place w c (hear number round lent incoming) marked at end = tt
   booked es place w c drop marked at end = tt
   booked es place w c (cut room) marked at end = tt
-  booked es place w c (cutStart number lent value room) marked at end = tt
+  booked es place w c (cutStart number lent mark room) marked at end = tt
 
   -- a whole run
   record Ran (w : World) : Type 0 where

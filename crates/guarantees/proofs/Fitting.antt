@@ -78,4 +78,4 @@ fitting-next g place w c (speak number round lent out) f =
 fitting-next g place w c (hear number round lent incoming) f = fitting-after w c _ _ f (λ m least. fits-none m)
 fitting-next g place w c drop f = fitting-after w c _ _ f (λ m least. fits-none m)
 fitting-next g place w c (cut room) f = fitting-after w c _ _ f (λ m least. fits-none m)
-fitting-next g place w c (cutStart number lent value room) f = fitting-after w c _ _ f (λ m least. fits-none m)
+fitting-next g place w c (cutStart number lent mark room) f = fitting-after w c _ _ f (λ m least. fits-none m)

@@ -100,7 +100,7 @@ module _ (g : Setting) (book : Box → Key → Lending) where
   Booked place w b (hear number round lent incoming) = Unit {0}
   Booked place w b drop = Unit {0}
   Booked place w b (cut room) = Unit {0}
-  Booked place w b (cutStart number lent value room) = Unit {0}
+  Booked place w b (cutStart number lent mark room) = Unit {0}
 
   -- ---- a phase that is settled
 
@@ -425,5 +425,5 @@ module _ (g : Setting) (book : Box → Key → Lending) where
       after-invariant w b _ _ f (drop-holds b (memoryOf w b) (f .each b)) (quiet-drop (memoryOf w b) _ refl)
   invariant-next pair orders place w b (cut room) f keeps booked =
       after-invariant w b _ _ f (cut-holds b place room (memoryOf w b) _) (cut-conforms (memoryOf w b .state) _ refl)
-  invariant-next pair orders place w b (cutStart number lent value room) f keeps booked =
+  invariant-next pair orders place w b (cutStart number lent mark room) f keeps booked =
       after-invariant w b _ _ f (cut-holds b place room (memoryOf w b) _) (cut-conforms (memoryOf w b .state) _ refl)

@@ -8,7 +8,7 @@ use borrow.Author.Tests.{eqb-true}
 use lib.Dec.{eqb}
 use lib.ListN.{length}
 use Rattle.lists.proofs.Tests.{and-left, and-right}
-use Rattle.tally.specs.Tally.{tapesOf, isFresh, late, marked, cutMarked}
+use Rattle.tally.specs.Tally.{Mark, tapesOf, isFresh, late, marked, cutMarked}
 use Rattle.tally.proofs.Marks.{marked-spent, marked-other, marked-length, cut-other, cut-length, frees-none}
 use Rattle.protocol.specs.Rounds.{lastRound, answerShare}
 use Rattle.rules.specs.Answers.{started, heard, share}
@@ -166,22 +166,22 @@ start-more w b number x y tape =
     (same-tally w b _ _ refl refl refl)
 
 -- a cut in a start's mark: the tally stays, or the mark's number was fresh
-cut-more : (w : World) (b : Box) (m : Memory) (e : Event) (ground number value : ℕ) → e .box ≡ b → isOpening (kindOf (e .said)) ≡ false
+cut-more : (w : World) (b : Box) (m : Memory) (e : Event) (ground number : ℕ) (mark : Mark) → e .box ≡ b → isOpening (kindOf (e .said)) ≡ false
     → (ground ≡ 0 → isFresh (memoryOf w b .tally) number ≡ true)
-    → m .tally ≡ cond (eqb ground 0) (cutMarked (memoryOf w b .tally) number value) (memoryOf w b .tally) → OneMore w (after w b m e)
-cut-more w b m e ground number value at none was left = go (eqb ground 0) refl left
+    → m .tally ≡ cond (eqb ground 0) (cutMarked (memoryOf w b .tally) number mark) (memoryOf w b .tally) → OneMore w (after w b m e)
+cut-more w b m e ground number mark at none was left = go (eqb ground 0) refl left
   where
     tally : List ℕ
     tally = memoryOf w b .tally
 
-    go : (t : Bool) → eqb ground 0 ≡ t → m .tally ≡ cond t (cutMarked tally number value) tally → OneMore w (after w b m e)
+    go : (t : Bool) → eqb ground 0 ≡ t → m .tally ≡ cond t (cutMarked tally number mark) tally → OneMore w (after w b m e)
     go false q same = same-tally w b m e at none same
     go true q written =
         dull w b m e at none
         (λ k f.
-        frees-none tally (cutMarked tally number value) number (was (eqb-true ground 0 q)) (cut-other tally number value) k
+        frees-none tally (cutMarked tally number mark) number (was (eqb-true ground 0 q)) (cut-other tally number mark) k
         (ap (λ (t : List ℕ). isFresh t k) (sym written) ∙ f))
-        (ap length written ∙ cut-length tally number value)
+        (ap length written ∙ cut-length tally number mark)
 
 pub one-more : (g : Setting) (place : ℕ) (w : World) (b : Box) (step : Step) → OneMore w (stepped g place w b step)
 unfolding stepped
@@ -197,11 +197,11 @@ one-more g place w b drop = same-tally w b _ _ refl (drop-opens (memoryOf w b .s
 one-more g place w b (cut room) =
     let m = memoryOf w b in
     same-tally w b (afterCut g place room m (m .tally)) _ refl (ap isOpening (cut-plain (m .state))) refl
-one-more g place w b (cutStart number lent value room) =
+one-more g place w b (cutStart number lent mark room) =
     let m = memoryOf w b in
     let x = g .shares b place .x in
     let y = g .shares b place .y in
-    cut-more w b _ _ (startGround (m .state) number x y (tapeWords g lent) (m .work) (m .tally)) number value refl
+    cut-more w b _ _ (startGround (m .state) number x y (tapeWords g lent) (m .work) (m .tally)) number mark refl
     (ap isOpening (cut-plain (m .state)))
     (λ ground. start-passed (m .state) number x y (tapeWords g lent) (m .work) (m .tally) ground .fresh) refl
 

@@ -111,7 +111,7 @@ keepsTest w b (hear number round lent incoming) =
     ownTape b number (memoryOf w b .state .n) lent && trueTest (w .log) b (keyAt (memoryOf w b .state) number) round incoming
 keepsTest w b drop = true
 keepsTest w b (cut room) = true
-keepsTest w b (cutStart number lent value room) = true
+keepsTest w b (cutStart number lent mark room) = true
 
 keeps-tested : (g : Setting) (place : ℕ) (w : World) (b : Box) (s : Step) → keepsTest w b s ≡ true → Keeps g place w b s
 keeps-tested g place w b (wake n side p) e = tt
@@ -124,7 +124,7 @@ keeps-tested g place w b (hear number round lent incoming) e =
     λ _. (own-tape b number (memoryOf w b .state .n) lent (and-left own said e), true-message (w .log) b key round incoming (and-right own said e))
 keeps-tested g place w b drop e = tt
 keeps-tested g place w b (cut room) e = tt
-keeps-tested g place w b (cutStart number lent value room) e = tt
+keeps-tested g place w b (cutStart number lent mark room) e = tt
 
 abbrev meetsTest : Setting → ℕ → World → List Entry → Bool
 meetsTest g place w [] = true
@@ -161,7 +161,7 @@ module _ (shares′ : Box → ℕ → Lending) (g : Setting) where
   compatibleTest place w b (hear number round lent incoming) = true
   compatibleTest place w b drop = true
   compatibleTest place w b (cut room) = true
-  compatibleTest place w b (cutStart number lent value room) = lendTest place w b
+  compatibleTest place w b (cutStart number lent mark room) = lendTest place w b
 
   abbrev allTest : ℕ → World → List Entry → Bool
   allTest place w [] = true
@@ -185,7 +185,7 @@ module _ (shares′ : Box → ℕ → Lending) (g : Setting) where
   compatible-tested place w b (hear number round lent incoming) t = tt
   compatible-tested place w b drop t = tt
   compatible-tested place w b (cut room) t = tt
-  compatible-tested place w b (cutStart number lent value room) t = both-lent place w b t
+  compatible-tested place w b (cutStart number lent mark room) t = both-lent place w b t
 
   all-tested : (place : ℕ) (w : World) (es : List Entry) → allTest place w es ≡ true → AllCompatible shares′ g place w es
   all-tested place w [] t = tt

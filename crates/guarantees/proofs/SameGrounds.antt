@@ -58,7 +58,7 @@ compatible-back g g′ place w w′ c (speak number round lent out) k h = tt
 compatible-back g g′ place w w′ c (hear number round lent incoming) k h = tt
 compatible-back g g′ place w w′ c drop k h = tt
 compatible-back g g′ place w w′ c (cut room) k h = tt
-compatible-back g g′ place w w′ c (cutStart number lent value room) k h =
+compatible-back g g′ place w w′ c (cutStart number lent mark room) k h =
     (in-both-back _ _ (k .memories c) (h .0), in-both-back _ _ (k .memories c) (h .1))
 
 -- ---- tapes
@@ -139,4 +139,4 @@ keeps-too g g′ place w w′ k c (hear number round lent incoming) f h =
     (kept .0 ∙ ap (dealt c number) (k .memories c .state .n), true-too w w′ k c _ _ round incoming (key-same k c number) (kept .1))
 keeps-too g g′ place w w′ k c drop f h = tt
 keeps-too g g′ place w w′ k c (cut room) f h = tt
-keeps-too g g′ place w w′ k c (cutStart number lent value room) f h = tt
+keeps-too g g′ place w w′ k c (cutStart number lent mark room) f h = tt

@@ -124,7 +124,7 @@ module _ (g g′ : Setting) (pair : ℕ) (orders : InOrder g pair) (orders′ : 
       → wordsFit (memoryOf w c .state .n) (lineWords (w .log) incoming) ≡ true
   Below w w′ c drop = Unit {0}
   Below w w′ c (cut room) = Unit {0}
-  Below w w′ c (cutStart number lent value room) = Unit {0}
+  Below w w′ c (cutStart number lent mark room) = Unit {0}
 
   same-ground : (place : ℕ) (w w′ : World) (c : Box) (step : Step) → Comparable w w′ → Compatible (g′ .shares) g place w c step
       → Keeps g place w c step → Below w w′ c step → SameGround g g′ place w w′ c step
@@ -146,7 +146,7 @@ module _ (g g′ : Setting) (pair : ℕ) (orders : InOrder g pair) (orders′ : 
       ∙ sym (ground-lent g′ place (memoryOf w′ c) (w′ .log) number round lent incoming)
   same-ground place w w′ c drop j h keeps below = tt
   same-ground place w w′ c (cut room) j h keeps below = tt
-  same-ground place w w′ c (cutStart number lent value room) j h keeps below =
+  same-ground place w w′ c (cutStart number lent mark room) j h keeps below =
       start-ground g g′ pair orders orders′ w w′ (j .low) place c number lent (h .0) (h .1)
 
   comparable-next : (place : ℕ) (w w′ : World) (c : Box) (step : Step) → Comparable w w′ → SameGround g g′ place w w′ c step
@@ -170,7 +170,7 @@ module _ (g g′ : Setting) (pair : ℕ) (orders : InOrder g pair) (orders′ : 
       (true-back w w′ (j .low) c _ _ round incoming (key-same (j .low) c number) (keeps (ground-lent g′ place (memoryOf w′ c) (w′ .log) number round lent incoming ∙ taken) .1))
   true-below place w w′ c drop j keeps = tt
   true-below place w w′ c (cut room) j keeps = tt
-  true-below place w w′ c (cutStart number lent value room) j keeps = tt
+  true-below place w w′ c (cutStart number lent mark room) j keeps = tt
 
   pub same-schedule : (es : List Entry) (place : ℕ) (w w′ : World) → Comparable w w′ → AllCompatible (g′ .shares) g place w es
       → Meets g place w es → Meets g′ place w′ es → LowEquivalent (run g place w es) (run g′ place w′ es)
@@ -220,7 +220,7 @@ module _ (g g′ : Setting) (pair : ℕ) (orders : InOrder g pair) (orders′ : 
       λ taken. rw (j .low .memories c .state .n) (hear-passed (memoryOf w′ c .state) number round _ _ words taken .words)
   narrow-below place w w′ c drop j narrow = tt
   narrow-below place w w′ c (cut room) j narrow = tt
-  narrow-below place w w′ c (cutStart number lent value room) j narrow = tt
+  narrow-below place w w′ c (cutStart number lent mark room) j narrow = tt
 
   narrow-too : (place : ℕ) (w w′ : World) (c : Box) (step : Step) → LowEquivalent w w′ → SameGround g g′ place w w′ c step → Narrow g place w c step
       → Narrow g′ place w′ c step
@@ -234,7 +234,7 @@ module _ (g g′ : Setting) (pair : ℕ) (orders : InOrder g pair) (orders′ : 
   narrow-too place w w′ c (hear number round lent (other words)) k f narrow = λ ground. tt
   narrow-too place w w′ c drop k f narrow = tt
   narrow-too place w w′ c (cut room) k f narrow = tt
-  narrow-too place w w′ c (cutStart number lent value room) k f narrow = tt
+  narrow-too place w w′ c (cutStart number lent mark room) k f narrow = tt
 
   -- what then holds of the second run
   pub record Lasts (es : List Entry) (place : ℕ) (w′ : World) : Type 0 where

@@ -68,7 +68,7 @@ compatible-self g place w (e ∷ es) = (one (e .box) (e .step), compatible-self 
     one b (hear number round lent incoming) = tt
     one b drop = tt
     one b (cut room) = tt
-    one b (cutStart number lent value room) = (inl refl, inl refl)
+    one b (cutStart number lent mark room) = (inl refl, inl refl)
 
 -- ---- the two runs
 

@@ -44,7 +44,7 @@ SameGround g g′ place w w′ b (hear number round lent incoming) =
     ≡ hearGround (memoryOf w′ b .state) number round (tapeWords g′ lent) (memoryOf w′ b .work) (incomingWords g′ place (memoryOf w′ b .state) (w′ .log) incoming)
 SameGround g g′ place w w′ b drop = Unit {0}
 SameGround g g′ place w w′ b (cut room) = Unit {0}
-SameGround g g′ place w w′ b (cutStart number lent value room) =
+SameGround g g′ place w w′ b (cutStart number lent mark room) =
     startGround (memoryOf w b .state) number (g .shares b place .x) (g .shares b place .y) (tapeWords g lent) (memoryOf w b .work) (memoryOf w b .tally)
     ≡ startGround (memoryOf w′ b .state) number (g′ .shares b place .x) (g′ .shares b place .y) (tapeWords g′ lent) (memoryOf w′ b .work) (memoryOf w′ b .tally)
 
@@ -240,7 +240,7 @@ step-consistent g g′ place w w′ b (cut room) k same-ground =
     let t = k .memories b in
     after-low b k (cut-low g g′ place room t (t .tally))
     (record { box = refl; key = open-key (t .state); round = refl; said = ap (λ (job : Bool). covered (cond job lost nothing)) (job-same (t .state)); long = refl })
-step-consistent g g′ place w w′ b (cutStart number lent value room) k same-ground =
+step-consistent g g′ place w w′ b (cutStart number lent mark room) k same-ground =
     let t = k .memories b in
     after-low b k (cut-low g g′ place room t (rw (same-ground, t .tally)))
     (record { box = refl; key = open-key (t .state); round = refl; said = ap (λ (job : Bool). covered (cond job lost nothing)) (job-same (t .state)); long = refl })

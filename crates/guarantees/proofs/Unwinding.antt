@@ -172,7 +172,7 @@ module _ (b : Box) (g g′ : Setting) (pair : ℕ) (book book′ : Box → Key �
         ∙ sym (ground-lent g′ place (memoryOf w′ c) (w′ .log) number round lent incoming)
     same-ground place c drop h = tt
     same-ground place c (cut room) h = tt
-    same-ground place c (cutStart number lent value room) h = start-ground g g′ pair (a .orders) (a .orders′) w w′ (j .low) place c number lent (h .0) (h .1)
+    same-ground place c (cutStart number lent mark room) h = start-ground g g′ pair (a .orders) (a .orders′) w w′ (j .low) place c number lent (h .0) (h .1)
 
     -- each run's board spells the words its own way; the reading is the same
     read-same : (place : ℕ) (c : Box) (number : ℕ) (incoming : Incoming)
@@ -191,7 +191,7 @@ module _ (b : Box) (g g′ : Setting) (pair : ℕ) (book book′ : Box → Key �
         heard-after w w′ c _ _ _ _ (j .low .places) (j .heard-same) (read-same place c number incoming)
     heard-next place c drop = heard-after w w′ c _ _ _ _ (j .low .places) (j .heard-same) refl
     heard-next place c (cut room) = heard-after w w′ c _ _ _ _ (j .low .places) (j .heard-same) refl
-    heard-next place c (cutStart number lent value room) = heard-after w w′ c _ _ _ _ (j .low .places) (j .heard-same) refl
+    heard-next place c (cutStart number lent mark room) = heard-after w w′ c _ _ _ _ (j .low .places) (j .heard-same) refl
 
     -- one entry
     pub related-next : (place : ℕ) (c : Box) (step : Step) → Keeps g place w c step → Compatible (g′ .shares) g place w c step

@@ -28,7 +28,7 @@ Narrow g place w b (hear number round lent incoming) =
     → NotWider (w .log) (memoryOf w b .state .n) incoming
 Narrow g place w b drop = Unit {0}
 Narrow g place w b (cut room) = Unit {0}
-Narrow g place w b (cutStart number lent value room) = Unit {0}
+Narrow g place w b (cutStart number lent mark room) = Unit {0}
 
 -- every entry from a place on
 abbrev pub AllNarrow : Setting → ℕ → World → List Entry → Type 0

@@ -2,6 +2,7 @@
 -- width, a spoken message by the place of its speak in the list; neither by its words.
 use Prim.Native.Nat.{ℕ}
 use mathlib.Core.List.{List}
+use Rattle.tally.specs.Tally.{Mark}
 use Rattle.guarantees.specs.Boxes.{Box}
 
 -- a lent tape: a dealt one, or other words
@@ -23,8 +24,8 @@ pub data Step : Type 0 where
   drop : Step
   -- the power fails between two calls; work has so many words then
   cut : (room : ℕ) → Step
-  -- the power fails in a start's mark, which leaves the value there
-  cutStart : (number : ℕ) → Lent → (value room : ℕ) → Step
+  -- the power fails in a start's write of its mark, which leaves these four bytes there
+  cutStart : (number : ℕ) → Lent → (mark : Mark) → (room : ℕ) → Step
 
 pub record Entry : Type 0 where
   pub box : Box

@@ -11,6 +11,7 @@ use Rattle.tape.specs.Plain.{plainTape}
 use Rattle.encoding.specs.Matching.{indicator}
 use Rattle.protocol.specs.Work.{workLength}
 use Rattle.protocol.specs.Rounds.{earlierRounds, lastRound, roundWords}
+use Rattle.tally.specs.Tally.{Mark, markBytes}
 use Rattle.rules.specs.Answers.{started, share, refused}
 use Rattle.rules.specs.Grounds.{startGround}
 use Rattle.rules.specs.declared.state.Phase.the-variants.{Asleep}
@@ -41,7 +42,7 @@ plainCommon entries b =
     record {
       entries = entries;
       states = λ c. record { n = 0; side = 0; pair = 0; tally = 0; phase = Asleep };
-      tallies = λ c. 255 ∷ 255 ∷ [];
+      tallies = λ c. replicate (2 * markBytes) 255;
       rooms = λ c. workLength 3;
       pair = pairNumber;
       others = plainSet (otherBox b);
@@ -92,9 +93,13 @@ lastHears place = place + 2 + 4 * earlierRounds + 2
 unfoldable pub whole : List Entry
 whole = wakes box1 ∷ wakes box2 ∷ jobFrom 2
 
--- at first the power fails in box 1's mark, which leaves FF there, and a word more in work; the later job is on that very tape
+-- a mark of four bytes FF
+abbrev pub unmarked : Mark
+unmarked = record { first = 255; second = 255; third = 255; fourth = 255 }
+
+-- at first the power fails in box 1's mark, which leaves FF in all four bytes, and a word more in work; the later job is on that very tape
 unfoldable pub again : List Entry
-again = wakes box1 ∷ wakes box2 ∷ (box1 does cutStart 0 (dealt box1 0 3) 255 (workLength 3 + 1)) ∷ wakes box1 ∷ jobFrom 4
+again = wakes box1 ∷ wakes box2 ∷ (box1 does cutStart 0 (dealt box1 0 3) unmarked (workLength 3 + 1)) ∷ wakes box1 ∷ jobFrom 4
 
 -- the box answers at that place, on tape 0, with that share
 pub record AnswersAt (log : List Event) (place : ℕ) (b : Box) (v : ℕ) : Type 0 where

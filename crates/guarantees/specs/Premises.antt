@@ -41,7 +41,7 @@ Keeps g place w b (hear number round lent incoming) =
     → (lent ≡ dealt b number (memoryOf w b .state .n)) × TrueMessage (w .log) b (keyAt (memoryOf w b .state) number) round incoming
 Keeps g place w b drop = Unit {0}
 Keeps g place w b (cut room) = Unit {0}
-Keeps g place w b (cutStart number lent value room) = Unit {0}
+Keeps g place w b (cutStart number lent mark room) = Unit {0}
 
 -- every entry from a place on keeps to them
 abbrev pub Meets : Setting → ℕ → World → List Entry → Type 0
@@ -71,7 +71,7 @@ Compatible shares′ g place w b (speak number round lent out) = Unit {0}
 Compatible shares′ g place w b (hear number round lent incoming) = Unit {0}
 Compatible shares′ g place w b drop = Unit {0}
 Compatible shares′ g place w b (cut room) = Unit {0}
-Compatible shares′ g place w b (cutStart number lent value room) =
+Compatible shares′ g place w b (cutStart number lent mark room) =
     InBoth (memoryOf w b) (g .shares b place .x) (shares′ b place .x) × InBoth (memoryOf w b) (g .shares b place .y) (shares′ b place .y)
 
 abbrev pub AllCompatible : (Box → ℕ → Lending) → Setting → ℕ → World → List Entry → Type 0

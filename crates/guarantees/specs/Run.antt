@@ -151,10 +151,10 @@ stepped g place w b (cut room) =
     let m = memoryOf w b in
     after w b (afterCut g place room m (m .tally))
     (record { box = b; key = openKey (m .state); round = 0; said = cutSaid (m .state); spoken = []; incoming = [] })
-stepped g place w b (cutStart number lent value room) =
+stepped g place w b (cutStart number lent mark room) =
     let m = memoryOf w b in
     let k = startGround (m .state) number (g .shares b place .x) (g .shares b place .y) (tapeWords g lent) (m .work) (m .tally) in
-    after w b (afterCut g place room m (cond (eqb k 0) (cutMarked (m .tally) number value) (m .tally)))
+    after w b (afterCut g place room m (cond (eqb k 0) (cutMarked (m .tally) number mark) (m .tally)))
     (record { box = b; key = openKey (m .state); round = 0; said = cutSaid (m .state); spoken = []; incoming = [] })
 
 -- the entries from a place on

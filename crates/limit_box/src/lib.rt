@@ -53,7 +53,7 @@ pub fn start(
     match check {
         Check::Refused(refusal) => refused(state, refusal),
         Check::Passed => {
-            tally::mark(&mut tally[number as usize]);
+            tally::spend(tally, number as usize);
             let turn = Turn::Speak(1);
             let next = Phase::Job { turn, number, x, y };
             Outcome {

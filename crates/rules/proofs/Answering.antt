@@ -1,18 +1,18 @@
 -- Demand 1 over the rules, proved: from what is refused (Refusals), what a call that goes on was given (Passed), and its moves (Moves).
-use Prim.Native.Nat.{ℕ, _<_}
+use Prim.Native.Nat.{ℕ, _+_, _<_, _≤_}
 use mathlib.Core.Path.{_≡_, refl, sym, ap, _∙_}
 use mathlib.Core.Bool.{Bool, true, false, cond, or-true, true≢false}
 use mathlib.Core.List.{List, [], _∷_}
+use mathlib.Core.Logic.{_⊎_}
 use native.Mathlib.Omega.{arith}
 use borrow.Author.Tests.{eqb-true, eqb-false, eq-eqb}
 use lib.Dec.{eqb}
 use lib.ListN.{length, getD}
-use lib.Seq.{getD-set-other}
 use Rattle.field.specs.Width.{listed, among}
 use Rattle.shares.specs.Side.{isSide}
 use Rattle.refusals.specs.Numbers.{numberOf}
 use Rattle.refusals.specs.Grounds.{Ground, firstOf, numbersOf}
-use Rattle.tally.specs.Tally.{tallyFits, tapesOf, isFresh, marked}
+use Rattle.tally.specs.Tally.{markBytes, tallyFits, tapesOf, markAt, isFresh}
 use Rattle.rules.specs.Modes.{inRange, modeOf, isAsleep, inJob, asleepState}
 use Rattle.rules.specs.Grounds.{wakeGround, startGround, speakGround, hearGround, dropGround}
 use Rattle.rules.specs.Calls.{wakeRule, startRule}
@@ -22,7 +22,7 @@ use Rattle.rules.specs.Answering.{Answering}
 use Rattle.rules.specs.declared.state.Phase.the-variants.{Asleep}
 use Rattle.rules.specs.declared.state.State.{State}
 use Rattle.rules.proofs.Refusals.{call-by-ground, asleep-refuses, awake-refuses}
-use Rattle.tally.proofs.Marks.{marked-spent, marked-length}
+use Rattle.tally.proofs.Marks.{marked-spent, marked-beside, marked-length}
 use Rattle.rules.proofs.Passed.{start-passed}
 use Rattle.rules.proofs.Moves.{woken, started-job, moves, keeps}
 
@@ -127,11 +127,11 @@ keeps-length : (s : State) (number x y : ℕ) (tape work tally : List ℕ) → s
 unfolding startRule
 keeps-length s number x y tape work tally z = rw z (marked-length tally number)
 
--- the mark changes no other byte
-spends-only : (s : State) (number x y : ℕ) (tape work tally : List ℕ) → startGround s number x y tape work tally ≡ 0 → (k : ℕ) → (k ≡ number → ⊥)
-    → getD (startRule s number x y tape work tally .buffer) k 0 ≡ getD tally k 0
-unfolding startRule marked
-spends-only s number x y tape work tally z k other = rw z (getD-set-other tally number k 0 0 other)
+-- the mark changes no byte outside its group
+spends-only : (s : State) (number x y : ℕ) (tape work tally : List ℕ) → startGround s number x y tape work tally ≡ 0
+    → (k : ℕ) → (k < markAt number) ⊎ (markAt number + markBytes ≤ k) → getD (startRule s number x y tape work tally .buffer) k 0 ≡ getD tally k 0
+unfolding startRule
+spends-only s number x y tape work tally z k beside = rw z (marked-beside tally number k beside)
 
 opened : (s : State) (number x y : ℕ) (tape work tally : List ℕ) → startGround s number x y tape work tally ≡ 0
     → Opens s number x y tally (startRule s number x y tape work tally)

@@ -1,12 +1,13 @@
 -- How a call moves the box: what it finds, answers and leaves where it is not refused, and what a start that takes a job does.
-use Prim.Native.Nat.{ℕ, _+_, _<_}
+use Prim.Native.Nat.{ℕ, _+_, _<_, _≤_}
 use mathlib.Core.Path.{_≡_}
 use mathlib.Core.Bool.{true, false}
 use mathlib.Core.List.{List}
+use mathlib.Core.Logic.{_⊎_}
 use lib.ListN.{length, getD}
 use Rattle.protocol.specs.Rounds.{lastRound, roundWords}
 use Rattle.rules.specs.Answers.{Reply, fresh, started, spoke, heard, share, dropped}
-use Rattle.tally.specs.Tally.{isFresh, late, freshCount}
+use Rattle.tally.specs.Tally.{markBytes, markAt, isFresh, late, freshCount}
 use Rattle.rules.specs.Modes.{modeOf, isAsleep}
 use Rattle.rules.specs.Calls.{Result, startRule}
 use Rattle.rules.specs.AnyCall.{Call, wake, start, speak, hear, drop}
@@ -29,7 +30,7 @@ pub data Moves (n : ℕ) : Phase → Call → Reply → Phase → Type 0 where
   drops : {number x y : ℕ} {turn : Turn} → Moves n (Job turn number x y) drop dropped Idle
 
 -- a start takes a job: the state is awake, the tape is fresh and not late in a lent tally of the state's length, and the tally that is left
--- differs in its byte alone
+-- differs in the tape's four bytes alone
 pub record Opens (s : State) (number x y : ℕ) (lent : List ℕ) (result : Result) : Type 0 where
   pub awake : isAsleep (modeOf s) ≡ false
   pub same-length : length lent ≡ s .tally
@@ -37,7 +38,7 @@ pub record Opens (s : State) (number x y : ℕ) (lent : List ℕ) (result : Resu
   pub not-late : late lent number ≡ false
   pub is-spent : isFresh (result .buffer) number ≡ false
   pub left-length : length (result .buffer) ≡ length lent
-  pub others : (k : ℕ) → (k ≡ number → ⊥) → getD (result .buffer) k 0 ≡ getD lent k 0
+  pub others : (k : ℕ) → (k < markAt number) ⊎ (markAt number + markBytes ≤ k) → getD (result .buffer) k 0 ≡ getD lent k 0
   -- the job is on that tape, with the lent shares
   pub job : modeOf (result .state) ≡ Job (Speak 1) number x y
 

@@ -4,5 +4,5 @@ use Rattle.tally.specs.Tally.{tapesOf, markAt, markOf, allFF, isFresh, l
 use Rattle.tally.specs.Highest.{Around}
 
 pub around : Around
-unfolding tapesOf markAt markOf allFF isFresh late
+unfolding tapesOf isFresh late
 around = record { spent = refl; just-below = refl; at-it = refl; just-above = refl }

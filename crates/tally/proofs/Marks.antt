@@ -18,26 +18,23 @@ use Rattle.tally.specs.Tally.{Mark, markBytes, longestTally, tallyFits, 
 
 -- a tape's mark lies within the tally
 pub mark-within : (len number : ℕ) → number < tapesOf len → markAt number + markBytes ≤ len
-unfolding tapesOf markAt
+unfolding tapesOf
 mark-within len number less = omega arith
 
 -- no byte outside its group changes
 pub write-beside : (tally : List ℕ) (number : ℕ) (m : Mark) (k : ℕ) → (k < markAt number) ⊎ (markAt number + markBytes ≤ k)
     → getD (withMark tally number m) k 0 ≡ getD tally k 0
-unfolding withMark
 write-beside tally number m k beside = getD-sets-out tally (markAt number) (m .first ∷ m .second ∷ m .third ∷ m .fourth ∷ []) k beside
 
 -- the mark with these bytes, by their index
-markFrom : (ℕ → ℕ) → Mark
+abbrev markFrom : (ℕ → ℕ) → Mark
 markFrom byte = record { first = byte 0; second = byte 1; third = byte 2; fourth = byte 3 }
 
 same-mark : (f g : ℕ → ℕ) → ((i : ℕ) → i < markBytes → f i ≡ g i) → markFrom f ≡ markFrom g
-unfolding markFrom
 same-mark f g same = rw (same 0 (omega arith), same 1 (omega arith), same 2 (omega arith), same 3 (omega arith)) refl
 
 -- what is written is read back
 pub write-read : (tally : List ℕ) (number : ℕ) (m : Mark) → number < tapesOf (length tally) → markOf (withMark tally number m) number ≡ m
-unfolding markOf withMark markFrom
 write-read tally number m less =
     let bytes : List ℕ = m .first ∷ m .second ∷ m .third ∷ m .fourth ∷ [] in
     same-mark _ (λ i. getD bytes i 0) (λ i within. getD-sets-in tally (markAt number) bytes i within (mark-within (length tally) number less))
@@ -45,7 +42,6 @@ write-read tally number m less =
 -- the bytes of two marks are apart
 apart : (number k : ℕ) → (k ≡ number → ⊥) → (i : ℕ) → i < markBytes
     → (markAt k + i < markAt number) ⊎ (markAt number + markBytes ≤ markAt k + i)
-unfolding markAt
 apart number k differ i within = go (ltb k number) refl
   where
     go : (t : Bool) → ltb k number ≡ t → (markAt k + i < markAt number) ⊎ (markAt number + markBytes ≤ markAt k + i)
@@ -54,11 +50,9 @@ apart number k differ i within = go (ltb k number) refl
 
 -- another tape's mark is as it was
 pub write-other : (tally : List ℕ) (number : ℕ) (m : Mark) (k : ℕ) → (k ≡ number → ⊥) → markOf (withMark tally number m) k ≡ markOf tally k
-unfolding markOf markFrom
 write-other tally number m k differ = same-mark _ _ (λ i within. write-beside tally number m (markAt k + i) (apart number k differ i within))
 
 pub write-length : (tally : List ℕ) (number : ℕ) (m : Mark) → length (withMark tally number m) ≡ length tally
-unfolding withMark
 write-length tally number m = length-sets tally (markAt number) (m .first ∷ m .second ∷ m .third ∷ m .fourth ∷ [])
 
 -- ---- a start's mark, and a cut in it
@@ -71,7 +65,7 @@ cut-leaves tally number left less = ap allFF (write-read tally number left less)
 
 -- a start's mark is 00 00 00 00
 pub marked-spent : (tally : List ℕ) (number : ℕ) → number < tapesOf (length tally) → isFresh (marked tally number) number ≡ false
-unfolding isFresh marked allFF
+unfolding isFresh marked
 marked-spent tally number less = ap allFF (write-read tally number _ less)
 
 pub marked-other : (tally : List ℕ) (number k : ℕ) → (k ≡ number → ⊥) → isFresh (marked tally number) k ≡ isFresh tally k

@@ -31,21 +31,21 @@ unfoldable pub tapesOf : ℕ → ℕ
 tapesOf len = len / markBytes
 
 -- the place of a tape's first byte
-unfoldable pub markAt : ℕ → ℕ
+abbrev pub markAt : ℕ → ℕ
 markAt number = markBytes * number
 
 -- a tape's mark
-unfoldable pub markOf : List ℕ → ℕ → Mark
+abbrev pub markOf : List ℕ → ℕ → Mark
 markOf tally number =
     let byte : ℕ → ℕ = λ i. getD tally (markAt number + i) 0 in
     record { first = byte 0; second = byte 1; third = byte 2; fourth = byte 3 }
 
 -- a write of a tape's mark: those four bytes in its group, no change elsewhere
-unfoldable pub withMark : List ℕ → ℕ → Mark → List ℕ
+abbrev pub withMark : List ℕ → ℕ → Mark → List ℕ
 withMark tally number m = sets tally (markAt number) (m .first ∷ m .second ∷ m .third ∷ m .fourth ∷ [])
 
 -- fresh when all four bytes are FF hexadecimal; any other mark is spent
-unfoldable pub allFF : Mark → Bool
+abbrev pub allFF : Mark → Bool
 allFF m = eqb (m .first) 255 && eqb (m .second) 255 && eqb (m .third) 255 && eqb (m .fourth) 255
 
 unfoldable pub isFresh : List ℕ → ℕ → Bool

@@ -1,6 +1,5 @@
 -- `limit_box::start` meets its contract: refused by its check, or the mark is written and the job opened.
 use mathlib.Core.Path.{sym}
-use Rattle.tally.specs.Tally.{tapesOf, marked}
 use Rattle.rules.specs.Calls.{startRule}
 use Rattle.rules.proofs.Passed.{start-passed}
 use Rattle.limit_box.proofs.Outcomes.{refused-outcome, passed-outcome, passed-ground}
@@ -20,16 +19,13 @@ refused-requires c κs = search needs
 enum-told : tie.Need-enum-told
 enum-told c = search needs
 
-index-1-mark : tie.Need-index-1-mark
-unfolding tapesOf
-index-1-mark c =
-    let call = c .before .before in
+spend-requires : tie.Need-spend-requires
+spend-requires c κs =
+    let told = c .before in
+    let call = told .before .before in
     let a = call .before .before .before .before .before .args in
-    let ground = passed-ground _ _ (c .enum-told .given .1) (call .start-check .ensures) in
+    let ground = passed-ground _ _ (told .enum-told .given .1) (call .start-check .ensures) in
     start-passed (a .state) (a .number) (a .x) (a .y) (a .tape .now) (a .work .now) (a .tally .now) ground .numbered
-
-mark-requires : tie.Need-mark-requires
-mark-requires c κs = search needs
 
 in-phase-requires : tie.Need-in-phase-requires
 in-phase-requires c κs = search needs
@@ -47,11 +43,12 @@ same-length-2 : tie.Need-same-length-2
 same-length-2 c = search needs
 
 returns-2 : tie.Need-returns-2
-unfolding startRule marked
+unfolding startRule
 returns-2 c =
-    let told = c .before .before .before in
+    let marked = c .before .before .before in
+    let told = marked .before .before in
     let call = told .before .before in
-    rw (c .in-phase .ensures, c .before .mark .ensures) (sym (passed-outcome _ _ _ _ _ (told .enum-told .given .1) (call .start-check .ensures)))
+    rw (c .in-phase .ensures, marked .spend .ensures) (sym (passed-outcome _ _ _ _ _ (told .enum-told .given .1) (call .start-check .ensures)))
 
 pub start-spec : {M : Type 1} → statement M
 start-spec =
@@ -61,8 +58,7 @@ start-spec =
     enum-known-check
     refused-requires
     enum-told
-    index-1-mark
-    mark-requires
+    spend-requires
     in-phase-requires
     same-length
     returns

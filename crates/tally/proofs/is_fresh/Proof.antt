@@ -33,7 +33,6 @@ all-ff a b c d ha hb hc hd =
 
 -- the mark lies within the tally, whose length fits
 within : (s : tie.Start) (i : ℕ) → i < markBytes → markBytes * s .args .number + i < length (s .args .tally .now)
-unfolding markAt
 within s i less = omega (arith, mark-within (length (s .args .tally .now)) (s .args .number) (s .pre))
 
 fits : (s : tie.Start) (i : ℕ) → i < markBytes → markBytes * s .args .number + i < 2 ^ 64
@@ -64,7 +63,7 @@ shared-slice-read-result-4 : tie.Need-shared-slice-read-result-4
 shared-slice-read-result-4 c = within (c .before .before .before .before) 3 (omega arith)
 
 returns : tie.Need-returns
-unfolding markAt markOf allFF isFresh
+unfolding isFresh
 returns c =
     let a = c .before .before .before .before .args in
     let at = markBytes * a .number in

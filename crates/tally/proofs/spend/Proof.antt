@@ -14,7 +14,6 @@ use Rattle.tally.proofs.spend.Tie as tie
 
 -- the mark lies within the tally, whose length fits
 within : (s : tie.Start) → markBytes * s .args .number + markBytes ≤ length (s .args .tally .now)
-unfolding markAt
 within s = mark-within (length (s .args .tally .now)) (s .args .number) (s .pre)
 
 -- so many bytes are lent
@@ -45,7 +44,7 @@ same-length : tie.Need-same-length
 same-length c = search needs
 
 returns : tie.Need-returns
-unfolding marked withMark markAt
+unfolding marked
 returns c =
     let call = c .before .before in
     let s = call .before .before .before in
