@@ -17,7 +17,7 @@ use Rattle.encoding.specs.Matching.{indicator}
 use Rattle.protocol.specs.Work.{workLength}
 use Rattle.protocol.specs.Rounds.{roundWords}
 use Rattle.protocol.proofs.Lengths.{words-most}
-use Rattle.tally.specs.Tally.{tallyFits, tapesOf, isFresh, late, freshCount}
+use Rattle.tally.specs.Tally.{markBytes, tallyFits, tapesOf, isFresh, late, freshCount}
 use Rattle.rules.specs.Modes.{inRange, modeOf, isAsleep}
 use Rattle.rules.specs.Grounds.{wakeGround, startGround}
 use Rattle.rules.specs.Answers.{fresh}
@@ -49,7 +49,7 @@ module _ (n side pair x y : ℕ) (tape work : List ℕ) (width : listed n ≡ tr
   enough = le-leb (workLength n) (length work) room
 
   abbrev idle : State
-  idle = record { n = n; side = side; pair = pair; tally = 1; phase = Idle }
+  idle = record { n = n; side = side; pair = pair; tally = markBytes; phase = Idle }
 
   woken : wakeRule firstState n side pair oneFresh ≡ record { reply = fresh (freshCount oneFresh); state = idle; buffer = oneFresh }
   unfolding wakeRule wakeGround tallyFits

@@ -4,6 +4,7 @@ use mathlib.Core.List.{List}
 use lib.ListN.{replicate}
 use Rattle.protocol.specs.Work.{workLength}
 use Rattle.protocol.specs.Rounds.{roundWords}
+use Rattle.tally.specs.Tally.{markBytes}
 use Rattle.exchange.specs.declared.Shares.{Shares}
 use Rattle.exchange.specs.Jobs.{Lent, lent, Ended, jobOf}
 
@@ -16,7 +17,7 @@ blankWords = replicate (roundWords 31 1) 0
 
 -- the tally of one fresh tape
 abbrev pub oneFresh : List ℕ
-oneFresh = replicate 1 255
+oneFresh = replicate markBytes 255
 
 -- a box with one fresh tape and such memory
 abbrev pub freshLent : Shares → List ℕ → Lent

@@ -41,8 +41,8 @@ pub fn fresh_job(
 {
     let mut w1 = blank_work();
     let mut w2 = blank_work();
-    let mut k1 = [255u8; 1];
-    let mut k2 = [255u8; 1];
+    let mut k1 = [255u8; tally::MARK_BYTES];
+    let mut k2 = [255u8; tally::MARK_BYTES];
     let mut o1 = blank_words();
     let mut o2 = blank_words();
     crate::less(

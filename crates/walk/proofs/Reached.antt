@@ -2,10 +2,10 @@
 use Prim.Native.Nat.{ℕ, zero, suc, _+_, _<_}
 use mathlib.Core.Path.{_≡_, refl, sym, ap, _∙_}
 use mathlib.Core.Bool.{Bool, true}
-use mathlib.Core.List.{List, [], _∷_}
+use mathlib.Core.List.{List, _++_}
 use native.Mathlib.Omega.{arith}
 use borrow.Author.Tests.{ne-eqb}
-use lib.ListN.{length}
+use lib.ListN.{length, replicate}
 use Rattle.lists.specs.Tabulate.{tabulate}
 use Rattle.field.specs.Width.{listed, modulus}
 use Rattle.shares.specs.Side.{isSide}
@@ -27,7 +27,7 @@ use Rattle.walk.specs.Walk.{idleState, jobState, boxTape, filler, freshT
 
 -- ---- box 1 wakes, starts its job on tape 0 and speaks
 
-pub woken-four : wakeRule firstState 3 1 5 freshTally .state ≡ idleState 4
+pub woken-four : wakeRule firstState 3 1 5 freshTally .state ≡ idleState 16
 unfolding wakeRule wakeGround modeOf inRange listed isSide tallyFits
 woken-four = refl
 
@@ -35,15 +35,15 @@ pub woken-tally : wakeRule firstState 3 1 5 freshTally .buffer ≡ freshTally
 unfolding wakeRule wakeGround modeOf inRange listed isSide tallyFits
 woken-tally = refl
 
-pub opened-four : startRule (idleState 4) 0 5 1 (boxTape 1 0) (tabulate 100 (λ k. 6)) freshTally .state ≡ jobState 4 (Speak 1)
+pub opened-four : startRule (idleState 16) 0 5 1 (boxTape 1 0) (tabulate 100 (λ k. 6)) freshTally .state ≡ jobState 16 (Speak 1)
 unfolding startRule startGround modeOf inRange listed isSide tallyFits tapesOf isFresh late modulus inOrder trailerFits bodyInRange plainTape
 opened-four = refl
 
-pub spoken-four : speakRule (jobState 4 (Speak 1)) 0 1 (boxTape 1 0) (tabulate 100 (λ k. 6)) (tabulate 33 (λ k. 6)) .state ≡ jobState 4 (Hear 1)
+pub spoken-four : speakRule (jobState 16 (Speak 1)) 0 1 (boxTape 1 0) (tabulate 100 (λ k. 6)) (tabulate 33 (λ k. 6)) .state ≡ jobState 16 (Hear 1)
 unfolding speakRule speakGround modeOf inRange listed isSide tallyFits tapesOf modulus inOrder trailerFits bodyInRange plainTape roundWords
 spoken-four = refl
 
-pub marked-four : startRule (idleState 4) 0 5 1 (boxTape 1 0) (tabulate 100 (λ k. 6)) freshTally .buffer ≡ tallyAfter 1
+pub marked-four : startRule (idleState 16) 0 5 1 (boxTape 1 0) (tabulate 100 (λ k. 6)) freshTally .buffer ≡ tallyAfter 1
 unfolding startRule startGround modeOf inRange listed isSide tallyFits tapesOf isFresh late marked modulus inOrder trailerFits bodyInRange plainTape
 marked-four = refl
 
@@ -89,12 +89,12 @@ after b e =
 
 -- ---- the tally through a job
 
-spent-after : (steps : ℕ) → 0 < steps → tallyAfter steps ≡ 0 ∷ 255 ∷ 255 ∷ 255 ∷ []
+spent-after : (steps : ℕ) → 0 < steps → tallyAfter steps ≡ replicate 4 0 ++ replicate 12 255
 spent-after steps some = rw (ne-eqb steps 0 (λ e. omega arith)) refl
 
 -- the start marks tape 0, and no later step changes the tally
 pub next-tally : (step : ℕ) (b a : BoxMemory) → b .tally ≡ tallyAfter step
-    → (step ≡ 0 → (b .state ≡ idleState 4) × (b .work ≡ tabulate 100 (λ k. 6)))
+    → (step ≡ 0 → (b .state ≡ idleState 16) × (b .work ≡ tabulate 100 (λ k. 6)))
     → (step + 1 ≡ 1 → After a (a .tally) (startRule (b .state) 0 5 1 (boxTape 1 0) (b .work) (b .tally)))
     → ((step + 1 ≡ 1 → ⊥) → a .tally ≡ b .tally)
     → a .tally ≡ tallyAfter (step + 1)

@@ -87,11 +87,15 @@ pub record Answered (tried : Tried) (state : State) (buffer : List ℕ) (rule : 
 
 -- a tally of four fresh tapes
 abbrev pub freshTally : List ℕ
-freshTally = 255 ∷ 255 ∷ 255 ∷ 255 ∷ []
+freshTally = replicate 16 255
+
+-- the same where tapes 0 and 2 are spent
+abbrev pub spentTally : List ℕ
+spentTally = (replicate 4 0 ++ replicate 4 255) ++ (replicate 4 0 ++ replicate 4 255)
 
 -- box 1's tally after so many steps of a job on tape 0; the start is step 1
 abbrev pub tallyAfter : ℕ → List ℕ
-tallyAfter steps = cond (eqb steps 0) freshTally (0 ∷ 255 ∷ 255 ∷ 255 ∷ [])
+tallyAfter steps = cond (eqb steps 0) freshTally (replicate 4 0 ++ replicate 12 255)
 
 -- a box after a call: the rule's reply, state and buffer
 pub record After (b : BoxMemory) (buffer : List ℕ) (rule : Result) : Type 0 where

@@ -74,7 +74,7 @@ pub fn start(
     y: u32,
     tape: &[u32],
     work: &[u32],
-    tally: [u8; 4],
+    tally: [u8; 16],
 ) -> Tried
     ensures { λ r. ⌜ Answered r state tally (startRule state number x y (now (tape .entry)) (now (work .entry)) tally) ⌝ }
 {
@@ -92,7 +92,7 @@ pub fn plain_start(
     side: u32,
     tape: u32,
     work: &[u32],
-    tally: [u8; 4],
+    tally: [u8; 16],
 ) -> Tried
     ensures { λ r. ⌜ Answered r state tally (startRule state number x y (boxTape side tape) (now (work .entry)) tally) ⌝ }
 {

@@ -20,7 +20,7 @@ pub fn words(round: u32) -> usize
 }
 
 // A start on a tape that is lent with it.
-pub fn start_on(state: State, number: u32, tally: [u8; 4]) -> Tried
+pub fn start_on(state: State, number: u32, tally: [u8; 16]) -> Tried
     ensures { λ r. ⌜ Answered r state tally (startRule state number 5 1 (boxTape 1 number) (tabulate 100 (λ k. 0)) tally) ⌝ }
 {
     let work = [0u32; 100];
@@ -45,7 +45,7 @@ pub fn hear_on(state: State, number: u32, round: u32) -> Tried
 }
 
 // What each of the five answers in that state: a start on tape 1, a speak and a hear on tape 0.
-pub fn all(state: State, round: u32, tally: [u8; 4]) {
+pub fn all(state: State, round: u32, tally: [u8; 16]) {
     short(calls::wake(state, 3, 1, &tally));
     short(start_on(state, 1, tally));
     short(speak_on(state, 0, round));

@@ -25,7 +25,7 @@ fn turns() {
 
 // The hear that is due, lent this tape.
 fn on_tape(tape: &[u32]) -> Tried
-    ensures { λ r. ⌜ Answered r (jobState 4 (Hear 1)) (filler 100) (hearRule (jobState 4 (Hear 1)) 0 1 (now (tape .entry)) (filler 100) (tabulate 33 (λ k. 0))) ⌝ }
+    ensures { λ r. ⌜ Answered r (jobState 16 (Hear 1)) (filler 100) (hearRule (jobState 16 (Hear 1)) 0 1 (now (tape .entry)) (filler 100) (tabulate 33 (λ k. 0))) ⌝ }
 {
     let mut work = [FILLER; 100];
     let incoming = [0u32; 33];
@@ -43,7 +43,7 @@ fn tapes_lent() {
 
 // The hear that is due, of these words.
 pub fn of_words(incoming: &[u32]) -> Tried
-    ensures { λ r. ⌜ Answered r (jobState 4 (Hear 1)) (filler 100) (hearRule (jobState 4 (Hear 1)) 0 1 (boxTape 1 0) (filler 100) (now (incoming .entry))) ⌝ }
+    ensures { λ r. ⌜ Answered r (jobState 16 (Hear 1)) (filler 100) (hearRule (jobState 16 (Hear 1)) 0 1 (boxTape 1 0) (filler 100) (now (incoming .entry))) ⌝ }
 {
     let mut work = [FILLER; 100];
     plain_hear(states::spoken(), 0, 1, 1, 0, &mut work, incoming)
@@ -75,7 +75,7 @@ pub fn changed(place: usize, word: u32) -> [u32; 33]
 // The hear that is due, of those.
 pub fn of_changed(place: usize, word: u32) -> Tried
     requires { ⌜ place < 33 ⌝ }
-    ensures { λ r. ⌜ Answered r (jobState 4 (Hear 1)) (filler 100) (hearRule (jobState 4 (Hear 1)) 0 1 (boxTape 1 0) (filler 100) (set (tabulate 33 (λ k. 0)) place word)) ⌝ }
+    ensures { λ r. ⌜ Answered r (jobState 16 (Hear 1)) (filler 100) (hearRule (jobState 16 (Hear 1)) 0 1 (boxTape 1 0) (filler 100) (set (tabulate 33 (λ k. 0)) place word)) ⌝ }
 {
     let incoming = changed(place, word);
     of_words(&incoming)

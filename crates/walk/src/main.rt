@@ -16,6 +16,7 @@ mod speaks;
 mod starts;
 mod states;
 mod sweeps;
+mod tallies;
 mod tapes;
 mod wakes;
 mod zeros;

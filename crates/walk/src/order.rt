@@ -6,13 +6,12 @@ use crate::say::short;
 use crate::say::text;
 use crate::states;
 use rules::state::State;
-ghost use mathlib.Core.List.{[], _∷_};
 ghost use Rattle.lists.specs.Tabulate.{tabulate};
 ghost use Rattle.rules.specs.Calls.{startRule, speakRule, hearRule};
-ghost use Rattle.walk.specs.Walk.{boxTape, filler, Answered};
+ghost use Rattle.walk.specs.Walk.{boxTape, filler, spentTally, Answered};
 
 fn wakes() {
-    let tally = [255u8; 4];
+    let tally = [255u8; 16];
     text(b"wake, first of several:");
     short(calls::wake(states::idle(), 4, 3, &tally[..0]));
     short(calls::wake(states::asleep(), 4, 3, &tally[..0]));
@@ -24,17 +23,16 @@ fn wakes() {
 
 // A start with shares, tape and work that are refused, where tapes 0 and 2 are spent: 0 and 1 are late.
 fn wrong_start(state: State, number: u32) -> Tried
-    ensures { λ r. ⌜ Answered r state (0 ∷ 255 ∷ 0 ∷ 255 ∷ [])
-        (startRule state number 7 7 (boxTape 2 0) (tabulate 99 (λ k. 0)) (0 ∷ 255 ∷ 0 ∷ 255 ∷ [])) ⌝ }
+    ensures { λ r. ⌜ Answered r state spentTally (startRule state number 7 7 (boxTape 2 0) (tabulate 99 (λ k. 0)) spentTally) ⌝ }
 {
     let work = [0u32; 99];
-    calls::plain_start(state, number, 7, 7, 2, 0, &work, [0, 255, 0, 255])
+    calls::plain_start(state, number, 7, 7, 2, 0, &work, crate::tallies::spent())
 }
 
 // The same, where all are fresh.
 fn wrong_tapes() {
     let less = [0u32; 99];
-    let fresh = [255u8; 4];
+    let fresh = [255u8; 16];
     short(calls::plain_start(states::idle(), 0, 7, 7, 2, 0, &less, fresh));
     short(calls::plain_start(states::idle(), 0, 5, 1, 2, 0, &less, fresh));
 }
@@ -43,7 +41,7 @@ fn wrong_tapes() {
 fn right_tapes() {
     let less = [0u32; 99];
     let work = [0u32; 100];
-    let fresh = [255u8; 4];
+    let fresh = [255u8; 16];
     short(calls::plain_start(states::idle(), 0, 5, 1, 1, 0, &less, fresh));
     short(calls::plain_start(states::idle(), 0, 5, 1, 1, 0, &work, fresh));
 }

@@ -16,7 +16,7 @@ pub struct BoxMemory {
     pub state: State,
     pub work: [u32; 100],
     pub out: [u32; 33],
-    pub tally: [u8; 4],
+    pub tally: [u8; 16],
 }
 
 pub struct Pair {
@@ -31,7 +31,7 @@ pub const LAST: u32 = 2 * compare::words::LAST_ROUND + 1;
 pub fn woken(side: u32) -> BoxMemory
     ensures { λ r. ⌜ After r (r .tally) (wakeRule firstState 3 side 5 freshTally) × (r .work ≡ tabulate 100 (λ k. 6)) × (r .out ≡ tabulate 33 (λ k. 6)) ⌝ }
 {
-    let tally = [255u8; 4];
+    let tally = [255u8; 16];
     let r = limit_box::wake(crate::states::asleep(), 3, side, crate::tapes::PAIR, &tally);
     let answer = r.answer;
     let state = r.state;

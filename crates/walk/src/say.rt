@@ -11,6 +11,15 @@ pub fn number(t: &[u8], count: u32) {
     io::print_decimal(1, count as u64);
 }
 
+// Each of the bytes, in decimal.
+pub fn bytes(list: &[u8]) {
+    let mut i = 0;
+    while i < list.len() {
+        number(b" ", list[i] as u32);
+        i += 1;
+    }
+}
+
 // What was answered, in words.
 pub fn answer(answer: Answer) {
     match answer {

@@ -23,7 +23,7 @@ fn turns() {
 
 // The speak that is due, lent this tape.
 fn on_tape(tape: &[u32]) -> Tried
-    ensures { λ r. ⌜ Answered r (jobState 4 (Speak 1)) (filler 33) (speakRule (jobState 4 (Speak 1)) 0 1 (now (tape .entry)) (tabulate 100 (λ k. 0)) (filler 33)) ⌝ }
+    ensures { λ r. ⌜ Answered r (jobState 16 (Speak 1)) (filler 33) (speakRule (jobState 16 (Speak 1)) 0 1 (now (tape .entry)) (tabulate 100 (λ k. 0)) (filler 33)) ⌝ }
 {
     let work = [0u32; 100];
     let mut out = [FILLER; 33];

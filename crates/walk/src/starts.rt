@@ -3,12 +3,14 @@ use crate::calls::Tried;
 use crate::calls::plain_start;
 use crate::calls::start;
 use crate::five::start_on;
+use crate::say::bytes;
 use crate::say::line;
-use crate::say::number;
 use crate::say::text;
 use crate::states;
+use crate::tallies;
 use crate::tapes;
 use rules::state::State;
+ghost use mathlib.Core.Path.{_≡_};
 ghost use Prim.Native.Nat.{_<_};
 ghost use lib.ListN.{set};
 ghost use Rattle.lists.specs.Tabulate.{tabulate};
@@ -19,14 +21,14 @@ ghost use Rattle.walk.specs.Walk.{idleState, boxTape, freshTally, Answer
 fn on_number(state: State, number: u32) -> Tried
     ensures { λ r. ⌜ Answered r state freshTally (startRule state number 5 1 (boxTape 1 number) (tabulate 100 (λ k. 0)) freshTally) ⌝ }
 {
-    start_on(state, number, [255u8; 4])
+    start_on(state, number, [255u8; 16])
 }
 
 fn states_and_numbers() {
     line(b"start, asleep: ", on_number(states::asleep(), 0));
     line(b"start, in a job: ", on_number(states::opened(), 0));
     line(
-        b"start, tally of 5 bytes at wake, now of 4: ",
+        b"start, tally of 20 bytes at wake, now of 16: ",
         on_number(states::longer(states::idle()), 0),
     );
     line(b"start, number 4: ", on_number(states::idle(), 4));
@@ -37,45 +39,47 @@ fn states_and_numbers() {
 }
 
 // A start on tape 0 with those marks.
-pub fn on_marks(tally: [u8; 4]) -> Tried
-    ensures { λ r. ⌜ Answered r (idleState 4) tally (startRule (idleState 4) 0 5 1 (boxTape 1 0) (tabulate 100 (λ k. 0)) tally) ⌝ }
+pub fn on_marks(tally: [u8; 16]) -> Tried
+    ensures { λ r. ⌜ Answered r (idleState 16) tally (startRule (idleState 16) 0 5 1 (boxTape 1 0) (tabulate 100 (λ k. 0)) tally) ⌝ }
 {
     start_on(states::idle(), 0, tally)
 }
 
-// Half-written bytes are spent too.
-fn spent_bytes() {
-    line(b"start, byte 00: ", on_marks([0, 255, 255, 255]));
-    line(b"start, byte 7F: ", on_marks([127, 255, 255, 255]));
-    line(b"start, byte FE: ", on_marks([254, 255, 255, 255]));
+// One byte is enough to spend a tape, first or last of its mark.
+fn spent_marks() {
+    line(b"start, byte 0 00: ", on_marks(tallies::one_byte(0, 0)));
+    line(b"start, byte 3 FE: ", on_marks(tallies::one_byte(3, 254)));
+    line(
+        b"start, tapes 0 and 2 spent, number 0: ",
+        on_marks(tallies::spent()),
+    );
 }
 
 // Around the highest spent number, and far below it. Of the four only number 1 is fresh and late.
 fn around_spent() {
-    let spent = [0u8, 255, 0, 255];
     line(
         b"start, tapes 0 and 2 spent, number 1: ",
-        start_on(states::idle(), 1, spent),
+        start_on(states::idle(), 1, tallies::spent()),
     );
     line(
         b"start, tapes 0 and 2 spent, number 2: ",
-        start_on(states::idle(), 2, spent),
+        start_on(states::idle(), 2, tallies::spent()),
     );
     line(
         b"start, tapes 0 and 2 spent, number 3: ",
-        start_on(states::idle(), 3, spent),
+        start_on(states::idle(), 3, tallies::spent()),
     );
     line(
-        b"start, tape 3 spent, number 0: ",
-        on_marks([255, 255, 255, 0]),
+        b"start, byte 15 00, number 0: ",
+        on_marks(tallies::one_byte(15, 0)),
     );
 }
 
 // A start with those shares, and that work.
 fn on_shares(x: u32, y: u32, work: &[u32]) -> Tried
-    ensures { λ r. ⌜ Answered r (idleState 4) freshTally (startRule (idleState 4) 0 x y (boxTape 1 0) (now (work .entry)) freshTally) ⌝ }
+    ensures { λ r. ⌜ Answered r (idleState 16) freshTally (startRule (idleState 16) 0 x y (boxTape 1 0) (now (work .entry)) freshTally) ⌝ }
 {
-    plain_start(states::idle(), 0, x, y, 1, 0, work, [255u8; 4])
+    plain_start(states::idle(), 0, x, y, 1, 0, work, [255u8; 16])
 }
 
 fn shares_and_room() {
@@ -88,10 +92,10 @@ fn shares_and_room() {
 
 // A start on number 0 that is lent this tape.
 fn on_tape(tape: &[u32]) -> Tried
-    ensures { λ r. ⌜ Answered r (idleState 4) freshTally (startRule (idleState 4) 0 5 1 (now (tape .entry)) (tabulate 100 (λ k. 0)) freshTally) ⌝ }
+    ensures { λ r. ⌜ Answered r (idleState 16) freshTally (startRule (idleState 16) 0 5 1 (now (tape .entry)) (tabulate 100 (λ k. 0)) freshTally) ⌝ }
 {
     let work = [0u32; 100];
-    start(states::idle(), 0, 5, 1, tape, &work, [255u8; 4])
+    start(states::idle(), 0, 5, 1, tape, &work, [255u8; 16])
 }
 
 fn tape_lengths() {
@@ -104,7 +108,7 @@ fn tape_lengths() {
 // Another word in one place of the tape.
 pub fn on_changed(place: usize, word: u32) -> Tried
     requires { ⌜ place < 148 ⌝ }
-    ensures { λ r. ⌜ Answered r (idleState 4) freshTally (startRule (idleState 4) 0 5 1 (set (boxTape 1 0) place word) (tabulate 100 (λ k. 0)) freshTally) ⌝ }
+    ensures { λ r. ⌜ Answered r (idleState 16) freshTally (startRule (idleState 16) 0 5 1 (set (boxTape 1 0) place word) (tabulate 100 (λ k. 0)) freshTally) ⌝ }
 {
     let tape = tapes::changed(place, word);
     on_tape(&tape)
@@ -123,25 +127,32 @@ fn trailers() {
     line(b"start, tape of n 5: ", on_changed(147, 5));
 }
 
-fn byte(b: u8) {
-    number(b" ", b as u32);
+// The tally after a start on that tape.
+fn tally_after(number: u32, tally: [u8; 16]) -> [u8; 16]
+    ensures { λ r. ⌜ r ≡ startRule (idleState 16) number 5 1 (boxTape 1 number) (tabulate 100 (λ k. 0)) tally .buffer ⌝ }
+{
+    let tape = tapes::plain(1, number);
+    let work = [0u32; 100];
+    let mut after = tally;
+    limit_box::start(states::idle(), number, 5, 1, &tape, &work, &mut after);
+    after
 }
 
-// A start that is taken marks its tape's byte, and no other.
+// A start that is taken marks its tape's four bytes, and no other: its neighbours below are spent and half written, the one above is fresh.
 fn mark() {
-    let b = crate::progress::box1_after(1);
-    let tally = b.tally;
-    text(b"start, the tally after it:");
-    byte(tally[0]);
-    byte(tally[1]);
-    byte(tally[2]);
-    byte(tally[3]);
+    let half = tallies::with_mark([255; 16], 1, [255, 255, 255, 0]);
+    let before = tallies::with_mark(half, 0, [0, 0, 0, 0]);
+    text(b"start on tape 2, the tally before it:");
+    bytes(&before);
+    let after = tally_after(2, before);
+    text(b"\nstart on tape 2, the tally after it:");
+    bytes(&after);
     text(b"\n");
 }
 
 pub fn lines() {
     states_and_numbers();
-    spent_bytes();
+    spent_marks();
     around_spent();
     shares_and_room();
     tape_lengths();

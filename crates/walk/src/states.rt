@@ -39,22 +39,22 @@ pub fn cut(state: State) -> State
 
 // Awake, with a tally of four tapes.
 pub fn idle() -> State
-    ensures { λ r. ⌜ r ≡ idleState 4 ⌝ }
+    ensures { λ r. ⌜ r ≡ idleState 16 ⌝ }
 {
     let woken = crate::progress::woken(1);
     woken.state
 }
 
-// The same, but that the tally had five bytes at wake.
+// The same, but that the tally had a mark more at wake.
 pub fn longer(state: State) -> State
-    ensures { λ r. ⌜ r ≡ withTally state 5 ⌝ }
+    ensures { λ r. ⌜ r ≡ withTally state 20 ⌝ }
 {
     let phase = state.phase;
     State {
         n: state.n,
         side: state.side,
         pair: state.pair,
-        tally: 5,
+        tally: 20,
         phase,
     }
 }
@@ -75,13 +75,13 @@ fn of_box2(state: State) -> State
 
 // Box 1 in a job on tape 0: speak 1 is due.
 fn started() -> BoxMemory
-    ensures { λ r. ⌜ (r .state ≡ jobState 4 (Speak 1)) × (r .work ≡ tabulate 100 (λ k. 6)) × (r .out ≡ tabulate 33 (λ k. 6)) ⌝ }
+    ensures { λ r. ⌜ (r .state ≡ jobState 16 (Speak 1)) × (r .work ≡ tabulate 100 (λ k. 6)) × (r .out ≡ tabulate 33 (λ k. 6)) ⌝ }
 {
     crate::progress::started(crate::progress::woken(1), 1, 5, 1)
 }
 
 pub fn opened() -> State
-    ensures { λ r. ⌜ r ≡ jobState 4 (Speak 1) ⌝ }
+    ensures { λ r. ⌜ r ≡ jobState 16 (Speak 1) ⌝ }
 {
     let started = started();
     started.state
@@ -89,14 +89,14 @@ pub fn opened() -> State
 
 // The same job, where hear 1 is due.
 pub fn hearing() -> BoxMemory
-    ensures { λ r. ⌜ (r .state ≡ jobState 4 (Hear 1)) × (r .work ≡ tabulate 100 (λ k. 6)) ⌝ }
+    ensures { λ r. ⌜ (r .state ≡ jobState 16 (Hear 1)) × (r .work ≡ tabulate 100 (λ k. 6)) ⌝ }
 {
     crate::progress::spoken(started(), 1, 1)
 }
 
 // A box 2 in such a job, with the same shares.
 pub fn box2_hearing() -> BoxMemory
-    ensures { λ r. ⌜ (r .state ≡ withSide (jobState 4 (Hear 1)) 2) × (r .work ≡ tabulate 100 (λ k. 6)) ⌝ }
+    ensures { λ r. ⌜ (r .state ≡ withSide (jobState 16 (Hear 1)) 2) × (r .work ≡ tabulate 100 (λ k. 6)) ⌝ }
 {
     let hearing = hearing();
     let answer = hearing.answer;
@@ -114,7 +114,7 @@ pub fn box2_hearing() -> BoxMemory
 }
 
 pub fn spoken() -> State
-    ensures { λ r. ⌜ r ≡ jobState 4 (Hear 1) ⌝ }
+    ensures { λ r. ⌜ r ≡ jobState 16 (Hear 1) ⌝ }
 {
     let hearing = hearing();
     hearing.state

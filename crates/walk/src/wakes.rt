@@ -1,10 +1,11 @@
 // Wake's grounds: 5, 2, 3, 4. Drop's: 1, 6.
 use crate::calls::wake;
 use crate::say::line;
+use crate::say::text;
 use crate::states;
 
 fn states_and_words() {
-    let tally = [255u8; 4];
+    let tally = [255u8; 16];
     line(b"wake, idle: ", wake(states::idle(), 3, 1, &tally));
     line(b"wake, in a job: ", wake(states::opened(), 3, 1, &tally));
     line(b"wake, n 4: ", wake(states::asleep(), 4, 1, &tally));
@@ -12,21 +13,74 @@ fn states_and_words() {
     line(b"wake, side 3: ", wake(states::asleep(), 3, 3, &tally));
 }
 
-// No byte, the longest tally, and one byte more.
-fn tallies() {
-    let longest = [255u8; 2920];
-    let longer = [255u8; 2921];
+fn of_length(tally: &[u8]) {
+    text(b"wake, tally of ");
+    io::print_decimal(1, tally.len() as u64);
+    line(b" bytes: ", wake(states::asleep(), 3, 1, tally));
+}
+
+// From none to one mark, and from the longest tally to a mark more.
+fn lengths() {
+    let bytes = [255u8; 11684];
+    of_length(&bytes[..0]);
+    of_length(&bytes[..3]);
+    of_length(&bytes[..4]);
+    of_length(&bytes[..5]);
+    of_length(&bytes[..11680]);
+    of_length(&bytes[..11681]);
+    of_length(&bytes);
+}
+
+// Marks are counted, not bytes.
+fn counts() {
+    let each = [
+        255u8,
+        255,
+        255,
+        0,
+        255,
+        255,
+        0,
+        255,
+        255,
+        0,
+        255,
+        255,
+        0,
+        255,
+        255,
+        255,
+    ];
+    let one_mark = crate::tallies::with_mark([255; 16], 1, [0, 0, 255, 255]);
+    let two_marks = [
+        255u8,
+        255,
+        255,
+        0,
+        0,
+        255,
+        255,
+        255,
+        255,
+        255,
+        255,
+        255,
+        255,
+        255,
+        255,
+        255,
+    ];
     line(
-        b"wake, tally of 0 bytes: ",
-        wake(states::asleep(), 3, 1, &longest[..0]),
+        b"wake, one byte of each of four marks 00: ",
+        wake(states::asleep(), 3, 1, &each),
     );
     line(
-        b"wake, tally of 2920 bytes: ",
-        wake(states::asleep(), 3, 1, &longest),
+        b"wake, bytes 4 and 5 of 16 00: ",
+        wake(states::asleep(), 3, 1, &one_mark),
     );
     line(
-        b"wake, tally of 2921 bytes: ",
-        wake(states::asleep(), 3, 1, &longer),
+        b"wake, bytes 3 and 4 of 16 00: ",
+        wake(states::asleep(), 3, 1, &two_marks),
     );
 }
 
@@ -37,6 +91,7 @@ fn drops() {
 
 pub fn lines() {
     states_and_words();
-    tallies();
+    lengths();
+    counts();
     drops();
 }

@@ -10,7 +10,7 @@ use Rattle.walk.proofs.progress.reached.Statement.{statement}
 use Rattle.walk.proofs.progress.reached.Tie as tie
 
 abbrev Inv-loop : tie.InvT-loop
-Inv-loop steps pair₀ step₀ pair step = (step ≤ steps) × (pair .box1 .tally ≡ tallyAfter step) × (step ≡ 0 → (pair .box1 .state ≡ idleState 4) × (pair .box1 .work ≡ tabulate 100 (λ k. 6)))
+Inv-loop steps pair₀ step₀ pair step = (step ≤ steps) × (pair .box1 .tally ≡ tallyAfter step) × (step ≡ 0 → (pair .box1 .state ≡ idleState 16) × (pair .box1 .work ≡ tabulate 100 (λ k. 6)))
 
 abbrev μ-loop : tie.MeasureT-loop
 μ-loop steps pair₀ step₀ pair step = steps - step
