@@ -1,6 +1,6 @@
 -- The numbers around a half-written mark, computed.
 use mathlib.Core.Path.{refl}
-use Rattle.tally.specs.Tally.{tapesOf, markAt, markOf, allFF, isFresh, late}
+use Rattle.tally.specs.Tally.{tapesOf, isFresh, late}
 use Rattle.tally.specs.Highest.{Around}
 
 pub around : Around

@@ -12,6 +12,7 @@ use lib.ListN.{length, getD}
 use lib.Seq.{length-sets}
 use Rattle.lists.proofs.Tests.{and-left, and-right}
 use Rattle.lists.proofs.Sets.{getD-sets-in, getD-sets-out}
+use Rattle.tally.specs.Cuts.{Cuts}
 use Rattle.tally.specs.Tally.{Mark, markBytes, longestTally, tallyFits, tapesOf, markAt, markOf, withMark, allFF, isFresh, marked, cutMarked}
 
 -- ---- a write of a mark
@@ -57,12 +58,6 @@ write-length tally number m = length-sets tally (markAt number) (m .first ∷ m 
 
 -- ---- a start's mark, and a cut in it
 
--- after a cut the tape is fresh just where the cut left four bytes FF
-pub cut-leaves : (tally : List ℕ) (number : ℕ) (left : Mark) → number < tapesOf (length tally)
-    → isFresh (cutMarked tally number left) number ≡ allFF left
-unfolding isFresh cutMarked
-cut-leaves tally number left less = ap allFF (write-read tally number left less)
-
 -- a start's mark is 00 00 00 00
 pub marked-spent : (tally : List ℕ) (number : ℕ) → number < tapesOf (length tally) → isFresh (marked tally number) number ≡ false
 unfolding isFresh marked
@@ -81,11 +76,6 @@ pub cut-other : (tally : List ℕ) (number : ℕ) (left : Mark) (k : ℕ) → (k
 unfolding isFresh cutMarked
 cut-other tally number left k differ = ap allFF (write-other tally number left k differ)
 
-pub cut-beside : (tally : List ℕ) (number : ℕ) (left : Mark) (k : ℕ) → (k < markAt number) ⊎ (markAt number + markBytes ≤ k)
-    → getD (cutMarked tally number left) k 0 ≡ getD tally k 0
-unfolding cutMarked
-cut-beside tally number left k beside = write-beside tally number left k beside
-
 -- where a tally is changed at one number, and that was fresh, no number becomes fresh
 pub frees-none : (before after : List ℕ) (number : ℕ) → isFresh before number ≡ true
     → ((k : ℕ) → (k ≡ number → ⊥) → isFresh after k ≡ isFresh before k) → (k : ℕ) → isFresh after k ≡ true → isFresh before k ≡ true
@@ -102,6 +92,18 @@ marked-length tally number = write-length tally number _
 pub cut-length : (tally : List ℕ) (number : ℕ) (left : Mark) → length (cutMarked tally number left) ≡ length tally
 unfolding cutMarked
 cut-length tally number left = write-length tally number left
+
+-- all that a cut leaves
+pub cuts : Cuts
+unfolding isFresh cutMarked
+cuts tally number left less =
+    record {
+      same-length = cut-length tally number left;
+      in-group = write-read tally number left less;
+      elsewhere = write-beside tally number left;
+      own = ap allFF (write-read tally number left less);
+      others = cut-other tally number left;
+    }
 
 -- ---- lengths
 

@@ -1,2 +1,3 @@
 pub mod Tally
+pub mod Cuts
 pub mod Highest

@@ -76,9 +76,9 @@ pub fn spend(tally: &mut [u8], number: usize)
     requires { ⌜ number < tapesOf (length (now tally)) ⌝ }
     ensures { λ _. ⌜ now (tally .exit) ≡ marked (now (tally .entry)) number ⌝ }
 {
-    let at = MARK_BYTES * number;
-    let end = at + MARK_BYTES;
-    write(&mut tally[at..end]);
+    let from = MARK_BYTES * number;
+    let end = from + MARK_BYTES;
+    write(&mut tally[from..end]);
 }
 
 // The one write of a mark. It is lent that mark alone, and nothing else writes a tally.

@@ -1,5 +1,5 @@
 -- `tally::is_fresh` meets its contract: the four bytes and-ed are FF just where each is.
-use Prim.Native.Nat.{ℕ, _+_, _*_, _^_, _<_, _≤_}
+use Prim.Native.Nat.{ℕ, _+_, _*_, _<_, _≤_}
 use mathlib.Core.Path.{_≡_, refl, _∙_}
 use mathlib.Core.Bool.{Bool, true, false, _&&_}
 use native.Mathlib.Nat.{add-zero}
@@ -8,7 +8,7 @@ use borrow.Author.Tests.{eqb-true, eqb-false}
 use lib.Bits.{bitAnd, and-le-l, and-le-r}
 use lib.Dec.{eqb}
 use lib.ListN.{length, getD}
-use Rattle.tally.specs.Tally.{markBytes, markAt, markOf, allFF, isFresh}
+use Rattle.tally.specs.Tally.{markBytes, isFresh}
 use Rattle.tally.proofs.Marks.{mark-within}
 use Rattle.tally.proofs.is_fresh.Statement.{statement}
 use Rattle.tally.proofs.is_fresh.Tie as tie
@@ -31,36 +31,33 @@ all-ff a b c d ha hb hc hd =
     both-ff (bitAnd (bitAnd a b) c) d (omega (arith, and-le-l (bitAnd a b) c, and-le-l a b)) hd
     ∙ rw (both-ff (bitAnd a b) c (omega (arith, and-le-l a b)) hc, both-ff a b ha hb) refl
 
--- the mark lies within the tally, whose length fits
-within : (s : tie.Start) (i : ℕ) → i < markBytes → markBytes * s .args .number + i < length (s .args .tally .now)
-within s i less = omega (arith, mark-within (length (s .args .tally .now)) (s .args .number) (s .pre))
-
-fits : (s : tie.Start) (i : ℕ) → i < markBytes → markBytes * s .args .number + i < 2 ^ 64
-fits s i less = omega (arith, within s i less, s .good .0 .0)
+-- its last byte lies within the tally, whose length fits
+within : (s : tie.Start) → markBytes * s .args .number + 3 < length (s .args .tally .now)
+within s = omega (arith, mark-within (length (s .args .tally .now)) (s .args .number) (s .pre))
 
 mul-at : tie.Need-mul-at
-mul-at c = omega (arith, fits c 0 (omega arith))
+mul-at c = omega (arith, within c, c .good .0 .0)
 
 shared-slice-read-result : tie.Need-shared-slice-read-result
-shared-slice-read-result c = omega (arith, within (c .before) 0 (omega arith))
+shared-slice-read-result c = omega (arith, within (c .before))
 
 add-result : tie.Need-add-result
-add-result c = omega (arith, fits (c .before) 1 (omega arith))
+add-result c = omega (arith, within (c .before), c .before .good .0 .0)
 
 shared-slice-read-result-2 : tie.Need-shared-slice-read-result-2
-shared-slice-read-result-2 c = within (c .before .before) 1 (omega arith)
+shared-slice-read-result-2 c = omega (arith, within (c .before .before))
 
 add-result-2 : tie.Need-add-result-2
-add-result-2 c = omega (arith, fits (c .before .before) 2 (omega arith))
+add-result-2 c = omega (arith, within (c .before .before), c .before .before .good .0 .0)
 
 shared-slice-read-result-3 : tie.Need-shared-slice-read-result-3
-shared-slice-read-result-3 c = within (c .before .before .before) 2 (omega arith)
+shared-slice-read-result-3 c = omega (arith, within (c .before .before .before))
 
 add-result-3 : tie.Need-add-result-3
-add-result-3 c = omega (arith, fits (c .before .before .before) 3 (omega arith))
+add-result-3 c = omega (arith, within (c .before .before .before), c .before .before .before .good .0 .0)
 
 shared-slice-read-result-4 : tie.Need-shared-slice-read-result-4
-shared-slice-read-result-4 c = within (c .before .before .before .before) 3 (omega arith)
+shared-slice-read-result-4 c = omega (arith, within (c .before .before .before .before))
 
 returns : tie.Need-returns
 unfolding isFresh

@@ -7,7 +7,7 @@ use borrow.Author.Needs.{needs}
 use borrow.Rule.Slice.PartMut.{midOf, mid-len}
 use lib.ListN.{length}
 use Rattle.lists.proofs.Parts.{put-whole}
-use Rattle.tally.specs.Tally.{markBytes, markAt, withMark, marked}
+use Rattle.tally.specs.Tally.{markBytes, marked}
 use Rattle.tally.proofs.Marks.{mark-within}
 use Rattle.tally.proofs.spend.Statement.{statement}
 use Rattle.tally.proofs.spend.Tie as tie
@@ -22,8 +22,8 @@ lent s =
     let at = markBytes * s .args .number in
     mid-len at (at + markBytes) (s .args .tally .now) (within s) ∙ omega arith
 
-mul-at : tie.Need-mul-at
-mul-at c = omega (arith, within (c .before), c .before .good .0 .0)
+mul-from : tie.Need-mul-from
+mul-from c = omega (arith, within (c .before), c .before .good .0 .0)
 
 add-end : tie.Need-add-end
 add-end c = omega (arith, within (c .before), c .before .good .0 .0)
@@ -35,7 +35,7 @@ part-write-start : tie.Need-part-write-start
 part-write-start c = search needs
 
 part-write-end : tie.Need-part-write-end
-part-write-end c = within (c .before)
+part-write-end c = omega (arith, within (c .before))
 
 write-requires : tie.Need-write-requires
 write-requires c κs = lent (c .before .before)
@@ -56,7 +56,7 @@ pub spend-spec : {M : Type 1} → statement M
 spend-spec =
     tie.close
     (tie.spec
-    mul-at
+    mul-from
     add-end
     sub-write
     part-write-start
