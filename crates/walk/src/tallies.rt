@@ -5,30 +5,6 @@ ghost use lib.ListN.{set};
 ghost use Rattle.tally.specs.Tally.{markOf, cutMarked};
 ghost use Rattle.walk.specs.Walk.{freshTally, spentTally};
 
-// Tapes 0 and 2 are spent.
-pub fn spent() -> [u8; 16]
-    ensures { λ r. ⌜ r ≡ spentTally ⌝ }
-{
-    [
-        0,
-        0,
-        0,
-        0,
-        255,
-        255,
-        255,
-        255,
-        0,
-        0,
-        0,
-        0,
-        255,
-        255,
-        255,
-        255,
-    ]
-}
-
 // All bytes are FF but for one.
 pub fn one_byte(place: usize, byte: u8) -> [u8; 16]
     requires { ⌜ place < 16 ⌝ }
@@ -51,4 +27,11 @@ pub fn with_mark(tally: [u8; 16], number: usize, mark: [u8; 4]) -> [u8; 16]
     after[at + 2] = mark[2];
     after[at + 3] = mark[3];
     after
+}
+
+// Tapes 0 and 2 are spent.
+pub fn spent() -> [u8; 16]
+    ensures { λ r. ⌜ r ≡ spentTally ⌝ }
+{
+    with_mark(with_mark([255; 16], 0, [0, 0, 0, 0]), 2, [0, 0, 0, 0])
 }

@@ -3,6 +3,7 @@ use crate::calls::wake;
 use crate::say::line;
 use crate::say::text;
 use crate::states;
+use crate::tallies::with_mark;
 
 fn states_and_words() {
     let tally = [255u8; 16];
@@ -31,57 +32,19 @@ fn lengths() {
     of_length(&bytes);
 }
 
+fn of_marks(label: &[u8], tally: [u8; 16]) {
+    line(label, wake(states::asleep(), 3, 1, &tally));
+}
+
 // Marks are counted, not bytes.
 fn counts() {
-    let each = [
-        255u8,
-        255,
-        255,
-        0,
-        255,
-        255,
-        0,
-        255,
-        255,
-        0,
-        255,
-        255,
-        0,
-        255,
-        255,
-        255,
-    ];
-    let one_mark = crate::tallies::with_mark([255; 16], 1, [0, 0, 255, 255]);
-    let two_marks = [
-        255u8,
-        255,
-        255,
-        0,
-        0,
-        255,
-        255,
-        255,
-        255,
-        255,
-        255,
-        255,
-        255,
-        255,
-        255,
-        255,
-    ];
-    line(
-        b"wake, one byte of each of four marks 00: ",
-        wake(states::asleep(), 3, 1, &each),
-    );
-    line(
-        b"wake, bytes 4 and 5 of 16 00: ",
-        wake(states::asleep(), 3, 1, &one_mark),
-    );
-    line(
-        b"wake, bytes 3 and 4 of 16 00: ",
-        wake(states::asleep(), 3, 1, &two_marks),
-    );
+    let half = [255, 255, 255, 0];
+    let one = with_mark([255; 16], 1, [0, 0, 255, 255]);
+    let two = with_mark(with_mark([255; 16], 0, half), 1, [0, 255, 255, 255]);
+    let all = with_mark(with_mark(two, 2, half), 3, half);
+    of_marks(b"wake, bytes 4 and 5 of 16 00: ", one);
+    of_marks(b"wake, bytes 3 and 4 of 16 00: ", two);
+    of_marks(b"wake, one byte of each of four marks 00: ", all);
 }
 
 fn drops() {
