@@ -11,7 +11,7 @@ use Rattle.refusals.specs.Checks.{groundOf}
 use Rattle.refusals.specs.declared.Check.{Check}
 use Rattle.refusals.specs.declared.Refusal.the-variants.{Width, Room, Seed}
 use Rattle.draws.specs.Draws.{draw}
-use Rattle.tape.specs.Layout.{sectionLength, tapeLength, trailer}
+use Rattle.tape.specs.Layout.{tapeLength, trailer}
 use Rattle.deals.specs.Groups.{groupsOf, groupLength, groupDraws, groupWord}
 
 -- ---- a tape
@@ -21,16 +21,21 @@ abbrev pub drawsBefore : ℕ → ℕ → ℕ
 drawsBefore n zero = 0
 drawsBefore n (suc kind) = drawsBefore n kind + groupsOf n kind * groupDraws n kind
 
--- word i of a section, whose draws come after v: it stands in group i / length, at i % length
-unfoldable pub sectionWord : ℕ → ℕ → ℕ → ℕ → ℕ → ℕ
-sectionWord n side kind v i =
+-- the words of all groups of a kind
+abbrev pub kindLength : ℕ → ℕ → ℕ
+kindLength n kind = groupsOf n kind * groupLength n kind
+
+-- word i of them, whose draws come after v: it stands in group i / length, at i % length
+unfoldable pub kindWord : ℕ → ℕ → ℕ → ℕ → ℕ → ℕ
+kindWord n side kind v i =
     groupWord n side kind (draw v (i / groupLength n kind * groupDraws n kind)) (i % groupLength n kind)
 
-abbrev pub dealtSection : ℕ → ℕ → ℕ → ℕ → List ℕ
-dealtSection seed n side kind = tabulate (sectionLength n kind) (sectionWord n side kind (draw seed (drawsBefore n kind)))
+abbrev pub dealtKind : ℕ → ℕ → ℕ → ℕ → List ℕ
+dealtKind seed n side kind = tabulate (kindLength n kind) (kindWord n side kind (draw seed (drawsBefore n kind)))
 
+-- the last two kinds stand in one section
 abbrev pub dealtBody : ℕ → ℕ → ℕ → List ℕ
-dealtBody seed n side = dealtSection seed n side 0 ++ dealtSection seed n side 1 ++ dealtSection seed n side 2
+dealtBody seed n side = dealtKind seed n side 0 ++ dealtKind seed n side 1 ++ dealtKind seed n side 2 ++ dealtKind seed n side 3
 
 unfoldable pub dealtTape : ℕ → ℕ → ℕ → ℕ → ℕ → List ℕ
 dealtTape seed n pair side number = dealtBody seed n side ++ trailer n pair side number

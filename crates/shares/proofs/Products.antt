@@ -1,4 +1,4 @@
--- With a dealt square or Beaver triple, the two boxes' shares add up to the square or the product. `side` is either box.
+-- With a dealt square, Beaver triple or last group, the two boxes' shares add up to the square or the product. `side` is either box.
 use Prim.Native.Nat.{ℕ, _+_, _*_, _%_, _<_, _≤_}
 use mathlib.Core.Path.{_≡_, sym, ap, _∙_}
 use mathlib.Core.Bool.{true}
@@ -10,7 +10,7 @@ use Rattle.field.proofs.Widths.{bounds}
 use Rattle.field.proofs.Subtraction.{minus-below, plus-minus}
 use Rattle.field.proofs.Congruences.{cong-refl, cong-eq, _⊙_, cong-mod, cong-add, cong-mul}
 use Rattle.shares.specs.Side.{isSide, other}
-use Rattle.shares.specs.Share.{masked, opened, squareShare, productShare}
+use Rattle.shares.specs.Share.{masked, opened, squareShare, productShare, threefoldShare}
 use Rattle.shares.proofs.Sides.{constant-total}
 use Rattle.shares.proofs.Reading.{opened-sum}
 
@@ -52,6 +52,19 @@ pub record DealtTriple (n a1 b1 c1 a2 b2 c2 : ℕ) : Type 0 where
   pub second-right : b2 ≤ modulus n
   pub product : Cong (modulus n) (c1 + c2) ((a1 + a2) * (b1 + b2))
 
+-- those of three masks, of their products by two and of the product of all three
+pub record DealtThreefold (n a1 b1 c1 ab1 ac1 bc1 abc1 a2 b2 c2 ab2 ac2 bc2 abc2 : ℕ) : Type 0 where
+  pub ab : DealtTriple n a1 b1 ab1 a2 b2 ab2
+  pub ac : DealtTriple n a1 c1 ac1 a2 c2 ac2
+  pub bc : DealtTriple n b1 c1 bc1 b2 c2 bc2
+  pub abc : Cong (modulus n) (abc1 + abc2) ((a1 + a2) * (b1 + b2) * (c1 + c2))
+
+-- a product of three sums, multiplied out
+spread : (a b c e f g : ℕ)
+    → a * b * c + (e * (b * c) + (f * (a * c) + (g * (a * b) + (e * f * c + e * g * b + f * g * a + e * f * g))))
+    ≡ (a + e) * (b + f) * (c + g)
+spread a b c e f g = omega arith
+
 module _ (side : ℕ) (s : isSide side ≡ true) where
   pub square-total : {n a1 q1 a2 q2 : ℕ} → DealtSquare n a1 q1 a2 q2 → (v1 v2 : ℕ)
       → let e = opened n (masked n v1 a1) (masked n v2 a2) in
@@ -80,3 +93,33 @@ module _ (side : ℕ) (s : isSide side ≡ true) where
       ⊙ cong-eq {b = (a1 + a2 + e) * (b1 + b2 + f)} (omega arith)
       ⊙ cong-mul (opened-plus n v1 v2 a1 a2 (dealt .first-left) (dealt .second-left))
       (opened-plus n u1 u2 b1 b2 (dealt .first-right) (dealt .second-right))
+
+  -- each term but the last has one dealt factor, and box 1 adds the last
+  pub threefold-total : {n a1 b1 c1 ab1 ac1 bc1 abc1 a2 b2 c2 ab2 ac2 bc2 abc2 : ℕ}
+      → DealtThreefold n a1 b1 c1 ab1 ac1 bc1 abc1 a2 b2 c2 ab2 ac2 bc2 abc2 → (v1 v2 u1 u2 w1 w2 : ℕ)
+      → let e = opened n (masked n v1 a1) (masked n v2 a2) in
+      let f = opened n (masked n u1 b1) (masked n u2 b2) in
+      let g = opened n (masked n w1 c1) (masked n w2 c2) in
+      Cong (modulus n)
+      (threefoldShare n side e f g a1 b1 c1 ab1 ac1 bc1 abc1 + threefoldShare n (other side) e f g a2 b2 c2 ab2 ac2 bc2 abc2)
+      ((v1 + v2) * (u1 + u2) * (w1 + w2))
+  unfolding threefoldShare
+  threefold-total {n} {a1} {b1} {c1} {ab1} {ac1} {bc1} {abc1} {a2} {b2} {c2} {ab2} {ac2} {bc2} {abc2} dealt v1 v2 u1 u2 w1 w2 =
+      let e = opened n (masked n v1 a1) (masked n v2 a2) in
+      let f = opened n (masked n u1 b1) (masked n u2 b2) in
+      let g = opened n (masked n w1 c1) (masked n w2 c2) in
+      let a = a1 + a2 in
+      let b = b1 + b2 in
+      let c = c1 + c2 in
+      cong-add cong-mod cong-mod
+      ⊙ cong-eq
+      {b = (abc1 + abc2) + (e * (bc1 + bc2) + (f * (ac1 + ac2) + (g * (ab1 + ab2) + (e * f * c + e * g * b + f * g * a + e * f * g))))}
+      (omega (arith, constant-total side (e * f * g) s))
+      ⊙ cong-add (dealt .abc)
+      (cong-add (cong-mul cong-refl (dealt .bc .product))
+      (cong-add (cong-mul cong-refl (dealt .ac .product)) (cong-add (cong-mul cong-refl (dealt .ab .product)) cong-refl)))
+      ⊙ cong-eq (spread a b c e f g)
+      ⊙ cong-mul
+      (cong-mul (opened-plus n v1 v2 a1 a2 (dealt .ab .first-left) (dealt .ab .second-left))
+      (opened-plus n u1 u2 b1 b2 (dealt .ab .first-right) (dealt .ab .second-right)))
+      (opened-plus n w1 w2 c1 c2 (dealt .ac .first-right) (dealt .ac .second-right))

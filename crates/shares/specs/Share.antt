@@ -26,3 +26,8 @@ squareShare n side e a q = (q + 2 * (e * a) + constantShare side (e * e)) % modu
 -- the share of v · u, from the opened e = v − a, f = u − b and the Beaver triple (a, b, c)
 unfoldable pub productShare : ℕ → ℕ → ℕ → ℕ → ℕ → ℕ → ℕ → ℕ
 productShare n side e f a b c = (c + e * b + f * a + constantShare side (e * f)) % modulus n
+
+-- the share of v · u · w, from the opened e = v − a, f = u − b, g = w − c and the dealt shares of a, b, c and of their products (document 02, P7)
+unfoldable pub threefoldShare : ℕ → ℕ → ℕ → ℕ → ℕ → ℕ → ℕ → ℕ → ℕ → ℕ → ℕ → ℕ → ℕ
+threefoldShare n side e f g a b c ab ac bc abc =
+    (abc + e * bc + f * ac + g * ab + e * f * c + e * g * b + f * g * a + constantShare side (e * f * g)) % modulus n

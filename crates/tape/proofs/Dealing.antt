@@ -12,13 +12,13 @@ use Rattle.field.proofs.Widths.{bounds}
 use Rattle.field.proofs.Congruences.{cong-refl, cong-eq, cong-sym, _⊙_, cong-mul}
 use Rattle.shares.specs.Side.{isSide, other}
 use Rattle.shares.proofs.Sides.{other-twice}
-use Rattle.shares.proofs.Products.{DealtSquare, DealtTriple}
+use Rattle.shares.proofs.Products.{DealtSquare, DealtTriple, DealtThreefold}
 use Rattle.tape.specs.Layout.{squareCount, groupCount, tripleCount, section}
 use Rattle.tape.specs.Order.{Readable}
-use Rattle.tape.specs.Letters.{squareMask, squareValue, groupInverse, groupPower, tripleLeft, tripleRight, tripleProduct}
-use Rattle.tape.specs.Dealt.{squarePair, inversePair, powerPair, tripleGroup, Matched}
+use Rattle.tape.specs.Letters.{squareMask, squareValue, groupInverse, groupPower, tripleLeft, tripleRight, tripleProduct, lastLetter}
+use Rattle.tape.specs.Dealt.{squarePair, inversePair, powerPair, tripleGroup, threefoldGroup, lastSum, Matched}
 use Rattle.tape.proofs.Orders.{readable, order-side}
-use Rattle.tape.proofs.Letters.{square-mask-below, triple-left-below, triple-right-below}
+use Rattle.tape.proofs.Letters.{square-mask-below, triple-left-below, triple-right-below, last-below}
 
 module _ {n pair number side : ℕ} {own others : List ℕ} (m : Matched n pair number side own others) where
   pub own-readable : Readable n own
@@ -52,6 +52,35 @@ module _ {n pair number side : ℕ} {own others : List ℕ} (m : Matched n pair 
         second-left = le-of-lt (triple-left-below others-readable i l);
         second-right = le-of-lt (triple-right-below others-readable i l);
         product = record { same = eqb-true _ _ (m .triples i l) };
+      }
+
+  -- two masks of the last group and their product are a triple
+  last-triple : (i j k : ℕ) → i < 7 → j < 7
+      → tripleGroup n (lastSum n own others i) (lastSum n own others j) (lastSum n own others k) ≡ true
+      → DealtTriple n (lastLetter n (section n 2 own) i) (lastLetter n (section n 2 own) j) (lastLetter n (section n 2 own) k)
+      (lastLetter n (section n 2 others) i) (lastLetter n (section n 2 others) j) (lastLetter n (section n 2 others) k)
+  unfolding tripleGroup
+  last-triple i j k li lj e =
+      record {
+        first-left = le-of-lt (last-below own-readable i li);
+        first-right = le-of-lt (last-below own-readable j lj);
+        second-left = le-of-lt (last-below others-readable i li);
+        second-right = le-of-lt (last-below others-readable j lj);
+        product = record { same = eqb-true _ _ e };
+      }
+
+  pub dealt-last :
+      let own-word = lastLetter n (section n 2 own) in
+      let other-word = lastLetter n (section n 2 others) in
+      DealtThreefold n (own-word 0) (own-word 1) (own-word 2) (own-word 3) (own-word 4) (own-word 5) (own-word 6)
+      (other-word 0) (other-word 1) (other-word 2) (other-word 3) (other-word 4) (other-word 5) (other-word 6)
+  unfolding threefoldGroup
+  dealt-last =
+      record {
+        ab = last-triple 0 1 3 (omega arith) (omega arith) (m .last-ab);
+        ac = last-triple 0 2 4 (omega arith) (omega arith) (m .last-ac);
+        bc = last-triple 1 2 5 (omega arith) (omega arith) (m .last-bc);
+        abc = record { same = eqb-true _ _ (m .last-abc) };
       }
 
   pub dealt-inverse : (g : ℕ) → g < groupCount n
@@ -95,4 +124,11 @@ module _ {n pair number side : ℕ} {own others : List ℕ} (m : Matched n pair 
               add-comm (tripleRight (section n 2 others) i),
               add-comm (tripleProduct (section n 2 others) i),
             ) (m .triples i l);
+        last-ab = rw (swap 0, swap 1, swap 3) (m .last-ab);
+        last-ac = rw (swap 0, swap 2, swap 4) (m .last-ac);
+        last-bc = rw (swap 1, swap 2, swap 5) (m .last-bc);
+        last-abc = rw (swap 0, swap 1, swap 2, swap 6) (m .last-abc);
       }
+    where
+      swap : (k : ℕ) → lastSum n others own k ≡ lastSum n own others k
+      swap k = add-comm (lastLetter n (section n 2 others) k) (lastLetter n (section n 2 own) k)

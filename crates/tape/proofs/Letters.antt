@@ -6,7 +6,7 @@ use native.Mathlib.Omega.{arith}
 use Rattle.field.specs.Width.{modulus}
 use Rattle.tape.specs.Layout.{squareCount, groupCount, tripleCount, sectionLength, section}
 use Rattle.tape.specs.Order.{Readable}
-use Rattle.tape.specs.Letters.{squareMask, squareValue, groupInverse, groupPower, tripleLeft, tripleRight, tripleProduct}
+use Rattle.tape.specs.Letters.{squareMask, squareValue, groupInverse, groupPower, tripleLeft, tripleRight, tripleProduct, lastLetter}
 use Rattle.tape.proofs.Sections.{section-below}
 
 -- ---- the places
@@ -32,6 +32,9 @@ group-place n g k l most = row-place (groupCount n) (n + 1) g k l (omega arith)
 pub triple-place : (n i : ℕ) → i < tripleCount n → i * 3 + 2 < sectionLength n 2
 triple-place n i l = omega arith
 
+pub last-place : (n k : ℕ) → k < 7 → tripleCount n * 3 + k < sectionLength n 2
+last-place n k l = omega arith
+
 -- ---- the letters are below p
 
 module _ {n : ℕ} {tape : List ℕ} (r : Readable n tape) where
@@ -55,3 +58,6 @@ module _ {n : ℕ} {tape : List ℕ} (r : Readable n tape) where
 
   pub triple-product-below : (i : ℕ) → i < tripleCount n → tripleProduct (section n 2 tape) i < modulus n
   triple-product-below i l = section-below r 2 (omega arith) (i * 3 + 2) (triple-place n i l)
+
+  pub last-below : (k : ℕ) → k < 7 → lastLetter n (section n 2 tape) k < modulus n
+  last-below k l = section-below r 2 (omega arith) (tripleCount n * 3 + k) (last-place n k l)

@@ -17,12 +17,12 @@ use Rattle.shares.specs.Side.{isSide, other}
 use Rattle.shares.specs.Share.{constantShare}
 use Rattle.tape.specs.Layout.{squareCount, groupCount, tripleCount, sectionLength, sectionStart, section, bodyLength, trailer}
 use Rattle.tape.specs.Order.{inOrder}
-use Rattle.tape.specs.Letters.{squareMask, squareValue, groupInverse, groupPower, tripleLeft, tripleRight, tripleProduct}
-use Rattle.tape.specs.Dealt.{squarePair, inversePair, powerPair, tripleGroup, Dealt}
+use Rattle.tape.specs.Letters.{squareMask, squareValue, groupInverse, groupPower, tripleLeft, tripleRight, tripleProduct, lastLetter}
+use Rattle.tape.specs.Dealt.{squarePair, inversePair, powerPair, tripleGroup, threefoldGroup, lastSum, Dealt}
 use Rattle.tape.specs.Plain.{plainWord, plainTape}
 use Rattle.tape.proofs.Sections.{section-within, section-at}
 use Rattle.tape.proofs.Orders.{in-order}
-use Rattle.tape.proofs.Letters.{square-place, group-place, triple-place}
+use Rattle.tape.proofs.Letters.{square-place, group-place, triple-place, last-place}
 
 -- ---- the words of a plain body: 0 in the squares and the triples; in the powers, box 1 has 1 and box 2 has 0
 
@@ -114,6 +114,9 @@ module _ (n pair side number : ℕ) where
   plain-product : (i : ℕ) → i < tripleCount n → tripleProduct (section n 2 tape) i ≡ 0
   plain-product i l = plain-triple (i * 3 + 2) (triple-place n i l)
 
+  plain-last : (k : ℕ) → k < 7 → lastLetter n (section n 2 tape) k ≡ 0
+  plain-last k l = plain-triple (tripleCount n * 3 + k) (last-place n k l)
+
 -- ---- the two plain tapes of one tape number
 
 one-power : (k : ℕ) → 1 ^ k ≡ 1
@@ -121,11 +124,13 @@ one-power zero = refl
 one-power (suc k) = omega (arith, pow-suc 1 k, one-power k)
 
 pub plain-dealt : (n pair number : ℕ) → listed n ≡ true → Dealt n pair number (plainTape n pair 1 number) (plainTape n pair 2 number)
-unfolding isSide other constantShare squarePair inversePair powerPair tripleGroup
+unfolding isSide other constantShare squarePair inversePair powerPair tripleGroup threefoldGroup
 plain-dealt n pair number width =
     let first : 1 ≤ n = omega (arith, bounds width) in
     let zeros = eq-eqb (0 % modulus n) (0 % modulus n) refl in
     let ones = eq-eqb (1 % modulus n) (1 % modulus n) refl in
+    let none : (k : ℕ) → k < 7 → lastSum n (plainTape n pair 1 number) (plainTape n pair 2 number) k ≡ 0 =
+    λ k l. simp plain-last in
     record {
       own-order = plain-order n pair 1 number width refl;
       others-order = plain-order n pair 2 number width refl;
@@ -133,4 +138,8 @@ plain-dealt n pair number width =
       inverses = λ g l. simp (plain-inverse, plain-group) ones;
       powers = λ g k l least most. simp (plain-group, one-power) ones;
       triples = λ i l. simp (plain-left, plain-right, plain-product) zeros;
+      last-ab = rw (none 0 (omega arith), none 1 (omega arith), none 3 (omega arith)) zeros;
+      last-ac = rw (none 0 (omega arith), none 2 (omega arith), none 4 (omega arith)) zeros;
+      last-bc = rw (none 1 (omega arith), none 2 (omega arith), none 5 (omega arith)) zeros;
+      last-abc = rw (none 0 (omega arith), none 1 (omega arith), none 2 (omega arith), none 6 (omega arith)) zeros;
     }

@@ -27,18 +27,18 @@ start-within n (suc zero) less = omega arith
 start-within n (suc (suc zero)) less = omega arith
 start-within n (suc (suc (suc which))) less = absurd (omega arith)
 
--- document 01's figures
-pub body-is : (n : ℕ) → bodyLength n ≡ 9 * (n * n) + 12 * n + 24
+-- the figures of document 01, with document 02's P7
+pub body-is : (n : ℕ) → bodyLength n ≡ 9 * (n * n) + 12 * n + 25
 body-is n = omega arith
 
-pub tape-is : (n : ℕ) → tapeLength n ≡ 9 * (n * n) + 12 * n + 31
+pub tape-is : (n : ℕ) → tapeLength n ≡ 9 * (n * n) + 12 * n + 32
 tape-is n = omega arith
 
 pub back-is : (n pair side number : ℕ)
     → trailer n pair side number
-    ≡ (9 * (n * n) + 12 * n + 24) ∷ (3 * (n * n) + 12 * n + 24) ∷ (9 * n + 24) ∷ pair ∷ side ∷ number ∷ n ∷ []
+    ≡ (9 * (n * n) + 12 * n + 25) ∷ (3 * (n * n) + 12 * n + 25) ∷ (9 * n + 25) ∷ pair ∷ side ∷ number ∷ n ∷ []
 back-is n pair side number =
-    let squares : distanceBack n 0 ≡ 9 * (n * n) + 12 * n + 24 = omega arith in
-    let powers : distanceBack n 1 ≡ 3 * (n * n) + 12 * n + 24 = omega arith in
-    let triples : distanceBack n 2 ≡ 9 * n + 24 = omega arith in
+    let squares : distanceBack n 0 ≡ 9 * (n * n) + 12 * n + 25 = omega arith in
+    let powers : distanceBack n 1 ≡ 3 * (n * n) + 12 * n + 25 = omega arith in
+    let triples : distanceBack n 2 ≡ 9 * n + 25 = omega arith in
     rw (squares, powers, triples) refl

@@ -11,13 +11,17 @@ abbrev pub groupCount : ℕ → ℕ
 groupCount n = 3 * n
 
 abbrev pub tripleCount : ℕ → ℕ
-tripleCount n = 3 * n + 8
+tripleCount n = 3 * n + 6
 
--- the words of section 0, the squares; 1, the power groups; 2, the triples
+-- the words of the last group, which stand behind the triples, last in the body: a, b, c, ab, ac, bc, abc (document 02, P7)
+abbrev pub lastLength : ℕ
+lastLength = 7
+
+-- the words of section 0, the squares; 1, the power groups; 2, the triples and the last group
 abbrev pub sectionLength : ℕ → ℕ → ℕ
 sectionLength n zero = squareCount n * 2
 sectionLength n (suc zero) = groupCount n * (n + 1)
-sectionLength n (suc (suc zero)) = tripleCount n * 3
+sectionLength n (suc (suc zero)) = tripleCount n * 3 + lastLength
 sectionLength n (suc (suc (suc k))) = 0
 
 -- the words before a section; before section 3, all of the body
@@ -32,11 +36,11 @@ section n which tape = take (sectionLength n which) (drop (sectionStart n which)
 abbrev pub trailerLength : ℕ
 trailerLength = 7
 
--- the body's words: those before the section after the last, 9n² + 12n + 24
+-- the body's words: those before the section after the last, 9n² + 12n + 25
 abbrev pub bodyLength : ℕ → ℕ
 bodyLength n = sectionStart n 3
 
--- 9n² + 12n + 31
+-- 9n² + 12n + 32
 abbrev pub tapeLength : ℕ → ℕ
 tapeLength n = bodyLength n + trailerLength
 

@@ -19,6 +19,9 @@ pub const SECTIONS: usize = 3;
 // The words of a trailer.
 pub const TRAILER: usize = 7;
 
+// The words of the last group, behind the triples in their section.
+const LAST_GROUP: usize = 7;
+
 // The words of a block that is looked at as one.
 const BLOCK: usize = 256;
 
@@ -31,7 +34,7 @@ pub fn section_words(n: u32, which: usize) -> usize
     match which {
         0 => 3 * (m * m) * 2,
         1 => 3 * m * (m + 1),
-        _ => (3 * m + 8) * 3,
+        _ => (3 * m + 6) * 3 + LAST_GROUP,
     }
 }
 

@@ -33,6 +33,9 @@ add-result-2 c = search needs
 mul-result-7 : tie.Need-mul-result-7
 mul-result-7 c = search needs
 
+add-result-3 : tie.Need-add-result-3
+add-result-3 c = search needs
+
 returns : tie.Need-returns
 returns c = rw (c .match .keys1) refl
 
@@ -57,6 +60,7 @@ section-words-spec =
     mul-result-6
     add-result-2
     mul-result-7
+    add-result-3
     returns
     returns-2
     returns-3)
