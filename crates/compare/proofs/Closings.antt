@@ -1,8 +1,8 @@
 -- The shares of products, as the code closes them.
 use Prim.Native.Nat.{ℕ, suc, _+_, _*_, _%_, _<_}
-use mathlib.Core.Path.{_≡_, sym, ap, _∙_}
+use mathlib.Core.Path.{_≡_, sym, _∙_}
 use mathlib.Core.List.{List, [], _∷_}
-use native.Mathlib.Nat.{add-zero, mul-one, mod-eq-of-lt}
+use native.Mathlib.Nat.{mul-one, mod-eq-of-lt}
 use native.Mathlib.Numerals.{add-one}
 use native.Mathlib.Omega.{arith}
 use lib.ListN.{length, getD, set}
@@ -13,7 +13,7 @@ use Rattle.lists.proofs.Sets.{sets-whole}
 use Rattle.field.specs.Width.{modulus}
 use Rattle.protocol.specs.Words.{Below}
 use Rattle.protocol.specs.Tests.{exclusive}
-use Rattle.protocol.specs.Products.{Party, Products, triplesOf, closed, closing}
+use Rattle.protocol.specs.Products.{closed}
 use Rattle.protocol.proofs.Ranges.{tabulated-below}
 use Rattle.compare.proofs.Products.{closesWith}
 
@@ -50,10 +50,3 @@ kept-three l (a ∷ b ∷ c ∷ []) at h =
     let two : at + 2 ≡ suc (suc at) = omega arith in
     rw (add-one at, two)
 kept-three l (a ∷ b ∷ c ∷ d ∷ ws) at h = absurd (omega arith)
-
--- the only product, its words at the front
-pub closing-one : (b : Party) (ps : Products) (incoming : List ℕ)
-    → closing b ps incoming 0 0 ≡ closed (b .n) (b .side) (ps .left 0) (ps .right 0) (triplesOf b) (ps .first) incoming 0
-unfolding closing
-closing-one b ps incoming =
-    ap (λ (i : ℕ). closed (b .n) (b .side) (ps .left 0) (ps .right 0) (triplesOf b) i incoming 0) (add-zero (ps .first))

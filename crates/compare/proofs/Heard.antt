@@ -1,4 +1,4 @@
--- What the code stores after rounds 1, 2 and 4 is what the six rounds have.
+-- What the code stores after rounds 1, 2 and 4 is what the rounds have.
 use Prim.Native.Nat.{ℕ, _+_, _*_, _/_, _%_}
 use mathlib.Core.Path.{_≡_, sym, ap, _∙_}
 use mathlib.Core.Bool.{true}

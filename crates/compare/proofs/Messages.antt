@@ -3,9 +3,9 @@ use Prim.Native.Nat.{ℕ, _+_, _-_, _/_, _<_}
 use mathlib.Core.Path.{_≡_, refl, sym, ap, _∙_}
 use mathlib.Core.Bool.{true}
 use mathlib.Core.List.{List, _++_}
-use native.Mathlib.Nat.{add-zero, div-lt-iff-lt-mul}
+use native.Mathlib.Nat.{div-lt-iff-lt-mul}
 use native.Mathlib.Omega.{arith}
-use lib.ListN.{length, getD, set, drop, List·getD-append}
+use lib.ListN.{length, getD, drop, List·getD-append}
 use lib.Seq.{sets, getD-append-add}
 use Rattle.lists.specs.Tabulate.{tabulate}
 use Rattle.lists.specs.Span.{span, later}
@@ -13,25 +13,17 @@ use Rattle.lists.proofs.Tabulate.{length-tabulate, getD-tabulate, tabulated}
 use Rattle.lists.proofs.Span.{span-same, span-shift, sets-later, drop-tabulate}
 use Rattle.field.specs.Width.{listed}
 use Rattle.field.proofs.Widths.{bounds}
-use Rattle.shares.specs.Share.{masked}
 use Rattle.tape.specs.Layout.{squareCount, groupCount}
-use Rattle.tape.specs.Letters.{tripleLeft, tripleRight}
 use Rattle.tape.specs.Order.{Readable}
 use Rattle.protocol.specs.Tests.{lowBit}
-use Rattle.protocol.specs.Work.{sumSlot, wrapSlot, halfSlot, held}
-use Rattle.protocol.specs.Products.{Party, Products, wrapTriple, halfTriple, lastTriple, triplesOf, openLeft, openRight, alternating, openings}
+use Rattle.protocol.specs.Work.{sumSlot, wrapSlot, held}
+use Rattle.protocol.specs.Products.{Party, wrapTriple, triplesOf, openLeft, openRight, alternating, openings}
 use Rattle.protocol.specs.Squares.{bitDifference, squareOpening}
-use Rattle.protocol.specs.Rounds.{squaresOf, powersOf, doubledOf, squareWord, lowProducts, levelProducts, wrapProducts, halfProduct, lastLeft, lastRight, lastProduct, roundWords, message}
+use Rattle.protocol.specs.Answer.{halfOpening}
+use Rattle.protocol.specs.Rounds.{squaresOf, powersOf, doubledOf, squareWord, lowProducts, levelProducts, wrapProducts, halvesHeld, halfWord, roundWords, message}
 use Rattle.protocol.specs.Filling.{filled, lowWord}
 use Rattle.protocol.proofs.Lengths.{message-length}
 use Rattle.compare.proofs.Products.{opensWith, opens-products, level-factors, wrap-factors}
-
--- one product alone
-opens-one : (b : Party) (ps : Products) (out : List ℕ) → ps .count ≡ 1
-    → set (set out 0 (masked (b .n) (ps .left 0) (tripleLeft (triplesOf b) (ps .first)))) 1 (masked (b .n) (ps .right 0) (tripleRight (triplesOf b) (ps .first)))
-    ≡ sets out 0 (openings b ps)
-unfolding openings openLeft openRight
-opens-one b ps out one = rw (one, add-zero)
 
 module _ (b : Party) (work : List ℕ) where
   pub level-message : Readable (b .n) (b .tape)
@@ -46,19 +38,9 @@ module _ (b : Party) (work : List ℕ) where
   unfolding message wrapProducts
   wrap-message width = opens-products (wrap-factors b width work)
 
-  pub half-message : (out : List ℕ)
-      → set (set out 0 (masked (b .n) (held (b .n) work (halfSlot (b .n) 0)) (tripleLeft (triplesOf b) (halfTriple (b .n))))) 1
-      (masked (b .n) (held (b .n) work (halfSlot (b .n) 1)) (tripleRight (triplesOf b) (halfTriple (b .n))))
-      ≡ sets out 0 (message b work 5)
-  unfolding message halfProduct
-  half-message out = opens-one b (halfProduct b work) out refl
-
-  pub last-message : (out : List ℕ)
-      → set (set out 0 (masked (b .n) (lastLeft (b .n) (b .side) work) (tripleLeft (triplesOf b) (lastTriple (b .n))))) 1
-      (masked (b .n) (lastRight (b .n) (b .side) work) (tripleRight (triplesOf b) (lastTriple (b .n))))
-      ≡ sets out 0 (message b work 6)
-  unfolding message lastProduct
-  last-message out = opens-one b (lastProduct b work) out refl
+  pub half-message : tabulate 3 (halfOpening (b .n) (λ k. getD (tabulate 3 (halvesHeld b work)) k 0) (triplesOf b)) ≡ message b work 5
+  unfolding message halfWord halfOpening
+  half-message = refl
 
 -- ---- round 1, put into out from its last word down
 

@@ -1,4 +1,4 @@
-// The factors of the products that rounds 1, 4, 5 and 6 open, from the tests' low bits and from the shares that work holds.
+// What rounds 1, 4 and 5 open, from the tests' low bits and from the shares that work holds.
 use steps::tests::Tests;
 ghost use mathlib.Core.Path.{_≡_};
 ghost use mathlib.Core.Bool.{true};
@@ -9,7 +9,6 @@ ghost use Rattle.field.specs.Width.{listed, modulus};
 ghost use Rattle.shares.specs.Share.{constantShare};
 ghost use Rattle.protocol.specs.Tests.{doubled, lowBit};
 ghost use Rattle.protocol.specs.Work.{sumSlot, wrapSlot, halfSlot, workLength, held};
-ghost use Rattle.protocol.specs.Rounds.{lastLeft, lastRight};
 
 // A side's factors of alpha * beta: the low bits at box 1 and 0 at box 2. For the right factors the side is the other one.
 pub fn lows(side: u32, low: [u32; 3]) -> [u32; 3]
@@ -56,30 +55,13 @@ pub fn known_tests(n: u32, x: u32, y: u32, work: &[u32]) -> Tests
     tests
 }
 
-// A half test's share (document 01's H, U, Z).
-pub fn half(n: u32, work: &[u32], test: usize) -> u32
-    requires { ⌜ (listed n ≡ true) × (test < 3) × (workLength n ≤ length (now work)) ⌝ }
-    ensures { λ r. ⌜ r ≡ held n (now (work .entry)) (halfSlot n test) ⌝ }
-    ensures below { λ r. ⌜ r < modulus n ⌝ }
-{
-    held(n, work, steps::places::half_slot(n, test))
-}
-
-// The factors of the last product.
-pub fn last_left(n: u32, side: u32, work: &[u32]) -> u32
+// The shares of the half tests (document 01's H, U, Z).
+pub fn halves(n: u32, work: &[u32]) -> [u32; 3]
     requires { ⌜ (listed n ≡ true) × (workLength n ≤ length (now work)) ⌝ }
-    ensures { λ r. ⌜ r ≡ lastLeft n side (now (work .entry)) ⌝ }
-    ensures below { λ r. ⌜ r < modulus n ⌝ }
+    ensures { λ r. ⌜ r ≡ tabulate 3 (λ t. held n (now (work .entry)) (halfSlot n t)) ⌝ }
 {
-    let both = held(n, work, steps::places::both_slot(n));
-    let total = field::add(n, half(n, work, 0), half(n, work, 1));
-    steps::tests::complement_of(n, side, steps::tests::exclusive_of(n, total, both))
-}
-
-pub fn last_right(n: u32, side: u32, work: &[u32]) -> u32
-    requires { ⌜ (listed n ≡ true) × (workLength n ≤ length (now work)) ⌝ }
-    ensures { λ r. ⌜ r ≡ lastRight n side (now (work .entry)) ⌝ }
-    ensures below { λ r. ⌜ r < modulus n ⌝ }
-{
-    steps::tests::complement_of(n, side, half(n, work, 2))
+    let a = held(n, work, steps::places::half_slot(n, 0));
+    let b = held(n, work, steps::places::half_slot(n, 1));
+    let c = held(n, work, steps::places::half_slot(n, 2));
+    [a, b, c]
 }

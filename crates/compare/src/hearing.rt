@@ -111,38 +111,15 @@ fn hear_wraps(n: u32, side: u32, tests: Tests, tape: &[u32], work: &mut [u32], i
     keep(work, steps::places::half_slot(n, 0), [a, b, c]);
 }
 
-// Round 5 is heard: the share of M.
-fn hear_halves(n: u32, side: u32, tape: &[u32], work: &mut [u32], incoming: &[u32])
-    requires { ⌜ Readable n (now tape) × (workLength n ≤ length (now work)) × FromLine n (roundWords n 5) (now incoming) ⌝ }
-    ensures { λ _. ⌜ ((x y : ℕ) → now (work .exit) ≡ afterHearing (party n side x y (now (tape .entry))) (now (work .entry)) 5 (now (incoming .entry))) ⌝ }
-{
-    let triples = tape::section_of(tape, n, tape::TRIPLES);
-    let v = crate::factors::half(n, &*work, 0);
-    let u = crate::factors::half(n, &*work, 1);
-    let i = steps::places::half_triple(n);
-    let slot = steps::places::both_slot(n);
-    work[slot] = steps::products::close_product(n, side, v, u, triples, i, incoming, 0);
-}
-
-// The answer share, from round 6.
+// The answer share, from round 5.
 fn answer(n: u32, side: u32, tape: &[u32], work: &[u32], incoming: &[u32]) -> u32
-    requires { ⌜ Readable n (now tape) × (workLength n ≤ length (now work)) × FromLine n (roundWords n 6) (now incoming) ⌝ }
-    ensures { λ r. ⌜ ((x y : ℕ) → r ≡ replyTo (party n side x y (now (tape .entry))) (now (work .entry)) 6 (now (incoming .entry))) ⌝ }
+    requires { ⌜ Readable n (now tape) × (workLength n ≤ length (now work)) × FromLine n (roundWords n 5) (now incoming) ⌝ }
+    ensures { λ r. ⌜ ((x y : ℕ) → r ≡ replyTo (party n side x y (now (tape .entry))) (now (work .entry)) 5 (now (incoming .entry))) ⌝ }
     ensures below { λ r. ⌜ r < modulus n ⌝ }
 {
+    let halves = crate::factors::halves(n, work);
     let triples = tape::section_of(tape, n, tape::TRIPLES);
-    let k = steps::products::close_product(
-        n,
-        side,
-        crate::factors::last_left(n, side, work),
-        crate::factors::last_right(n, side, work),
-        triples,
-        steps::places::last_triple(n),
-        incoming,
-        0,
-    );
-    let both = crate::factors::held(n, work, steps::places::both_slot(n));
-    field::add(n, field::sub(n, crate::factors::half(n, work, 0), both), k)
+    steps::halves::answer_of(n, side, halves, triples, incoming)
 }
 
 // Takes in the other box's words. The answer share comes back after the last round, and 0 before.
@@ -180,11 +157,7 @@ pub fn hear(
             hear_wraps(n, side, tests, tape, work, incoming);
             0
         }
-        5 => {
-            hear_halves(n, side, tape, work, incoming);
-            0
-        }
-        6 => answer(n, side, tape, &*work, incoming),
+        5 => answer(n, side, tape, &*work, incoming),
         _ => 0,
     }
 }

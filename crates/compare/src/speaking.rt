@@ -1,7 +1,7 @@
 // What a box sends in each round.
 ghost use mathlib.Core.Path.{_≡_};
 ghost use mathlib.Core.Bool.{true};
-ghost use Prim.Native.Nat.{ℕ, _<_, _≤_};
+ghost use Prim.Native.Nat.{_<_, _≤_};
 ghost use lib.ListN.{length};
 ghost use lib.Seq.{sets};
 ghost use Rattle.field.specs.Width.{modulus};
@@ -10,24 +10,6 @@ ghost use Rattle.tape.specs.Order.{Readable};
 ghost use Rattle.protocol.specs.Work.{workLength};
 ghost use Rattle.protocol.specs.Products.{party};
 ghost use Rattle.protocol.specs.Rounds.{roundWords, message};
-
-// Round 6's words: the last product.
-fn speak_last(n: u32, side: u32, tape: &[u32], work: &[u32], out: &mut [u32])
-    requires { ⌜ Readable n (now tape) × (workLength n ≤ length (now work)) × (2 ≤ length (now out)) ⌝ }
-    ensures { λ _. ⌜ ((x y : ℕ) → now (out .exit)
-        ≡ sets (now (out .entry)) 0 (message (party n side x y (now (tape .entry))) (now (work .entry)) 6)) ⌝ }
-{
-    let triples = tape::section_of(tape, n, tape::TRIPLES);
-    steps::products::open_product(
-        n,
-        crate::factors::last_left(n, side, work),
-        crate::factors::last_right(n, side, work),
-        triples,
-        steps::places::last_triple(n),
-        out,
-        0,
-    );
-}
 
 // Writes the round's words at the front of out.
 pub fn speak(
@@ -64,18 +46,10 @@ pub fn speak(
             steps::products::open_products(n, &sums, &wraps, 1, triples, first, 3, out, 0);
         }
         5 => {
+            let halves = crate::factors::halves(n, work);
             let triples = tape::section_of(tape, n, tape::TRIPLES);
-            steps::products::open_product(
-                n,
-                crate::factors::half(n, work, 0),
-                crate::factors::half(n, work, 1),
-                triples,
-                steps::places::half_triple(n),
-                out,
-                0,
-            );
+            steps::halves::open_halves(n, halves, triples, out);
         }
-        6 => speak_last(n, side, tape, work, out),
         _ => {}
     }
 }

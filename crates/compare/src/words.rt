@@ -5,7 +5,7 @@ ghost use Rattle.field.specs.Width.{listed};
 ghost use Rattle.protocol.specs.Rounds.{roundWords};
 ghost use Rattle.protocol.specs.Work.{workLength};
 
-pub const LAST_ROUND: u32 = 6;
+pub const LAST_ROUND: u32 = 5;
 
 // How many words a round opens.
 pub fn words_of(n: u32, round: u32) -> usize
@@ -18,8 +18,7 @@ pub fn words_of(n: u32, round: u32) -> usize
         2 => 6 * m,
         3 => 3 * m,
         4 => 6,
-        5 => 2,
-        6 => 2,
+        5 => 3,
         _ => 0,
     }
 }

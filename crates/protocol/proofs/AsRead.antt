@@ -12,11 +12,12 @@ use Rattle.shares.specs.Reading.{readWords}
 use Rattle.shares.specs.Share.{constantShare, opened}
 use Rattle.shares.proofs.Reading.{getD-read, opened-read}
 use Rattle.tape.specs.Layout.{groupCount}
-use Rattle.protocol.specs.Work.{sumSlot, wrapSlot, halfSlot, bothSlot}
-use Rattle.protocol.specs.Products.{Party, Products, closed, closing}
+use Rattle.protocol.specs.Work.{sumSlot, wrapSlot, halfSlot}
+use Rattle.protocol.specs.Products.{Party, Products, triplesOf, closed, closing}
 use Rattle.protocol.specs.Squares.{bitDifference, squareClosing, matchCount}
 use Rattle.protocol.specs.Levels.{levelMatch, levelOpened, wrapShare}
-use Rattle.protocol.specs.Rounds.{squaresOf, powersOf, doubledOf, lowSum, levelProducts, halfShare, halfProduct, answerShare, hearingTable, afterHearing}
+use Rattle.protocol.specs.Answer.{halfOpened, answerFrom}
+use Rattle.protocol.specs.Rounds.{squaresOf, powersOf, doubledOf, lowSum, levelProducts, halfShare, halvesHeld, answerShare, hearingTable, afterHearing}
 use Rattle.protocol.proofs.ByRound.{at-both}
 
 -- ---- one opening, and what is worked out from it
@@ -39,6 +40,11 @@ closing-read : (b : Party) (ps : Products) (incoming : List ℕ) (from i : ℕ)
     → closing b ps (readWords (b .n) incoming) from i ≡ closing b ps incoming from i
 unfolding closing
 closing-read b ps incoming from i = closed-read (b .n) (b .side) (ps .left i) (ps .right i) _ (ps .first + i) incoming (from + i * 2)
+
+half-opened-read : (n : ℕ) (v : ℕ → ℕ) (triples incoming : List ℕ) (k : ℕ)
+    → halfOpened n v triples (readWords n incoming) k ≡ halfOpened n v triples incoming k
+unfolding halfOpened
+half-opened-read n v triples incoming k = word-read n _ incoming k
 
 -- ---- the rounds
 
@@ -89,10 +95,7 @@ module _ (b : Party) (work incoming : List ℕ) where
             ap (sets work (wrapSlot n 0)) (tabulate-same 3 _ _ (λ t less. wrap-read t)),
             (
               ap (sets work (halfSlot n 0)) (tabulate-same 3 _ _ (λ t less. half-read t)),
-              (
-                ap (λ (v : ℕ). sets work (bothSlot n) (v ∷ [])) (closing-read b (halfProduct b work) incoming 0 0),
-                (refl, tt),
-              ),
+              (refl, tt),
             ),
           ),
         ),
@@ -101,5 +104,7 @@ module _ (b : Party) (work incoming : List ℕ) where
 
   -- and the answer share
   pub answer-read : answerShare b work message ≡ answerShare b work incoming
-  unfolding answerShare
-  answer-read = rw (closing-read b _ incoming 0 0) refl
+  unfolding answerShare answerFrom
+  answer-read =
+      let v = halvesHeld b work in
+      rw (half-opened-read n v (triplesOf b) incoming 0, half-opened-read n v (triplesOf b) incoming 1, half-opened-read n v (triplesOf b) incoming 2) refl

@@ -13,6 +13,7 @@ use Rattle.protocol.specs.Tests.{complement, exclusive}
 use Rattle.protocol.specs.Products.{Party, Products, closed, closing}
 use Rattle.protocol.specs.Squares.{matchCount}
 use Rattle.protocol.specs.Levels.{wrapShare}
+use Rattle.protocol.specs.Answer.{answerFrom}
 use Rattle.protocol.specs.Rounds.{lowSum, halfShare, answerShare}
 
 module _ (n : ℕ) (l : listed n ≡ true) where
@@ -53,5 +54,5 @@ module _ (q : Party) (l : listed (q .n) ≡ true) where
   half-below work incoming test = complement-below (q .n) l _ _
 
   pub answer-below : (work incoming : List ℕ) → answerShare q work incoming < modulus (q .n)
-  unfolding answerShare
-  answer-below work incoming = mod-below (q .n) l _
+  unfolding answerShare answerFrom
+  answer-below work incoming = minus-below (q .n) _ _ l

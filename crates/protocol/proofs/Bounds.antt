@@ -1,4 +1,4 @@
--- The values that the products open are at most p.
+-- The values that the openings hide are at most p.
 use Prim.Native.Nat.{ℕ, _+_, _-_, _*_, _%_, _<_, _≤_}
 use mathlib.Core.Path.{_≡_, refl}
 use mathlib.Core.Bool.{Bool, true, false, cond}
@@ -46,8 +46,8 @@ module _ (s : Shares) (l : listed (s .n) ≡ true) where
   low-most : (side t : ℕ) → constantShare side (lowOf s t) ≤ p
   low-most side t = le-of-lt (constant-below side (omega (arith, bounds l)))
 
-  half-most : (t : ℕ) → halvesOf s t ≤ 1
-  half-most t = indicator-bit (ltb (2 * valueOf (s .n) (s .x) (s .y) (s .xo) (s .yo) t) p)
+  pub half-most : (t : ℕ) → halvesOf s t ≤ p
+  half-most t = one (indicator-bit (ltb (2 * valueOf (s .n) (s .x) (s .y) (s .xo) (s .yo) t) p))
 
   wrap-most : (t : ℕ) → wrapsOf s t ≤ 1
   wrap-most t = indicator-bit (leb p (doubled (s .n) (s .x) (s .y) t + doubled (s .n) (s .xo) (s .yo) t))
@@ -60,19 +60,13 @@ module _ (s : Shares) (l : listed (s .n) ≡ true) where
   sum-most : (t : ℕ) → sumOf s t ≤ 1
   sum-most t = omega arith
 
-  last-most : 1 - (halvesOf s 0 + halvesOf s 1) % 2 ≤ 1
-  last-most = omega arith
-
-  other-most : 1 - halvesOf s 2 ≤ 1
-  other-most = omega arith
-
   pub left-most : (i : ℕ) → leftValue s i ≤ p
   unfolding leftValue
   left-most i =
       let low = low-most (s .side) in
       by-triple (countOf s) (leftValues s) i (λ less. le-trans (count-high s i) room)
       (each-at (λ (v : ℕ). v ≤ p) (leftValues s) 0
-      (low 0, (low 1, (low 2, (one (sum-most 0), (one (sum-most 1), (one (sum-most 2), (one (half-most 0), (one last-most, tt))))))))
+      (low 0, (low 1, (low 2, (one (sum-most 0), (one (sum-most 1), (one (sum-most 2), tt))))))
       (omega arith) (i - lowTriple (s .n)))
 
   pub right-most : (inverses : ℕ → ℕ) → ((g : ℕ) → g < groupCount (s .n) → inverses g ≤ p) → (i : ℕ) → rightValue s inverses i ≤ p
@@ -81,7 +75,7 @@ module _ (s : Shares) (l : listed (s .n) ≡ true) where
       let low = low-most (other (s .side)) in
       by-triple inverses (rightValues s) i (below i)
       (each-at (λ (v : ℕ). v ≤ p) (rightValues s) 0
-      (low 0, (low 1, (low 2, (one (wrap-most 0), (one (wrap-most 1), (one (wrap-most 2), (one (half-most 1), (one other-most, tt))))))))
+      (low 0, (low 1, (low 2, (one (wrap-most 0), (one (wrap-most 1), (one (wrap-most 2), tt))))))
       (omega arith) (i - lowTriple (s .n)))
 
 -- what stands on the tape for A · w may be written in another way

@@ -1,58 +1,26 @@
 -- Two whole exchanges side by side: with shares s and a dealt tape, and with s′ and the shifted tape. Every message of both boxes is the
 -- same, and so is the other box's answer share, whatever work held at first in either.
-use Prim.Native.Nat.{ℕ, suc, _+_, _-_, _*_, _%_, _<_, _≤_}
+use Prim.Native.Nat.{ℕ, suc, _<_, _≤_}
 use mathlib.Core.Path.{_≡_}
 use mathlib.Core.Bool.{true}
 use mathlib.Core.List.{List}
 use native.Mathlib.Omega.{arith}
-use lib.Dec.{ltb}
 use lib.ListN.{length}
 use Rattle.field.specs.Width.{modulus, listed}
-use Rattle.field.specs.Congruence.{Cong}
 use Rattle.shares.specs.Side.{other}
 use Rattle.tape.specs.Dealt.{Matched}
 use Rattle.tape.proofs.Dealing.{own-readable}
 use Rattle.protocol.specs.Work.{workLength}
 use Rattle.protocol.specs.Products.{Party, party}
-use Rattle.protocol.specs.Rounds.{earlierRounds, lastRound, lastLeft, lastRight, message}
-use Rattle.protocol.specs.Clear.{valueOf}
+use Rattle.protocol.specs.Rounds.{earlierRounds, lastRound, message}
 use Rattle.protocol.specs.Exchange.{Both, exchanged, sentOwn, sentOthers, answerOthers}
 use Rattle.protocol.proofs.ByRound.{by-round}
-use Rattle.protocol.proofs.Halves.{indicator-bit}
-use Rattle.protocol.proofs.Stages.{left-total, right-total}
-use Rattle.protocol.proofs.Right.{rooms, counts, levels, sums, wraps, halves-4, halves-5, both}
+use Rattle.protocol.proofs.Right.{rooms, counts, levels, sums, wraps, halves}
 use Rattle.protocol.proofs.Live.{Live, message-live, after-live, answer-live}
-use Rattle.protocol.specs.Change.{Shares, sharesOf, halvesOf}
+use Rattle.protocol.specs.Change.{Shares, sharesOf}
 use Rattle.protocol.specs.Shift.{shifted}
 use Rattle.protocol.proofs.Rules.{matched-shifted}
-use Rattle.protocol.proofs.Paired.{round-1, round-2, round-3, round-4, round-5, round-last}
-
--- the last product's factors of one exchange
-module _ {n pair number side : ℕ} {own others : List ℕ} (m : Matched n pair number side own others) (x y xo yo : ℕ)
-    (ly : y < modulus n) (lyo : yo < modulus n) (w : Both)
-    (room : workLength n ≤ length (w .own)) (room-o : workLength n ≤ length (w .others)) where
-  abbrev q : Shares
-  q = sharesOf n side x y xo yo
-
-  abbrev Z : Both
-  Z = exchanged (party n side x y own) (party n (other side) xo yo others) w earlierRounds
-
-  bit : (k : ℕ) → halvesOf q k ≤ 1
-  bit k = indicator-bit (ltb (2 * valueOf n x y xo yo k) (modulus n))
-
-  last-left : Cong (modulus n) (lastLeft n side (Z .own) + lastLeft n (other side) (Z .others)) (1 - (halvesOf q 0 + halvesOf q 1) % 2)
-  last-left =
-      let r = rooms m x y xo yo ly lyo w room room-o earlierRounds in
-      let h = halves-5 m x y xo yo ly lyo w room room-o in
-      left-total m x y xo yo (Z .own) (Z .others) (r .own) (r .other) (halvesOf q 0) (halvesOf q 1) (halvesOf q 2) (bit 0) (bit 1) (bit 2)
-      (h 0 (omega arith)) (h 1 (omega arith)) (h 2 (omega arith)) (both m x y xo yo ly lyo w room room-o)
-
-  last-right : Cong (modulus n) (lastRight n side (Z .own) + lastRight n (other side) (Z .others)) (1 - halvesOf q 2)
-  last-right =
-      let r = rooms m x y xo yo ly lyo w room room-o earlierRounds in
-      let h = halves-5 m x y xo yo ly lyo w room room-o in
-      right-total m x y xo yo (Z .own) (Z .others) (r .own) (r .other) (halvesOf q 0) (halvesOf q 1) (halvesOf q 2) (bit 0) (bit 1) (bit 2)
-      (h 0 (omega arith)) (h 1 (omega arith)) (h 2 (omega arith)) (both m x y xo yo ly lyo w room room-o)
+use Rattle.protocol.proofs.Paired.{round-1, round-2, round-3, round-4, round-last}
 
 module _ {n pair number side : ℕ} {own others : List ℕ} (m : Matched n pair number side own others) (x y x′ y′ xo yo : ℕ)
     (ly : y < modulus n) (ly′ : y′ < modulus n) (lyo : yo < modulus n) (w w′ : Both)
@@ -148,29 +116,15 @@ module _ {n pair number side : ℕ} {own others : List ℕ} (m : Matched n pair 
   pub alike-4 : Alike 4
   alike-4 =
       alike 4 live-4
-      (round-5 m x y x′ y′ xo yo (X 4 .own) (Y 4 .own) (X 4 .others) (Y 4 .others)
-      (halves-4 m x y xo yo ly lyo w room room-o) (halves-4 m′ x′ y′ xo yo ly′ lyo w′ room′ room-o′) (live-4 .0))
-
-  live-5 : Live n 5 (X 5 .others) (Y 5 .others)
-  live-5 =
-      next-live 4 (rooms m x y xo yo ly lyo w room room-o 4 .other) (rooms m′ x′ y′ xo yo ly′ lyo w′ room′ room-o′ 4 .other) alike-4
-
-  pub alike-5 : Alike 5
-  unfolding lastLeft lastRight
-  alike-5 =
-      alike 5 live-5
-      (round-last m x y x′ y′ xo yo (X 5 .own) (Y 5 .own) (X 5 .others) (Y 5 .others)
-      (last-left m x y xo yo ly lyo w room room-o) (last-left m′ x′ y′ xo yo ly′ lyo w′ room′ room-o′)
-      (last-right m x y xo yo ly lyo w room room-o) (last-right m′ x′ y′ xo yo ly′ lyo w′ room′ room-o′)
-      (rw (live-5 .0 0 (omega arith), live-5 .0 1 (omega arith), live-5 .1 .0 0 (omega arith)))
-      (rw (live-5 .0 2 (omega arith))))
+      (round-last m x y x′ y′ xo yo (X 4 .own) (Y 4 .own) (X 4 .others) (Y 4 .others)
+      (halves m x y xo yo ly lyo w room room-o) (halves m′ x′ y′ xo yo ly′ lyo w′ room′ room-o′) (live-4 .0))
 
   -- ---- the theorem
 
   pub all-alike : (r : ℕ) → r < lastRound → Alike r
   all-alike =
       by-round lastRound (λ r. r < lastRound → Alike r)
-      (λ _. alike-0, (λ _. alike-1, (λ _. alike-2, (λ _. alike-3, (λ _. alike-4, (λ _. alike-5, λ r less. absurd (omega arith)))))))
+      (λ _. alike-0, (λ _. alike-1, (λ _. alike-2, (λ _. alike-3, (λ _. alike-4, λ r less. absurd (omega arith))))))
 
   pub same-own : (r : ℕ) → r < lastRound → sentOwn ownBox otherBox w (suc r) ≡ sentOwn ownBox′ otherBox w′ (suc r)
   unfolding sentOwn

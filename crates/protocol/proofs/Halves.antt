@@ -97,11 +97,13 @@ difference-cases n x y l lx ly = go (less-cases x y)
         inl (less, minus-unique n x y _ l (le-of-lt ly) (omega arith) once)
     go (inr (none, more)) = inr (more, minus-unique n x y _ l (le-of-lt ly) (omega arith) (cong-eq (omega arith)))
 
--- the answer from the three half tests: with M = H · U, 1 if x < y is H − M + (1 − (H + U − 2M)) · (1 − Z)
+-- the answer from the three half tests: 1 if x < y is 1 − U − Z + H·U + H·Z + U·Z − 2·H·U·Z
 pub compared : (n x y : ℕ) → listed n ≡ true → x < modulus n → y < modulus n
     → let p = modulus n in
-    indicator (ltb x y) + half p x * half p y
-    ≡ half p x + (1 - (half p x + half p y) % 2) * (1 - half p (minus n x y))
+    let h = half p x in
+    let u = half p y in
+    let z = half p (minus n x y) in
+    indicator (ltb x y) + (u + z + 2 * (h * u * z)) ≡ 1 + h * u + h * z + u * z
 compared n x y l lx ly =
     go (modulus-odd n l) (difference-cases n x y l lx ly) (less-cases x y) (less-cases (2 * x) p) (less-cases (2 * y) p) (less-cases (2 * minus n x y) p)
   where
@@ -117,7 +119,8 @@ compared n x y l lx ly =
         → ((half p x ≡ 1) × (2 * x < p)) ⊎ ((half p x ≡ 0) × (p ≤ 2 * x))
         → ((half p y ≡ 1) × (2 * y < p)) ⊎ ((half p y ≡ 0) × (p ≤ 2 * y))
         → ((half p z ≡ 1) × (2 * z < p)) ⊎ ((half p z ≡ 0) × (p ≤ 2 * z))
-        → indicator (ltb x y) + half p x * half p y ≡ half p x + (1 - (half p x + half p y) % 2) * (1 - half p z)
+        → indicator (ltb x y) + (half p y + half p z + 2 * (half p x * half p y * half p z))
+        ≡ 1 + half p x * half p y + half p x * half p z + half p y * half p z
     go odd (inl (d, e)) (inr (b, m)) h u w = absurd (omega arith)
     go odd (inr (d, e)) (inl (b, m)) h u w = absurd (omega arith)
     go odd (inl (d, e)) (inl (b, m)) (inl (h, lh)) (inl (u, lu)) (inl (w, lw)) = absurd (omega arith)

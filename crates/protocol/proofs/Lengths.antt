@@ -17,7 +17,7 @@ use Rattle.tape.specs.Layout.{squareCount, groupCount}
 use Rattle.protocol.proofs.ByRound.{at-each, at-both}
 use Rattle.protocol.specs.Work.{held}
 use Rattle.protocol.specs.Products.{Party, Products, openLeft, openRight, openings, alternating}
-use Rattle.protocol.specs.Rounds.{squareWord, lowProducts, levelProducts, wrapProducts, halfProduct, lastProduct, wordTable, roundWords, messageTable, message, hearingTable, afterHearing}
+use Rattle.protocol.specs.Rounds.{squareWord, lowProducts, levelProducts, wrapProducts, halfWord, wordTable, roundWords, messageTable, message, hearingTable, afterHearing}
 
 -- no round has more words than the first
 pub most-words : (n round : ℕ) → listed n ≡ true → roundWords n round ≤ roundWords n 1
@@ -26,7 +26,7 @@ most-words n round l =
     let least : 3 ≤ n = bounds l .least in
     let square = mul-le-mul-right n least in
     at-each (λ (k : ℕ). k ≤ 3 * (n * n) + 6) (wordTable n) 0
-    (omega arith, (omega (arith, square), (omega (arith, square), (omega (arith, square), (omega (arith, square), (omega (arith, square), tt))))))
+    (omega arith, (omega (arith, square), (omega (arith, square), (omega (arith, square), (omega (arith, square), tt)))))
     (omega arith) round
 
 first-words : (n : ℕ) → roundWords n 1 ≡ 3 * (n * n) + 6
@@ -41,7 +41,7 @@ unfolding openings
 openings-length q ps = length-tabulate (ps .count * 2) (alternating (openLeft q ps) (openRight q ps))
 
 pub message-length : (q : Party) (work : List ℕ) (round : ℕ) → length (message q work round) ≡ roundWords (q .n) round
-unfolding message roundWords lowProducts levelProducts wrapProducts halfProduct lastProduct
+unfolding message roundWords lowProducts levelProducts wrapProducts
 message-length q work round =
     at-both (λ (l : List ℕ) (k : ℕ). length l ≡ k) (messageTable q work) (wordTable (q .n)) [] 0 (
       length-append (tabulate (squareCount (q .n)) (squareWord q)) (openings q (lowProducts q))
@@ -52,10 +52,7 @@ message-length q work round =
           length-tabulate (groupCount (q .n)) (λ g. held (q .n) work g),
           (
             openings-length q (wrapProducts q work),
-            (
-              openings-length q (halfProduct q work),
-              (openings-length q (lastProduct q work), tt),
-            ),
+            (length-tabulate 3 (halfWord q work), tt),
           ),
         ),
       ),
@@ -67,7 +64,7 @@ pub after-length : (q : Party) (work incoming : List ℕ) (round : ℕ) → leng
 unfolding afterHearing
 after-length q work incoming round =
     at-each (λ (l : List ℕ). length l ≡ length work) (hearingTable q work incoming) work
-    (simp length-sets, (simp length-sets, (simp length-sets, (simp length-sets, (simp length-sets, (refl, tt)))))) refl round
+    (simp length-sets, (simp length-sets, (simp length-sets, (simp length-sets, (refl, tt))))) refl round
 
 -- the front of out, where a message was put, is the message
 pub message-front : (q : Party) (work out : List ℕ) (round : ℕ) → roundWords (q .n) round ≤ length out

@@ -6,12 +6,14 @@ pub mod Closings
 pub mod Matches
 pub mod Wraps
 pub mod Halves
+pub mod Forms
 pub mod Sums
 pub mod Values
 pub mod ByRound
 pub mod AsRead
 pub mod Below
 pub mod Slots
+pub mod Answers
 pub mod Stages
 pub mod Right
 pub mod Live

@@ -12,12 +12,13 @@ use Rattle.lists.proofs.Sums.{sum-same}
 use Rattle.field.specs.Width.{modulus, listed}
 use Rattle.tape.specs.Layout.{groupCount}
 use Rattle.tape.proofs.Letters.{group-index}
-use Rattle.protocol.specs.Work.{sumSlot, wrapSlot, halfSlot, bothSlot, workLength, held}
+use Rattle.protocol.specs.Work.{sumSlot, wrapSlot, halfSlot, workLength, held}
 use Rattle.protocol.specs.Products.{Party, Products, openLeft, openRight, openings, alternating, closing}
 use Rattle.protocol.specs.Levels.{levelMatch, levelOpened, wrapShare}
-use Rattle.protocol.specs.Rounds.{earlierRounds, lastRound, atRound, powersOf, levelProducts, wrapProducts, halfShare, halfProduct, lastLeft, lastRight, lastProduct, answerShare, message, afterHearing}
+use Rattle.protocol.specs.Answer.{halfOpening, halfOpened, answerFrom}
+use Rattle.protocol.specs.Rounds.{earlierRounds, lastRound, atRound, powersOf, levelProducts, wrapProducts, halfShare, halfWord, answerShare, message, afterHearing}
 use Rattle.protocol.proofs.ByRound.{Each, by-round}
-use Rattle.protocol.proofs.Slots.{count-1, sum-1, level-2, sum-2, wrap-3, sum-3, half-4, both-5, half-5}
+use Rattle.protocol.proofs.Slots.{count-1, sum-1, level-2, sum-2, wrap-3, sum-3, half-4}
 
 -- so many words of work, by their slots
 pub record Stretch : Type 0 where
@@ -38,7 +39,6 @@ liveTable n =
     ∷ (stretch (groupCount n) (λ g. g) ∷ stretch 3 (sumSlot n) ∷ [])
     ∷ (stretch 3 (sumSlot n) ∷ stretch 3 (wrapSlot n) ∷ [])
     ∷ (stretch 3 (halfSlot n) ∷ [])
-    ∷ (stretch 3 (halfSlot n) ∷ stretch 1 (λ i. bothSlot n) ∷ [])
     ∷ []
 
 -- after so many rounds, the same in every word that is read later
@@ -80,27 +80,19 @@ module _ (q : Party) where
     unfolding message wrapProducts openLeft openRight
     message-4 h = openings-same q q (wrapProducts q v) (wrapProducts q v′) refl (λ t lt. rw (h .0 t lt)) (λ t lt. rw (h .1 .0 t lt))
 
-    message-5 : Live n 4 v v′ → message q v 5 ≡ message q v′ 5
-    unfolding message halfProduct openLeft openRight
-    message-5 h =
-        openings-same q q (halfProduct q v) (halfProduct q v′) refl (λ i li. rw (h .0 0 (omega arith))) (λ i li. rw (h .0 1 (omega arith)))
-
     message-last : Live n earlierRounds v v′ → message q v lastRound ≡ message q v′ lastRound
-    unfolding message lastProduct lastLeft lastRight openLeft openRight
-    message-last h =
-        openings-same q q (lastProduct q v) (lastProduct q v′) refl
-        (λ i li. rw (h .0 0 (omega arith), h .0 1 (omega arith), h .1 .0 0 (omega arith)))
-        (λ i li. rw (h .0 2 (omega arith)))
+    unfolding message halfWord halfOpening
+    message-last h = tabulate-same 3 (halfWord q v) (halfWord q v′) (λ k less. rw (h .0 k less))
 
   pub message-live : (r : ℕ) (v v′ : List ℕ) → Live n r v v′ → message q v (suc r) ≡ message q v′ (suc r)
   unfolding message
   message-live r v v′ =
       by-round lastRound (λ r. Live n r v v′ → message q v (suc r) ≡ message q v′ (suc r))
-      (λ h. refl, (message-2 v v′, (message-3 v v′, (message-4 v v′, (message-5 v v′, (message-last v v′, λ r h. refl)))))) r
+      (λ h. refl, (message-2 v v′, (message-3 v v′, (message-4 v v′, (message-last v v′, λ r h. refl))))) r
 
   pub answer-live : (v v′ incoming : List ℕ) → Live n earlierRounds v v′ → answerShare q v incoming ≡ answerShare q v′ incoming
-  unfolding answerShare closing lastProduct lastLeft lastRight
-  answer-live v v′ incoming h = rw (h .0 0 (omega arith), h .0 1 (omega arith), h .0 2 (omega arith), h .1 .0 0 (omega arith))
+  unfolding answerShare answerFrom halfOpened halfOpening
+  answer-live v v′ incoming h = rw (h .0 0 (omega arith), h .0 1 (omega arith), h .0 2 (omega arith))
 
   -- ---- and what is held after hearing depends on them and on what was heard
 
@@ -142,14 +134,7 @@ module _ (q : Party) where
       tt,
     )
 
-    after-5 : Live n 4 v v′ → Live n 5 (afterHearing q v 5 incoming) (afterHearing q v′ 5 incoming)
-    unfolding closing halfProduct
-    after-5 h = (
-      λ t less. half-5 q l v incoming room t less ∙ h .0 t less ∙ sym (half-5 q l v′ incoming room′ t less),
-      (λ i less. both-5 q l v incoming room ∙ rw (h .0 0 (omega arith), h .0 1 (omega arith)) (sym (both-5 q l v′ incoming room′)), tt),
-    )
-
     pub after-live : (r : ℕ) → Live n r v v′ → Live n (suc r) (afterHearing q v (suc r) incoming) (afterHearing q v′ (suc r) incoming)
     after-live =
         by-round earlierRounds (λ r. Live n r v v′ → Live n (suc r) (afterHearing q v (suc r) incoming) (afterHearing q v′ (suc r) incoming))
-        (λ h. after-1, (after-2, (after-3, (after-4, (after-5, λ r h. tt)))))
+        (λ h. after-1, (after-2, (after-3, (after-4, λ r h. tt))))

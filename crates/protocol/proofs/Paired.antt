@@ -1,6 +1,6 @@
 -- The same messages: the exchange with s and a tape, and the exchange with s′ and the shifted tape, whatever work held at first.
 use Prim.Native.Nat.{ℕ, _+_, _-_, _*_, _%_, _<_}
-use mathlib.Core.Path.{_≡_, refl, sym, ap, ap₂, subst, _∙_}
+use mathlib.Core.Path.{_≡_, refl, sym, ap, ap₂, _∙_}
 use mathlib.Core.Bool.{true}
 use mathlib.Core.List.{List, _++_}
 use native.Mathlib.Nat.{le-of-lt}
@@ -14,23 +14,25 @@ use Rattle.field.proofs.Widths.{bounds}
 use Rattle.shares.specs.Side.{other}
 use Rattle.shares.specs.Share.{constantShare, masked}
 use Rattle.tape.specs.Layout.{section, squareCount, groupCount, tripleCount}
-use Rattle.tape.specs.Letters.{squareMask, groupInverse, tripleLeft, tripleRight}
+use Rattle.tape.specs.Letters.{squareMask, groupInverse, tripleLeft, tripleRight, lastLetter}
 use Rattle.tape.specs.Dealt.{Matched}
-use Rattle.tape.proofs.Letters.{square-mask-below, group-inverse-below, triple-left-below, triple-right-below}
+use Rattle.tape.proofs.Letters.{square-mask-below, group-inverse-below, triple-left-below, triple-right-below, last-below}
 use Rattle.tape.proofs.Dealing.{own-readable}
 use Rattle.protocol.specs.Work.{sumSlot, wrapSlot, halfSlot, held}
-use Rattle.protocol.specs.Products.{Party, party, lowTriple, wrapTriple, halfTriple, lastTriple, openLeft, openRight}
-use Rattle.protocol.specs.Rounds.{squareWord, lowProducts, levelProducts, wrapProducts, halfProduct, lastLeft, lastRight, lastProduct, lastRound, message}
+use Rattle.protocol.specs.Products.{Party, party, lowTriple, wrapTriple, openLeft, openRight}
+use Rattle.protocol.specs.Answer.{halfOpening}
+use Rattle.protocol.specs.Rounds.{squareWord, lowProducts, levelProducts, wrapProducts, halfWord, lastRound, message}
 use Rattle.protocol.proofs.ByRound.{by-round}
 use Rattle.protocol.proofs.Reading.{held-below}
 use Rattle.protocol.proofs.Live.{openings-same}
 use Rattle.protocol.proofs.Wraps.{inverseTotal}
 use Rattle.protocol.specs.Change.{Shares, sharesOf, squareShareOf, countOf, lowOf, sumOf, wrapsOf, halvesOf, leftValues, leftValue, rightValues, rightValue}
-use Rattle.protocol.specs.Shift.{newMask, newInverse, newLeft, newRight, shifted}
+use Rattle.protocol.specs.Shift.{newMask, newInverse, newLeft, newRight, newLast, shifted}
 use Rattle.protocol.proofs.Moves.{moved-same, moved-own}
 use Rattle.protocol.proofs.Pieces.{new-mask, new-inverse, new-left, new-right}
 use Rattle.protocol.proofs.TripleValues.{left-level, left-later, right-level, right-later}
-use Rattle.protocol.proofs.Bounds.{square-share-most, left-most, right-most}
+use Rattle.protocol.proofs.Bounds.{square-share-most, left-most, right-most, half-most}
+use Rattle.protocol.proofs.Undo.{mask-word}
 use Rattle.protocol.proofs.Rules.{inverse-total, count-low, count-high, down}
 use Rattle.protocol.proofs.Units.{restored}
 
@@ -38,10 +40,6 @@ use Rattle.protocol.proofs.Units.{restored}
 each-test : (P : ℕ → Type 0) → P 0 → P 1 → P 2 → (k : ℕ) → k < 3 → P k
 each-test P first second third =
     by-round 3 (λ k. k < 3 → P k) (λ _. first, (λ _. second, (λ _. third, λ k less. absurd (omega arith))))
-
--- the only product of a round is opened by the round's first triple
-single : (P : ℕ → Type 0) (first i : ℕ) → i < 1 → P first → P (first + i)
-single P first i less h = subst P (omega arith) h
 
 module _ {n pair number side : ℕ} {own others : List ℕ} (m : Matched n pair number side own others) (x y x′ y′ xo yo : ℕ) where
   abbrev s : Shares
@@ -202,45 +200,13 @@ module _ {n pair number side : ℕ} {own others : List ℕ} (m : Matched n pair 
             right-later q f (wrapTriple (q .n) + k) (3 + k) (omega arith)
             ∙ each-test (λ k. getD (rightValues q) (3 + k) 0 ≡ wrapsOf q k) refl refl refl k less
 
-    pub round-5 : ((k : ℕ) → k < 3 → Old (halfSlot n k) (halvesOf s k)) → ((k : ℕ) → k < 3 → New (halfSlot n k) (halvesOf s′ k))
+    pub round-last : ((k : ℕ) → k < 3 → Old (halfSlot n k) (halvesOf s k)) → ((k : ℕ) → k < 3 → New (halfSlot n k) (halvesOf s′ k))
         → ((k : ℕ) → k < 3 → Kept (halfSlot n k))
-        → message ownBox v 5 ≡ message ownBox′ v′ 5
-    unfolding message halfProduct openLeft openRight
-    round-5 h h′ kept =
-        openings-same ownBox ownBox′ (halfProduct ownBox v) (halfProduct ownBox′ v′) refl
-        (λ i less. single
-        (λ j. masked n (held n v (halfSlot n 0)) (tripleLeft (section n 2 own) j) ≡ masked n (held n v′ (halfSlot n 0)) (tripleLeft (section n 2 t) j))
-        (halfTriple n) i less
-        (left-word (halfTriple n) _ _ (held n u (halfSlot n 0)) (omega arith)
-        (h 0 (omega arith) ⊙ cong-eq (sym (left-later s (halfTriple n) 6 refl)))
-        (as-kept (halfSlot n 0) _ _ (kept 0 (omega arith)) (h′ 0 (omega arith)) (sym (left-later s′ (halfTriple n) 6 refl)))))
-        (λ i less. single
-        (λ j. masked n (held n v (halfSlot n 1)) (tripleRight (section n 2 own) j) ≡ masked n (held n v′ (halfSlot n 1)) (tripleRight (section n 2 t) j))
-        (halfTriple n) i less
-        (right-word (halfTriple n) _ _ (held n u (halfSlot n 1)) (omega arith)
-        (h 1 (omega arith) ⊙ cong-eq (sym (right-later s old (halfTriple n) 6 refl)))
-        (as-kept (halfSlot n 1) _ _ (kept 1 (omega arith)) (h′ 1 (omega arith)) (sym (right-later s′ (newInverse s s′ own others) (halfTriple n) 6 refl)))))
-
-    pub round-last :
-        Cong (modulus n) (lastLeft n side v + lastLeft n (other side) u) (1 - (halvesOf s 0 + halvesOf s 1) % 2)
-        → Cong (modulus n) (lastLeft n side v′ + lastLeft n (other side) u′) (1 - (halvesOf s′ 0 + halvesOf s′ 1) % 2)
-        → Cong (modulus n) (lastRight n side v + lastRight n (other side) u) (1 - halvesOf s 2)
-        → Cong (modulus n) (lastRight n side v′ + lastRight n (other side) u′) (1 - halvesOf s′ 2)
-        → lastLeft n (other side) u ≡ lastLeft n (other side) u′
-        → lastRight n (other side) u ≡ lastRight n (other side) u′
         → message ownBox v lastRound ≡ message ownBox′ v′ lastRound
-    unfolding message lastProduct openLeft openRight
-    round-last hl hl′ hr hr′ kl kr =
-        openings-same ownBox ownBox′ (lastProduct ownBox v) (lastProduct ownBox′ v′) refl
-        (λ i less. single
-        (λ j. masked n (lastLeft n side v) (tripleLeft (section n 2 own) j) ≡ masked n (lastLeft n side v′) (tripleLeft (section n 2 t) j))
-        (lastTriple n) i less
-        (left-word (lastTriple n) _ _ (lastLeft n (other side) u) (omega arith)
-        (hl ⊙ cong-eq (sym (left-later s (lastTriple n) 7 refl)))
-        (cong-eq (ap (λ (k : ℕ). lastLeft n side v′ + k) kl) ⊙ hl′ ⊙ cong-eq (sym (left-later s′ (lastTriple n) 7 refl)))))
-        (λ i less. single
-        (λ j. masked n (lastRight n side v) (tripleRight (section n 2 own) j) ≡ masked n (lastRight n side v′) (tripleRight (section n 2 t) j))
-        (lastTriple n) i less
-        (right-word (lastTriple n) _ _ (lastRight n (other side) u) (omega arith)
-        (hr ⊙ cong-eq (sym (right-later s old (lastTriple n) 7 refl)))
-        (cong-eq (ap (λ (k : ℕ). lastRight n side v′ + k) kr) ⊙ hr′ ⊙ cong-eq (sym (right-later s′ (newInverse s s′ own others) (lastTriple n) 7 refl)))))
+    unfolding message halfWord halfOpening newLast
+    round-last h h′ kept =
+        tabulate-same 3 (halfWord ownBox v) (halfWord ownBox′ v′)
+        (λ k less.
+        sym (moved-same n l _ _ (held n u (halfSlot n k)) (halvesOf s k) (halvesOf s′ k) (lastLetter n (section n 2 own) k)
+        (half-most s l k) (last-below (own-readable m) k (omega arith)) (h k less) (as-kept (halfSlot n k) _ _ (kept k less) (h′ k less) refl))
+        ∙ ap (λ (a : ℕ). masked n (held n v′ (halfSlot n k)) a) (sym (mask-word m x y x′ y′ xo yo k less)))

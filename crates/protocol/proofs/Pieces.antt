@@ -12,16 +12,17 @@ use lib.ListN.{length, getD, take, drop, length-append, length-drop, List·getD-
 use lib.Seq.{take-at, drop-at, getD-append-add, getD-drop}
 use Rattle.lists.specs.Tabulate.{tabulate}
 use Rattle.lists.proofs.Tabulate.{length-tabulate, getD-tabulate}
+use Rattle.field.specs.Subtraction.{minus}
 use Rattle.field.proofs.Subtraction.{minus-below}
 use Rattle.field.specs.Width.{modulus, listed}
 use Rattle.field.proofs.Widths.{bounds}
 use Rattle.tape.specs.Layout.{section, sectionLength, sectionStart, bodyLength, tapeLength, squareCount, groupCount, tripleCount}
-use Rattle.tape.specs.Letters.{squareMask, squareValue, groupInverse, groupPower, tripleLeft, tripleRight, tripleProduct}
-use Rattle.tape.proofs.Letters.{square-place, group-place, triple-place}
+use Rattle.tape.specs.Letters.{squareMask, squareValue, groupInverse, groupPower, tripleLeft, tripleRight, tripleProduct, lastLetter}
+use Rattle.tape.proofs.Letters.{square-place, group-place}
 use Rattle.encoding.specs.Matching.{indicator}
 use Rattle.protocol.proofs.Halves.{less-cases}
 use Rattle.protocol.specs.Change.{Shares}
-use Rattle.protocol.specs.Shift.{newMask, newValue, newInverse, newPower, newLeft, newRight, newProduct, byRow, squareRow, powerRow, tripleRow, shifted}
+use Rattle.protocol.specs.Shift.{newMask, newValue, newInverse, newPower, newLeft, newRight, newProduct, newLast, newLastProduct, byRow, squareRow, powerRow, tripleRow, lastRow, shifted}
 use Rattle.protocol.proofs.ByRound.{each-at}
 use Rattle.protocol.proofs.Moves.{moved-below}
 
@@ -35,8 +36,19 @@ module _ (s s′ : Shares) (own others : List ℕ) where
   abbrev P : List ℕ
   P = tabulate (sectionLength n 1) (byRow (n + 1) (powerRow s s′ own others))
 
+  abbrev T : List ℕ
+  T = tabulate (tripleCount n * 3) (byRow 3 (tripleRow s s′ own others))
+
+  -- the triples, then the last group
   abbrev Q : List ℕ
-  Q = tabulate (sectionLength n 2) (byRow 3 (tripleRow s s′ own others))
+  Q = T ++ lastRow s s′ own others
+
+  triples-length : length T ≡ tripleCount n * 3
+  triples-length = length-tabulate (tripleCount n * 3) (byRow 3 (tripleRow s s′ own others))
+
+  last-length : length Q ≡ sectionLength n 2
+  unfolding lastRow
+  last-length = length-append T (lastRow s s′ own others) ∙ omega (arith, triples-length)
 
   abbrev R : List ℕ
   R = drop (bodyLength n) own
@@ -61,14 +73,18 @@ module _ (s s′ : Shares) (own others : List ℕ) where
       (length-append S P
       ∙ ap₂ _+_ (length-tabulate (sectionLength n 0) _) (length-tabulate (sectionLength n 1) _)
       ∙ omega arith))
-      ∙ take-at Q R (sectionLength n 2) (length-tabulate (sectionLength n 2) _)
+      ∙ take-at Q R (sectionLength n 2) last-length
+
+  last-inside : (k : ℕ) → k < 7 → k < length (lastRow s s′ own others)
+  unfolding lastRow
+  last-inside k less = less
 
   -- the body is as long as before
   body-length : length (S ++ (P ++ Q)) ≡ bodyLength n
   body-length =
       length-append S (P ++ Q)
       ∙ ap (λ (k : ℕ). length S + k) (length-append P Q)
-      ∙ omega (arith, length-tabulate (sectionLength n 0) (byRow 2 (squareRow s s′ own others)), length-tabulate (sectionLength n 1) (byRow (n + 1) (powerRow s s′ own others)), length-tabulate (sectionLength n 2) (byRow 3 (tripleRow s s′ own others)))
+      ∙ omega (arith, length-tabulate (sectionLength n 0) (byRow 2 (squareRow s s′ own others)), length-tabulate (sectionLength n 1) (byRow (n + 1) (powerRow s s′ own others)), last-length)
 
   body-first : shifted s s′ own others ≡ (S ++ (P ++ Q)) ++ R
   unfolding shifted
@@ -94,13 +110,30 @@ module _ (s s′ : Shares) (own others : List ℕ) where
   -- ---- the letters
 
   -- word k of row i
+  row-at : (count stride : ℕ) (row : ℕ → ℕ → ℕ) (i k at : ℕ) → at ≡ i * stride + k → k < stride → at < count
+      → getD (tabulate count (byRow stride row)) at 0 ≡ row i k
+  row-at count stride row i k at e few inside =
+      getD-tabulate count (byRow stride row) at 0 inside ∙ rw (e, digits-mod i few, digits-div i few)
+
   row-word : (which stride : ℕ) (row : ℕ → ℕ → ℕ) → section n which (shifted s s′ own others) ≡ tabulate (sectionLength n which) (byRow stride row)
       → (i k at : ℕ) → at ≡ i * stride + k → k < stride → at < sectionLength n which
       → getD (section n which (shifted s s′ own others)) at 0 ≡ row i k
   row-word which stride row made i k at e few inside =
-      ap (λ (l : List ℕ). getD l at 0) made
-      ∙ getD-tabulate (sectionLength n which) (byRow stride row) at 0 inside
-      ∙ rw (e, digits-mod i few, digits-div i few)
+      ap (λ (l : List ℕ). getD l at 0) made ∙ row-at (sectionLength n which) stride row i k at e few inside
+
+  -- word k of triple i, and of the last group
+  triple-word : (i k at : ℕ) → at ≡ i * 3 + k → k < 3 → i < tripleCount n
+      → getD (section n 2 (shifted s s′ own others)) at 0 ≡ tripleRow s s′ own others i k
+  triple-word i k at e few less =
+      ap (λ (l : List ℕ). getD l at 0) section-2
+      ∙ List·getD-append T (lastRow s s′ own others) 0 at (omega (arith, triples-length))
+      ∙ row-at (tripleCount n * 3) 3 (tripleRow s s′ own others) i k at e few (omega arith)
+
+  pub last-word : (k : ℕ) → lastLetter n (section n 2 (shifted s s′ own others)) k ≡ getD (lastRow s s′ own others) k 0
+  last-word k =
+      ap (λ (l : List ℕ). getD l (tripleCount n * 3 + k) 0) section-2
+      ∙ ap (λ (j : ℕ). getD Q (j + k) 0) (sym triples-length)
+      ∙ getD-append-add T (lastRow s s′ own others) k 0
 
   pub new-mask : (j : ℕ) → j < squareCount n → squareMask (section n 0 (shifted s s′ own others)) j ≡ newMask s s′ own others j
   new-mask j less = row-word 0 2 (squareRow s s′ own others) section-0 j 0 (j * 2) (omega arith) (omega arith) (omega (arith, square-place n j less))
@@ -120,13 +153,13 @@ module _ (s s′ : Shares) (own others : List ℕ) where
       ∙ rw (ne-eqb k 0 (λ e. omega arith))
 
   pub new-left : (i : ℕ) → i < tripleCount n → tripleLeft (section n 2 (shifted s s′ own others)) i ≡ newLeft s s′ own others i
-  new-left i less = row-word 2 3 (tripleRow s s′ own others) section-2 i 0 (i * 3) (omega arith) (omega arith) (omega (arith, triple-place n i less))
+  new-left i less = triple-word i 0 (i * 3) (omega arith) (omega arith) less
 
   pub new-right : (i : ℕ) → i < tripleCount n → tripleRight (section n 2 (shifted s s′ own others)) i ≡ newRight s s′ own others i
-  new-right i less = row-word 2 3 (tripleRow s s′ own others) section-2 i 1 (i * 3 + 1) (omega arith) (omega arith) (omega (arith, triple-place n i less))
+  new-right i less = triple-word i 1 (i * 3 + 1) (omega arith) (omega arith) less
 
   pub new-product : (i : ℕ) → i < tripleCount n → tripleProduct (section n 2 (shifted s s′ own others)) i ≡ newProduct s s′ own others i
-  new-product i less = row-word 2 3 (tripleRow s s′ own others) section-2 i 2 (i * 3 + 2) (omega arith) (omega arith) (triple-place n i less)
+  new-product i less = triple-word i 2 (i * 3 + 2) (omega arith) (omega arith) less
 
   -- ---- every word of the body is below p
 
@@ -150,6 +183,14 @@ module _ (s s′ : Shares) (own others : List ℕ) where
         each-at (λ (word : ℕ). word < modulus n) (newLeft s s′ own others i ∷ newRight s s′ own others i ∷ newProduct s s′ own others i ∷ []) 0
         (moved-below n l _ _ _, (moved-below n l _ _ _, (minus-below n _ _ l, tt))) (omega (arith, bounds l)) (j % 3)
 
+    last-below : (k : ℕ) → getD (lastRow s s′ own others) k 0 < modulus n
+    unfolding lastRow newLast newLastProduct
+    last-below k =
+        let product : (a b : ℕ) → minus n a b < modulus n = λ a b. minus-below n a b l in
+        each-at (λ (word : ℕ). word < modulus n) (lastRow s s′ own others) 0
+        (moved-below n l _ _ _, (moved-below n l _ _ _, (moved-below n l _ _ _, (product _ _, (product _ _, (product _ _, (product _ _, tt)))))))
+        (omega (arith, bounds l)) k
+
     -- a word of a tabulated list, or of what stands behind it
     tabulated-below : (count : ℕ) (f : ℕ → ℕ) (rest : List ℕ) → ((i : ℕ) → f i < modulus n)
         → (i : ℕ) → (count ≤ i → getD rest (i - count) 0 < modulus n) → getD (tabulate count f ++ rest) i 0 < modulus n
@@ -170,5 +211,9 @@ module _ (s s′ : Shares) (own others : List ℕ) where
         (λ more.
         tabulated-below (sectionLength n 1) (byRow (n + 1) (powerRow s s′ own others)) (Q ++ R) powers-below (i - sectionLength n 0)
         (λ more′.
-        tabulated-below (sectionLength n 2) (byRow 3 (tripleRow s s′ own others)) R triples-below (i - sectionLength n 0 - sectionLength n 1)
-        (λ more″. absurd (omega arith))))
+        let j = i - sectionLength n 0 - sectionLength n 1 in
+        rw (append-assoc T (lastRow s s′ own others) R)
+        (tabulated-below (tripleCount n * 3) (byRow 3 (tripleRow s s′ own others)) (lastRow s s′ own others ++ R) triples-below j
+        (λ more″.
+        let k = j - tripleCount n * 3 in
+        rw (List·getD-append (lastRow s s′ own others) R 0 k (last-inside k (omega arith))) (last-below k)))))

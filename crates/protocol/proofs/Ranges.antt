@@ -19,7 +19,8 @@ use Rattle.protocol.specs.Words.{Below}
 use Rattle.protocol.proofs.ByRound.{at-each}
 use Rattle.protocol.specs.Work.{held}
 use Rattle.protocol.specs.Products.{Party, Products, openLeft, openRight, alternating, openings}
-use Rattle.protocol.specs.Rounds.{squareWord, lowProducts, levelProducts, wrapProducts, halfProduct, lastProduct, messageTable, message}
+use Rattle.protocol.specs.Answer.{halfOpening}
+use Rattle.protocol.specs.Rounds.{squareWord, lowProducts, levelProducts, wrapProducts, halfWord, messageTable, message}
 use Rattle.protocol.proofs.Reading.{held-below}
 
 -- words that a function below p gives
@@ -62,6 +63,10 @@ module _ (b : Party) where
     unfolding squareWord
     squares-below = tabulated-below (squareCount (b .n)) (squareWord b) (λ j. masked-below (b .n) _ _ l)
 
+    halves-below : (work : List ℕ) → Below (modulus (b .n)) (tabulate 3 (halfWord b work))
+    unfolding halfWord halfOpening
+    halves-below work = tabulated-below 3 (halfWord b work) (λ k. masked-below (b .n) _ _ l)
+
     pub message-below : (work : List ℕ) (round : ℕ) → Below (modulus (b .n)) (message b work round)
     unfolding message
     message-below work round =
@@ -73,10 +78,7 @@ module _ (b : Party) where
               tabulated-below (groupCount (b .n)) (λ g. held (b .n) work g) (λ g. held-below (b .n) work g l),
               (
                 openings-below (wrapProducts b work),
-                (
-                  openings-below (halfProduct b work),
-                  (openings-below (lastProduct b work), tt),
-                ),
+                (halves-below work, tt),
               ),
             ),
           ),

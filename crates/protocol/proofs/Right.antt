@@ -14,16 +14,16 @@ use Rattle.tape.specs.Layout.{groupCount}
 use Rattle.tape.specs.Dealt.{Matched}
 use Rattle.tape.proofs.Dealing.{own-readable}
 use Rattle.encoding.specs.Matching.{indicator}
-use Rattle.protocol.specs.Work.{workLength, sumSlot, wrapSlot, halfSlot, bothSlot, held}
+use Rattle.protocol.specs.Work.{workLength, sumSlot, wrapSlot, halfSlot, held}
 use Rattle.protocol.specs.Products.{Party, party}
 use Rattle.protocol.specs.Rounds.{earlierRounds, message}
 use Rattle.protocol.specs.Exchange.{Both, exchanged, sentOwn, sentOthers, answerOwn, answerOthers}
-use Rattle.protocol.specs.Clear.{valueOf, sharedBits, lowSumOf, wrapOf, half, halfOf}
-use Rattle.protocol.proofs.Halves.{compared, indicator-bit}
+use Rattle.protocol.specs.Clear.{sharedBits, lowSumOf, wrapOf, halfOf}
+use Rattle.protocol.proofs.Forms.{forms}
 use Rattle.protocol.proofs.Wraps.{inverseTotal}
 use Rattle.protocol.proofs.Values.{value-below}
 use Rattle.protocol.proofs.Lengths.{after-length}
-use Rattle.protocol.proofs.Stages.{count-total-1, sum-total-1, level-total-2, sum-total-2, wrap-total-3, sum-total-3, half-total-4, both-total-5, half-total-5, answer-total}
+use Rattle.protocol.proofs.Stages.{count-total-1, sum-total-1, level-total-2, sum-total-2, wrap-total-3, sum-total-3, half-total-4, answer-total}
 
 module _ {n pair number side : ℕ} {t1 t2 : List ℕ} (m : Matched n pair number side t1 t2) (x1 y1 x2 y2 : ℕ)
     (ly1 : y1 < modulus n) (ly2 : y2 < modulus n) (w : Both)
@@ -86,29 +86,15 @@ module _ {n pair number side : ℕ} {t1 t2 : List ℕ} (m : Matched n pair numbe
       wrap-total-3 m x1 y1 x2 y2 (ownWork 2) (otherWork 2) (rooms 2 .own) (rooms 2 .other) k less
       levels
 
-  -- the half tests, after round 4 and kept by round 5
-  pub halves-4 : (k : ℕ) → k < 3 → Adds 4 (halfSlot n k) (halfOf n x1 y1 x2 y2 k)
+  -- the half tests, after round 4
+  pub halves : (k : ℕ) → k < 3 → Adds 4 (halfSlot n k) (halfOf n x1 y1 x2 y2 k)
   unfolding exchanged
-  halves-4 k less =
+  halves k less =
       half-total-4 m x1 y1 x2 y2 (ownWork 3) (otherWork 3) (rooms 3 .own) (rooms 3 .other) k less ly1 ly2 (sums k less) (wraps k less)
-
-  pub halves-5 : (k : ℕ) → k < 3 → Adds 5 (halfSlot n k) (halfOf n x1 y1 x2 y2 k)
-  unfolding exchanged
-  halves-5 k less = cong-eq (half-total-5 m x1 y1 x2 y2 (ownWork 4) (otherWork 4) (rooms 4 .own) (rooms 4 .other) k less) ⊙ halves-4 k less
-
-  pub both : Adds 5 (bothSlot n) (halfOf n x1 y1 x2 y2 0 * halfOf n x1 y1 x2 y2 1)
-  unfolding exchanged
-  both =
-      both-total-5 m x1 y1 x2 y2 (ownWork 4) (otherWork 4) (rooms 4 .own) (rooms 4 .other) _ _ (halves-4 0 (omega arith)) (halves-4 1 (omega arith))
 
   pub right : Cong (modulus n) (answerOwn ownBox otherBox w + answerOthers ownBox otherBox w) (indicator (ltb ((x1 + x2) % modulus n) ((y1 + y2) % modulus n)))
   unfolding answerOwn answerOthers sentOwn sentOthers
   right =
-      let p = modulus n in
-      let v = valueOf n x1 y1 x2 y2 in
-      let bit : (k : ℕ) → half p (v k) ≤ 1 = λ k. indicator-bit (ltb (2 * v k) p) in
-      answer-total m x1 y1 x2 y2 (ownWork earlierRounds) (otherWork earlierRounds) (rooms earlierRounds .own) (rooms earlierRounds .other)
-      (half p (v 0)) (half p (v 1)) (half p (v 2)) (bit 0) (bit 1) (bit 2)
-      (halves-5 0 (omega arith)) (halves-5 1 (omega arith)) (halves-5 2 (omega arith)) both
-      (indicator (ltb (v 0) (v 1)))
-      (compared n (v 0) (v 1) l (value-below n l x1 y1 x2 y2 0) (value-below n l x1 y1 x2 y2 1))
+      answer-total m x1 y1 x2 y2 (ownWork earlierRounds) (otherWork earlierRounds) (rooms earlierRounds .own) (rooms earlierRounds .other) _ _ _
+      (halves 0 (omega arith)) (halves 1 (omega arith)) (halves 2 (omega arith))
+      ⊙ cong-eq (forms .bit n _ _ l (value-below n l x1 y1 x2 y2 0) (value-below n l x1 y1 x2 y2 1) .0)

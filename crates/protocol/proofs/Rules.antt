@@ -7,6 +7,7 @@ use native.Mathlib.Nat.{le-of-lt, pow-suc, pow-zero, one-mul}
 use native.Mathlib.Omega.{arith}
 use borrow.Author.Tests.{eq-eqb}
 use lib.Dec.{eqb}
+use lib.ListN.{getD}
 use Rattle.field.proofs.Subtraction.{minus-plus}
 use Rattle.field.specs.Width.{modulus, listed}
 use Rattle.field.specs.Congruence.{Cong}
@@ -14,17 +15,17 @@ use Rattle.field.specs.Inverse.{inverse}
 use Rattle.field.proofs.Widths.{bounds}
 use Rattle.field.proofs.Congruences.{cong-refl, cong-eq, cong-sym, _⊙_, cong-mul, cong-pow}
 use Rattle.tape.specs.Layout.{section, squareCount, groupCount, tripleCount}
-use Rattle.tape.specs.Letters.{squareMask, squareValue, groupInverse, groupPower, tripleLeft, tripleRight, tripleProduct}
-use Rattle.tape.specs.Dealt.{squarePair, inversePair, powerPair, tripleGroup, Matched}
+use Rattle.tape.specs.Letters.{squareMask, squareValue, groupInverse, groupPower, tripleLeft, tripleRight, tripleProduct, lastLetter}
+use Rattle.tape.specs.Dealt.{squarePair, inversePair, powerPair, tripleGroup, threefoldGroup, Matched}
 use Rattle.tape.proofs.Orders.{in-order, order-trailer}
-use Rattle.tape.proofs.Letters.{square-value-below, group-inverse-below, group-power-below, triple-product-below}
+use Rattle.tape.proofs.Letters.{square-value-below, group-inverse-below, group-power-below, triple-product-below, last-below}
 use Rattle.tape.proofs.Dealing.{own-readable, others-readable, own-side, dealt-inverse, dealt-power}
 use Rattle.encoding.proofs.Bits.{same-most}
 use Rattle.protocol.specs.Clear.{sharedBits}
 use Rattle.protocol.proofs.Wraps.{inverseTotal, maskTotal, pow-times}
 use Rattle.protocol.specs.Change.{Shares, sharesOf, countOf}
-use Rattle.protocol.specs.Shift.{newMask, newValue, newInverse, newPower, newLeft, newRight, newProduct, shifted}
-use Rattle.protocol.proofs.Pieces.{shifted-length, shifted-trailer, shifted-below, new-mask, new-value, new-inverse, new-power, new-left, new-right, new-product}
+use Rattle.protocol.specs.Shift.{newMask, newValue, newInverse, newPower, newLeft, newRight, newProduct, newLast, newLastProduct, newSum, lastRow, shifted}
+use Rattle.protocol.proofs.Pieces.{shifted-length, shifted-trailer, shifted-below, new-mask, new-value, new-inverse, new-power, new-left, new-right, new-product, last-word}
 use Rattle.protocol.proofs.Units.{unit}
 
 pow-one : (a : ℕ) → a ^ 1 ≡ a
@@ -109,8 +110,17 @@ module _ {n pair number side : ℕ} {own others : List ℕ} (m : Matched n pair 
   unfolding newProduct
   triple-meets i less = minus-plus n _ _ (le-of-lt (triple-product-below (others-readable m) i less))
 
+  -- a product of the last group's new masks
+  last-meets : (product k : ℕ) → k < 7
+      → Cong (modulus n) (newLastProduct s s′ own others product k + lastLetter n (section n 2 others) k) product
+  unfolding newLastProduct
+  last-meets product k less = minus-plus n _ _ (le-of-lt (last-below (others-readable m) k less))
+
+  abbrev sum : ℕ → ℕ
+  sum k = newSum s s′ own others k
+
   pub matched-shifted : Matched n pair number side (shifted s s′ own others) others
-  unfolding squarePair inversePair powerPair tripleGroup
+  unfolding squarePair inversePair powerPair tripleGroup threefoldGroup lastRow
   matched-shifted =
       record {
         own-order =
@@ -130,4 +140,11 @@ module _ {n pair number side : ℕ} {own others : List ℕ} (m : Matched n pair 
         triples = λ i less.
             rw (new-left s s′ own others i less, new-right s s′ own others i less, new-product s s′ own others i less)
             (remainders (triple-meets i less));
+        last-ab = rw (word 0, word 1, word 3) (remainders (last-meets (sum 0 * sum 1) 3 (omega arith)));
+        last-ac = rw (word 0, word 2, word 4) (remainders (last-meets (sum 0 * sum 2) 4 (omega arith)));
+        last-bc = rw (word 1, word 2, word 5) (remainders (last-meets (sum 1 * sum 2) 5 (omega arith)));
+        last-abc = rw (word 0, word 1, word 2, word 6) (remainders (last-meets (sum 0 * sum 1 * sum 2) 6 (omega arith)));
       }
+    where
+      word : (k : ℕ) → lastLetter n (section n 2 (shifted s s′ own others)) k ≡ getD (lastRow s s′ own others) k 0
+      word k = last-word s s′ own others k

@@ -10,11 +10,11 @@ use lib.Seq.{sets, length-sets}
 use Rattle.lists.specs.Tabulate.{tabulate}
 use Rattle.field.specs.Width.{listed}
 use Rattle.tape.specs.Layout.{groupCount}
-use Rattle.protocol.specs.Work.{sumSlot, wrapSlot, halfSlot, bothSlot, workLength, held}
+use Rattle.protocol.specs.Work.{sumSlot, wrapSlot, halfSlot, workLength, held}
 use Rattle.protocol.specs.Products.{Party, closing}
 use Rattle.protocol.specs.Squares.{matchCount}
 use Rattle.protocol.specs.Levels.{wrapShare}
-use Rattle.protocol.specs.Rounds.{doubledOf, squaresOf, powersOf, lowSum, levelProducts, halfShare, halfProduct, afterHearing}
+use Rattle.protocol.specs.Rounds.{doubledOf, squaresOf, powersOf, lowSum, levelProducts, halfShare, afterHearing}
 use Rattle.protocol.proofs.Reading.{held-stored, held-beside}
 use Rattle.protocol.proofs.Below.{count-below, closing-below, sum-below, wrap-below, half-below}
 
@@ -77,17 +77,3 @@ module _ (q : Party) (l : listed (q .n) ≡ true) (work incoming : List ℕ) (ro
   half-4 t less =
       held-stored (q .n) work (halfSlot (q .n) 0) 3 (halfShare q work incoming) t (halfSlot (q .n) t) (omega arith) less (omega arith)
       (half-below q l work incoming t)
-
-  -- round 5: M
-  abbrev both : ℕ → ℕ
-  both i = closing q (halfProduct q work) incoming 0 0
-
-  pub both-5 : held (q .n) (afterHearing q work 5 incoming) (bothSlot (q .n)) ≡ closing q (halfProduct q work) incoming 0 0
-  unfolding afterHearing
-  both-5 =
-      held-stored (q .n) work (bothSlot (q .n)) 1 both 0 (bothSlot (q .n)) (omega arith) (omega arith) (omega arith)
-      (closing-below q l (halfProduct q work) incoming 0 0)
-
-  pub half-5 : (t : ℕ) → t < 3 → held (q .n) (afterHearing q work 5 incoming) (halfSlot (q .n) t) ≡ held (q .n) work (halfSlot (q .n) t)
-  unfolding afterHearing
-  half-5 t less = held-beside (q .n) work (bothSlot (q .n)) 1 both (halfSlot (q .n) t) (inl (omega arith))

@@ -1,10 +1,9 @@
--- What both boxes hold adds up, round after round, to what document 01 says: A and S, A · w, the wraps, the half tests, M.
+-- What both boxes hold adds up, round after round, to what document 01 says: A and S, A · w, the wraps, the half tests, and the answer.
 -- Here v1 and v2 are the two boxes' work before a round, and each hears what the other sends.
 use Prim.Native.Nat.{ℕ, _+_, _-_, _*_, _%_, _<_, _≤_}
 use mathlib.Core.Path.{_≡_, refl, sym, ap, _∙_}
 use mathlib.Core.Bool.{true}
 use mathlib.Core.List.{List}
-use native.Mathlib.Nat.{le-of-lt}
 use native.Mathlib.Omega.{arith}
 use lib.Arith.{digits-div, digits-mod}
 use lib.Dec.{eqb, leb}
@@ -12,8 +11,6 @@ use lib.ListN.{length, getD, List·getD-append}
 use Rattle.lists.specs.Tabulate.{tabulate}
 use Rattle.lists.proofs.Tabulate.{length-tabulate, getD-tabulate}
 use Rattle.lists.proofs.Sums.{sum-add}
-use Rattle.field.specs.Subtraction.{minus}
-use Rattle.field.proofs.Subtraction.{minus-total}
 use Rattle.field.specs.Width.{modulus, listed}
 use Rattle.field.specs.Congruence.{Cong}
 use Rattle.field.proofs.Congruences.{cong-refl, cong-eq, _⊙_, cong-mod, cong-add, cong-mul}
@@ -31,14 +28,15 @@ use Rattle.encoding.specs.Matching.{indicator}
 use Rattle.encoding.proofs.Fits.{code-fits}
 use Rattle.encoding.proofs.Values.{level-match}
 use Rattle.protocol.specs.Tests.{doubled, lowBit}
-use Rattle.protocol.specs.Work.{sumSlot, wrapSlot, halfSlot, bothSlot, workLength, held}
-use Rattle.protocol.specs.Products.{Party, party, lowTriple, wrapTriple, halfTriple, lastTriple, closing, openings}
+use Rattle.protocol.specs.Work.{sumSlot, wrapSlot, halfSlot, workLength, held}
+use Rattle.protocol.specs.Products.{Party, party, lowTriple, wrapTriple, closing, openings}
 use Rattle.protocol.specs.Squares.{bitDifference, squareOpening}
+use Rattle.protocol.specs.Answer.{halfOpening}
+use Rattle.protocol.specs.Forms.{fiveRounds}
 use Rattle.protocol.specs.Levels.{levelMatch, levelOpened, wrapShare}
-use Rattle.protocol.specs.Rounds.{doubledOf, squaresOf, squareWord, lowProducts, lowSum, levelProducts, wrapProducts, halfShare, halfProduct, lastProduct, lastLeft, lastRight, answerShare, lastRound, message, afterHearing}
+use Rattle.protocol.specs.Rounds.{doubledOf, squaresOf, squareWord, lowProducts, lowSum, levelProducts, wrapProducts, halfShare, halvesHeld, halfWord, answerShare, lastRound, message, afterHearing}
 use Rattle.protocol.specs.Clear.{valueOf, sharedBits, lowSumOf, wrapOf, halfOf}
-use Rattle.protocol.proofs.Reading.{held-below}
-use Rattle.protocol.proofs.Totals.{part, complement-total, exclusive-total}
+use Rattle.protocol.proofs.Totals.{complement-total, exclusive-total}
 use Rattle.protocol.proofs.Closings.{Heard, openings-heard, heard-after, closed-total}
 use Rattle.protocol.proofs.Matches.{count-total}
 use Rattle.protocol.proofs.Wraps.{inverseTotal, level-total, codes-wrap}
@@ -46,7 +44,8 @@ use Rattle.protocol.proofs.Halves.{low-bit, half-bit, modulus-odd, indi
 use Rattle.protocol.proofs.Sums.{low-product, bit-sum}
 use Rattle.protocol.proofs.Values.{value-below, doubled-below, doubled-total}
 use Rattle.protocol.proofs.Below.{exclusive-below}
-use Rattle.protocol.proofs.Slots.{count-1, sum-1, level-2, sum-2, wrap-3, sum-3, half-4, both-5, half-5}
+use Rattle.protocol.proofs.Slots.{count-1, sum-1, level-2, sum-2, wrap-3, sum-3, half-4}
+use Rattle.protocol.proofs.Answers.{answer-from-total}
 
 -- the squares' words stand first in round 1's message
 first-words : (q : Party) (work : List ℕ) (j : ℕ) → j < squareCount (q .n)
@@ -225,64 +224,21 @@ module _ {n pair number side : ℕ} {t1 t2 : List ℕ} (m : Matched n pair numbe
       (omega arith)
       ⊙ cong-eq (half-of t ly1 ly2)
 
-  -- ---- round 5: M
+  -- ---- round 5: the answer
 
-  pub both-total-5 : (h u : ℕ)
+  -- what each box hears of H, U and Z
+  halves-heard : (q : Party) (work : List ℕ) (k : ℕ) → k < 3
+      → getD (message q work lastRound) k 0 ≡ halfOpening (q .n) (halvesHeld q work) (section (q .n) 2 (q .tape)) k
+  unfolding message halfWord
+  halves-heard q work k less = getD-tabulate 3 (halfWord q work) k 0 less
+
+  pub answer-total : (h u z : ℕ)
       → Cong (modulus n) (held n v1 (halfSlot n 0) + held n v2 (halfSlot n 0)) h
       → Cong (modulus n) (held n v1 (halfSlot n 1) + held n v2 (halfSlot n 1)) u
-      → Cong (modulus n) (total 5 (bothSlot n)) (h * u)
-  unfolding closing halfProduct message
-  both-total-5 h u hh hu =
-      cong-add (cong-eq (both-5 ownBox l v1 (message otherBox v2 5) room1)) (cong-eq (both-5 otherBox l v2 (message ownBox v1 5) room2))
-      ⊙ closed-total m (halfTriple n + 0) (omega arith) (held n v1 (halfSlot n 0)) (held n v1 (halfSlot n 1)) (held n v2 (halfSlot n 0)) (held n v2 (halfSlot n 1))
-      (message otherBox v2 5) (message ownBox v1 5) (0 + 0 * 2)
-      (openings-heard otherBox (halfProduct otherBox v2) 0 (omega arith)) (openings-heard ownBox (halfProduct ownBox v1) 0 (omega arith))
-      ⊙ cong-mul hh hu
-
-  pub half-total-5 : (t : ℕ) → t < 3 → total 5 (halfSlot n t) ≡ held n v1 (halfSlot n t) + held n v2 (halfSlot n t)
-  half-total-5 t less = rw (half-5 ownBox l v1 (message otherBox v2 5) room1 t less, half-5 otherBox l v2 (message ownBox v1 5) room2 t less)
-
-  -- ---- the last round: the answer
-
-  module _ (h u z : ℕ) (lh : h ≤ 1) (lu : u ≤ 1) (lz : z ≤ 1)
-      (hh : Cong (modulus n) (held n v1 (halfSlot n 0) + held n v2 (halfSlot n 0)) h)
-      (hu : Cong (modulus n) (held n v1 (halfSlot n 1) + held n v2 (halfSlot n 1)) u)
-      (hz : Cong (modulus n) (held n v1 (halfSlot n 2) + held n v2 (halfSlot n 2)) z)
-      (hm : Cong (modulus n) (held n v1 (bothSlot n) + held n v2 (bothSlot n)) (h * u)) where
-    pub left-total : Cong (modulus n) (lastLeft n side v1 + lastLeft n (other side) v2) (1 - (h + u) % 2)
-    unfolding lastLeft
-    left-total =
-        complement-total n l side (own-side m) _ _ ((h + u) % 2) (exclusive-below n l _ _) (exclusive-below n l _ _)
-        (exclusive-total n l _ _ (held n v1 (bothSlot n)) (held n v2 (bothSlot n)) (h + u) (h * u) ((h + u) % 2)
-        (cong-add cong-mod cong-mod
-        ⊙ cong-eq {b = (held n v1 (halfSlot n 0) + held n v2 (halfSlot n 0)) + (held n v1 (halfSlot n 1) + held n v2 (halfSlot n 1))} (omega arith)
-        ⊙ cong-add hh hu)
-        hm (bit-sum h u lh lu))
-        (omega arith)
-
-    pub right-total : Cong (modulus n) (lastRight n side v1 + lastRight n (other side) v2) (1 - z)
-    unfolding lastRight
-    right-total =
-        complement-total n l side (own-side m) (held n v1 (halfSlot n 2)) (held n v2 (halfSlot n 2)) z
-        (held-below n v1 (halfSlot n 2) l) (held-below n v2 (halfSlot n 2) l) hz lz
-
-    pub answer-total : (e : ℕ) → e + h * u ≡ h + (1 - (h + u) % 2) * (1 - z)
-        → Cong (modulus n) (answerShare ownBox v1 (message otherBox v2 lastRound) + answerShare otherBox v2 (message ownBox v1 lastRound)) e
-    unfolding answerShare closing lastProduct message
-    answer-total e same =
-        let h1 = held n v1 (halfSlot n 0) in
-        let h2 = held n v2 (halfSlot n 0) in
-        let m1 = held n v1 (bothSlot n) in
-        let m2 = held n v2 (bothSlot n) in
-        let k1 = closing ownBox (lastProduct ownBox v1) (message otherBox v2 lastRound) 0 0 in
-        let k2 = closing otherBox (lastProduct otherBox v2) (message ownBox v1 lastRound) 0 0 in
-        cong-add cong-mod cong-mod
-        ⊙ part n l (minus n h1 m1 + k1 + (minus n h2 m2 + k2)) (m1 + m2) (h + (1 - (h + u) % 2) * (1 - z)) (h * u)
-        (cong-eq {b = (minus n h1 m1 + minus n h2 m2 + (m1 + m2)) + (k1 + k2)} (omega arith)
-        ⊙ cong-add
-        (minus-total n h1 h2 m1 m2 (le-of-lt (held-below n v1 (bothSlot n) l)) (le-of-lt (held-below n v2 (bothSlot n) l)) ⊙ hh)
-        (closed-total m (lastTriple n + 0) (omega arith) (lastLeft n side v1) (lastRight n side v1) (lastLeft n (other side) v2) (lastRight n (other side) v2)
-        (message otherBox v2 lastRound) (message ownBox v1 lastRound) (0 + 0 * 2)
-        (openings-heard otherBox (lastProduct otherBox v2) 0 (omega arith)) (openings-heard ownBox (lastProduct ownBox v1) 0 (omega arith))
-        ⊙ cong-mul left-total right-total))
-        hm e same
+      → Cong (modulus n) (held n v1 (halfSlot n 2) + held n v2 (halfSlot n 2)) z
+      → Cong (modulus n) (answerShare ownBox v1 (message otherBox v2 lastRound) + answerShare otherBox v2 (message ownBox v1 lastRound))
+      (fiveRounds n h u z)
+  unfolding answerShare
+  answer-total =
+      answer-from-total m (halvesHeld ownBox v1) (halvesHeld otherBox v2) (message otherBox v2 lastRound) (message ownBox v1 lastRound)
+      (halves-heard otherBox v2) (halves-heard ownBox v1)

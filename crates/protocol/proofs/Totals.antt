@@ -1,4 +1,4 @@
--- What the two boxes' shares add up to, for the steps that need no opening: 1 − v, and u + v − 2·u·v.
+-- What the two boxes' shares add up to, for the steps that need no opening: 1 − v, u + v − 2·u·v, and a difference of two sums.
 use Prim.Native.Nat.{ℕ, _+_, _-_, _*_, _%_, _<_, _≤_}
 use mathlib.Core.Path.{_≡_, sym}
 use mathlib.Core.Bool.{true}
@@ -6,7 +6,8 @@ use native.Mathlib.Nat.{le-of-lt, mod-lt}
 use native.Mathlib.Omega.{arith}
 use Rattle.field.specs.Width.{modulus, listed}
 use Rattle.field.specs.Congruence.{Cong}
-use Rattle.field.proofs.Subtraction.{minus-total}
+use Rattle.field.specs.Subtraction.{minus}
+use Rattle.field.proofs.Subtraction.{minus-plus, minus-total}
 use Rattle.field.proofs.Widths.{bounds}
 use Rattle.field.proofs.Congruences.{cong-refl, cong-eq, cong-sym, _⊙_, cong-mod, cong-add, cong-cancel, cong-double}
 use Rattle.shares.specs.Side.{isSide, other}
@@ -41,3 +42,15 @@ module _ (n : ℕ) (l : listed n ≡ true) where
       (minus-total n u1 u2 ((q1 + q1) % p) ((q2 + q2) % p) (below (q1 + q1)) (below (q2 + q2)) ⊙ hu)
       (cong-add cong-mod cong-mod ⊙ cong-eq {b = 2 * (q1 + q2)} (omega arith) ⊙ cong-double hq)
       e total
+
+  pub difference-total : (a1 a2 t1 t2 a t : ℕ) → t1 ≤ modulus n → t2 ≤ modulus n
+      → Cong (modulus n) (a1 + a2) a → Cong (modulus n) (t1 + t2) t
+      → Cong (modulus n) (minus n a1 t1 + minus n a2 t2) (minus n a (t % modulus n))
+  difference-total a1 a2 t1 t2 a t l1 l2 ha ht =
+      let pos : 0 < modulus n = omega (arith, bounds l) in
+      cong-cancel t pos
+      (cong-add cong-refl (cong-sym ht)
+      ⊙ minus-total n a1 a2 t1 t2 l1 l2
+      ⊙ ha
+      ⊙ cong-sym (minus-plus n a (t % modulus n) (le-of-lt (mod-lt t pos)))
+      ⊙ cong-add cong-refl cong-mod)

@@ -1,4 +1,4 @@
--- Which value each triple's masks hide: the levels' first, then the eight products behind them.
+-- Which value each triple's masks hide: the levels' first, then the six products behind them.
 use Prim.Native.Nat.{ℕ, _+_, _-_, _<_, _≤_}
 use mathlib.Core.Path.{_≡_}
 use mathlib.Core.List.{List}

@@ -1,31 +1,32 @@
 -- The map for (s′, s) undoes the map for (s, s′) on tapes dealt by the rules.
 use Prim.Native.Nat.{ℕ, zero, suc, _+_, _*_, _/_, _%_, _<_, _≤_}
-use mathlib.Core.Path.{_≡_, refl, sym, ap, _∙_}
+use mathlib.Core.Path.{_≡_, refl, sym, ap, ap₂, _∙_}
 use mathlib.Core.Bool.{true}
 use mathlib.Core.List.{List, _++_}
 use native.Mathlib.Nat.{le-of-lt, zero-add, div-add-mod', div-lt-iff-lt-mul, mod-lt}
 use native.Mathlib.Omega.{arith}
 use lib.Dec.{eqb·suc-zero}
-use lib.ListN.{getD, drop, take-append-drop}
-use lib.Seq.{drop-drop}
+use lib.ListN.{length, getD, take, drop, length-drop, take-append-drop}
+use lib.Seq.{drop-drop, length-take-le, getD-take, getD-drop}
 use Rattle.lists.specs.Tabulate.{tabulate}
 use Rattle.lists.proofs.Tabulate.{tabulated}
 use Rattle.field.proofs.Subtraction.{minus-below, minus-unique}
-use Rattle.field.specs.Width.{listed}
+use Rattle.field.specs.Width.{listed, modulus}
+use Rattle.field.specs.Congruence.{Cong}
 use Rattle.field.proofs.Congruences.{cong-refl, cong-eq, cong-sym, _⊙_, cong-mul, cong-pow}
 use Rattle.tape.specs.Layout.{section, sectionLength, sectionStart, bodyLength, squareCount, groupCount, tripleCount}
-use Rattle.tape.specs.Letters.{squareMask, squareValue, groupInverse, groupPower, tripleLeft, tripleRight, tripleProduct}
-use Rattle.tape.specs.Dealt.{Matched}
+use Rattle.tape.specs.Letters.{squareMask, squareValue, groupInverse, groupPower, tripleLeft, tripleRight, tripleProduct, lastLetter}
+use Rattle.tape.specs.Dealt.{lastSum, Matched}
 use Rattle.tape.proofs.Sections.{section-length, body-whole}
-use Rattle.tape.proofs.Letters.{square-mask-below, square-value-below, group-inverse-below, group-power-below, triple-left-below, triple-right-below, triple-product-below}
-use Rattle.tape.proofs.Dealing.{own-readable, others-readable, dealt-square, dealt-triple, dealt-power}
+use Rattle.tape.proofs.Letters.{square-mask-below, square-value-below, group-inverse-below, group-power-below, triple-left-below, triple-right-below, triple-product-below, last-below}
+use Rattle.tape.proofs.Dealing.{own-readable, others-readable, dealt-square, dealt-triple, dealt-last, dealt-power}
 use Rattle.protocol.proofs.Wraps.{inverseTotal, maskTotal, pow-times}
-use Rattle.protocol.specs.Change.{Shares, sharesOf, squareShareOf, leftValue}
-use Rattle.protocol.specs.Shift.{moved, newMask, newValue, newInverse, newPower, newLeft, newRight, newProduct, byRow, squareRow, powerRow, tripleRow, shifted}
+use Rattle.protocol.specs.Change.{Shares, sharesOf, squareShareOf, leftValue, halvesOf}
+use Rattle.protocol.specs.Shift.{moved, newMask, newValue, newInverse, newPower, newLeft, newRight, newProduct, newLast, newLastProduct, newSum, byRow, squareRow, powerRow, tripleRow, lastRow, shifted}
 use Rattle.protocol.proofs.Moves.{moved-back}
-use Rattle.protocol.proofs.Pieces.{new-mask, new-inverse, new-power, new-left, new-right, shifted-tail}
+use Rattle.protocol.proofs.Pieces.{new-mask, new-inverse, new-power, new-left, new-right, last-word, shifted-tail}
 use Rattle.protocol.proofs.Rules.{down, up, units, inverse-total, power-total}
-use Rattle.protocol.proofs.Bounds.{square-share-most, left-most, right-most, right-same}
+use Rattle.protocol.proofs.Bounds.{square-share-most, left-most, right-most, right-same, half-most}
 
 -- a tape is its three sections and its trailer
 pieces : (n : ℕ) (t : List ℕ) → t ≡ section n 0 t ++ (section n 1 t ++ (section n 2 t ++ drop (bodyLength n) t))
@@ -120,19 +121,65 @@ module _ {n pair number side : ℕ} {own others : List ℕ} (m : Matched n pair 
       (minus-unique n _ _ _ l (le-of-lt (triple-product-below (others-readable m) i less)) (triple-product-below (own-readable m) i less)
       (dealt-triple m i less .product))
 
+  -- the new masks stand on the shifted tape
+  pub mask-word : (k : ℕ) → k < 3 → lastLetter n (section n 2 t) k ≡ newLast s s′ own others k
+  unfolding lastRow
+  mask-word zero less = last-word s s′ own others 0
+  mask-word (suc zero) less = last-word s s′ own others 1
+  mask-word (suc (suc zero)) less = last-word s s′ own others 2
+  mask-word (suc (suc (suc k))) less = absurd (omega arith)
+
+  last-back : (k : ℕ) → k < 3 → newLast s′ s t others k ≡ lastLetter n (section n 2 own) k
+  unfolding newLast
+  last-back k less =
+      ap (λ (a : ℕ). moved n a (halvesOf s′ k) (halvesOf s k)) (mask-word k less)
+      ∙ moved-back n l _ _ _ (half-most s l k) (half-most s′ l k) (last-below (own-readable m) k (omega arith))
+
+  -- a product that both boxes' words come to is what is left for the box
+  last-product-back : (product k : ℕ) → k < 7
+      → Cong (modulus n) (lastLetter n (section n 2 own) k + lastLetter n (section n 2 others) k) product
+      → newLastProduct s′ s t others product k ≡ lastLetter n (section n 2 own) k
+  unfolding newLastProduct
+  last-product-back product k less =
+      minus-unique n _ _ _ l (le-of-lt (last-below (others-readable m) k less)) (last-below (own-readable m) k less)
+
+  sum-back : (k : ℕ) → k < 3 → newSum s′ s t others k ≡ lastSum n own others k
+  sum-back k less = ap (λ (a : ℕ). a + lastLetter n (section n 2 others) k) (last-back k less)
+
+  -- the last group of the tape
+  last-row-back : (k : ℕ) → k < 7 → getD (lastRow s′ s t others) k 0 ≡ lastLetter n (section n 2 own) k
+  unfolding lastRow
+  last-row-back k less =
+      by-place k less
+    where
+      a : newSum s′ s t others 0 ≡ lastSum n own others 0
+      a = sum-back 0 (omega arith)
+
+      b : newSum s′ s t others 1 ≡ lastSum n own others 1
+      b = sum-back 1 (omega arith)
+
+      c : newSum s′ s t others 2 ≡ lastSum n own others 2
+      c = sum-back 2 (omega arith)
+
+      by-place : (k : ℕ) → k < 7 → getD (lastRow s′ s t others) k 0 ≡ lastLetter n (section n 2 own) k
+      by-place zero less = last-back 0 (omega arith)
+      by-place (suc zero) less = last-back 1 (omega arith)
+      by-place (suc (suc zero)) less = last-back 2 (omega arith)
+      by-place (suc (suc (suc zero))) less = rw (a, b) (last-product-back _ 3 (omega arith) (dealt-last m .ab .product))
+      by-place (suc (suc (suc (suc zero)))) less = rw (a, c) (last-product-back _ 4 (omega arith) (dealt-last m .ac .product))
+      by-place (suc (suc (suc (suc (suc zero))))) less = rw (b, c) (last-product-back _ 5 (omega arith) (dealt-last m .bc .product))
+      by-place (suc (suc (suc (suc (suc (suc zero)))))) less = rw (a, b, c) (last-product-back _ 6 (omega arith) (dealt-last m .abc))
+      by-place (suc (suc (suc (suc (suc (suc (suc k))))))) less = absurd (omega arith)
+
   -- ---- section by section
 
-  -- a section is what its words are
-  words : (which : ℕ) → which < 3 → (f : ℕ → ℕ) → ((j : ℕ) → j < sectionLength n which → getD (section n which own) j 0 ≡ f j)
-      → section n which own ≡ tabulate (sectionLength n which) f
-  words which less f h = tabulated (section n which own) (sectionLength n which) f (section-length (own-readable m) which less) h
-
-  -- the words of a section that is made of rows, from the words of each row
-  rows : (which stride count : ℕ) (row : ℕ → ℕ → ℕ) → 0 < stride → sectionLength n which ≡ count * stride
-      → ((i k at : ℕ) → at ≡ i * stride + k → i < count → k < stride → getD (section n which own) at 0 ≡ row i k)
-      → (j : ℕ) → j < sectionLength n which → getD (section n which own) j 0 ≡ byRow stride row j
-  rows which stride count row pos long each j less =
-      each (j / stride) (j % stride) j (sym (div-add-mod' j stride)) (div-lt-iff-lt-mul {k = stride} pos .1 (rw (← long) less)) (mod-lt j pos)
+  -- words that stand in rows, from the words of each row
+  rows : (ws : List ℕ) (stride count : ℕ) (row : ℕ → ℕ → ℕ) → 0 < stride → length ws ≡ count * stride
+      → ((i k at : ℕ) → at ≡ i * stride + k → i < count → k < stride → getD ws at 0 ≡ row i k)
+      → ws ≡ tabulate (count * stride) (byRow stride row)
+  rows ws stride count row pos long each =
+      tabulated ws (count * stride) (byRow stride row) long
+      (λ j less. each (j / stride) (j % stride) j (sym (div-add-mod' j stride)) (div-lt-iff-lt-mul {k = stride} pos .1 less) (mod-lt j pos))
 
   square-word : (i k at : ℕ) → at ≡ i * 2 + k → i < squareCount n → k < 2 → getD (section n 0 own) at 0 ≡ squareRow s′ s t others i k
   square-word i zero at e li lk = ap (λ (a : ℕ). getD (section n 0 own) a 0) (omega arith) ∙ sym (mask-back i li)
@@ -151,14 +198,38 @@ module _ {n pair number side : ℕ} {own others : List ℕ} (m : Matched n pair 
   triple-word i (suc (suc zero)) at e li lk = ap (λ (a : ℕ). getD (section n 2 own) a 0) (omega arith) ∙ sym (product-back i li)
   triple-word i (suc (suc (suc k))) at e li lk = absurd (omega arith)
 
+  -- the last section: the triples, then the last group
+  abbrev behind : ℕ
+  behind = tripleCount n * 3
+
+  last-long : length (section n 2 own) ≡ behind + 7
+  last-long = section-length (own-readable m) 2 (omega arith)
+
+  triples-back : take behind (section n 2 own) ≡ tabulate behind (byRow 3 (tripleRow s′ s t others))
+  triples-back =
+      rows (take behind (section n 2 own)) 3 (tripleCount n) (tripleRow s′ s t others) (omega arith)
+      (length-take-le behind (section n 2 own) (omega (arith, last-long)))
+      (λ i k at e li lk. getD-take behind (section n 2 own) at 0 (omega arith) ∙ triple-word i k at e li lk)
+
+  group-back : drop behind (section n 2 own) ≡ lastRow s′ s t others
+  unfolding lastRow
+  group-back =
+      let word : ℕ → ℕ = λ k. getD (lastRow s′ s t others) k 0 in
+      tabulated (drop behind (section n 2 own)) 7 word (length-drop behind (section n 2 own) ∙ omega (arith, last-long))
+      (λ k less. getD-drop behind (section n 2 own) k 0 ∙ sym (last-row-back k less))
+      ∙ sym (tabulated (lastRow s′ s t others) 7 word refl (λ k less. refl))
+
+  section-back : section n 2 own ≡ tabulate behind (byRow 3 (tripleRow s′ s t others)) ++ lastRow s′ s t others
+  section-back = sym (take-append-drop behind (section n 2 own)) ∙ ap₂ _++_ triples-back group-back
+
   pub undone : shifted s′ s (shifted s s′ own others) others ≡ own
   unfolding shifted
   undone =
       sym
       (pieces n own
       ∙ rw (
-        words 0 (omega arith) (byRow 2 (squareRow s′ s t others)) (rows 0 2 (squareCount n) _ (omega arith) refl square-word),
-        words 1 (omega arith) (byRow (n + 1) (powerRow s′ s t others)) (rows 1 (n + 1) (groupCount n) _ (omega arith) refl power-word),
-        words 2 (omega arith) (byRow 3 (tripleRow s′ s t others)) (rows 2 3 (tripleCount n) _ (omega arith) refl triple-word),
+        rows (section n 0 own) 2 (squareCount n) _ (omega arith) (section-length (own-readable m) 0 (omega arith)) square-word,
+        rows (section n 1 own) (n + 1) (groupCount n) _ (omega arith) (section-length (own-readable m) 1 (omega arith)) power-word,
+        section-back,
         shifted-tail s s′ own others,
       ))

@@ -31,7 +31,7 @@ lowAt n v1 v2 = exclusive n (lowSumAt n v1 v2 + wrapAt n v1 v2) (lowSumAt n v1 v
 unfoldable pub halfAt : ℕ → ℕ → ℕ → ℕ
 halfAt n v1 v2 = complement n 1 (lowAt n (doubled n v1 0 0) (doubled n v2 0 0))
 
--- the answer to x < y: both boxes go through all six rounds on the plain tapes, from work of zeros, and the answer shares are added.
+-- the answer to x < y: both boxes go through all five rounds on the plain tapes, from work of zeros, and the answer shares are added.
 -- The numbers stand as on plainrun's line: n x1 x2 y1 y2
 unfoldable pub lessAt : ℕ → ℕ → ℕ → ℕ → ℕ → ℕ
 lessAt n x1 x2 y1 y2 =

@@ -1,6 +1,6 @@
 -- A device of the proof that one exchange gives nothing away; it stands here so that a wrong map can be tried, and nobody need believe it: a
 -- box's shares, and the values in the clear that each product opens under them.
-use Prim.Native.Nat.{ℕ, _+_, _-_, _%_}
+use Prim.Native.Nat.{ℕ, _+_, _-_}
 use mathlib.Core.Bool.{cond}
 use mathlib.Core.List.{List, [], _∷_}
 use lib.Dec.{ltb}
@@ -44,7 +44,7 @@ wrapsOf s t = wrapOf (s .n) (s .x) (s .y) (s .xo) (s .yo) t
 abbrev pub halvesOf : Shares → ℕ → ℕ
 halvesOf s t = halfOf (s .n) (s .x) (s .y) (s .xo) (s .yo) t
 
--- by triple: the products A · w, then α · β of each test, S · T of each test, H · U and the last
+-- by triple: the products A · w, then α · β and S · T of each test
 abbrev pub byTriple : ℕ → (ℕ → ℕ) → List ℕ → ℕ → ℕ
 byTriple n level rest i = cond (ltb i (lowTriple n)) (level i) (getD rest (i - lowTriple n) 0)
 
@@ -57,8 +57,6 @@ leftValues s =
     ∷ sumOf s 0
     ∷ sumOf s 1
     ∷ sumOf s 2
-    ∷ halvesOf s 0
-    ∷ (1 - (halvesOf s 0 + halvesOf s 1) % 2)
     ∷ []
 
 unfoldable pub leftValue : Shares → ℕ → ℕ
@@ -73,8 +71,6 @@ rightValues s =
     ∷ wrapsOf s 0
     ∷ wrapsOf s 1
     ∷ wrapsOf s 2
-    ∷ halvesOf s 1
-    ∷ (1 - halvesOf s 2)
     ∷ []
 
 unfoldable pub rightValue : Shares → (ℕ → ℕ) → ℕ → ℕ

@@ -4,10 +4,12 @@ pub mod Work
 pub mod Products
 pub mod Squares
 pub mod Levels
+pub mod Answer
 pub mod Rounds
 pub mod Filling
 pub mod Exchange
 pub mod Clear
+pub mod Forms
 pub mod Bench
 pub mod Change
 pub mod Shift

@@ -27,19 +27,12 @@ pub record Products : Type 0 where
   pub left : ℕ → ℕ
   pub right : ℕ → ℕ
 
--- The triple of a round's first product. The first 3n triples are round 2's; then come those of α · β and of S · T of each test, of H · U and of the
--- last product.
+-- The triple of a round's first product. The first 3n triples are round 2's; then come those of α · β and of S · T of each test.
 abbrev pub lowTriple : ℕ → ℕ
 lowTriple n = 3 * n
 
 abbrev pub wrapTriple : ℕ → ℕ
 wrapTriple n = 3 * n + 3
-
-abbrev pub halfTriple : ℕ → ℕ
-halfTriple n = 3 * n + 6
-
-abbrev pub lastTriple : ℕ → ℕ
-lastTriple n = 3 * n + 7
 
 abbrev pub triplesOf : Party → List ℕ
 triplesOf b = section (b .n) 2 (b .tape)

@@ -1,4 +1,4 @@
--- The six rounds of document 01: what a box sends in each, and what it holds after hearing each.
+-- The five rounds, by document 01 and document 02's P7: what a box sends in each, and what it holds after hearing each.
 use Prim.Native.Nat.{ℕ, suc, _+_, _*_, _%_}
 use mathlib.Core.Bool.{cond}
 use mathlib.Core.List.{List, [], _∷_, _++_}
@@ -7,16 +7,16 @@ use lib.ListN.{getD}
 use lib.Seq.{sets}
 use Rattle.lists.specs.Tabulate.{tabulate}
 use Rattle.field.specs.Width.{modulus}
-use Rattle.field.specs.Subtraction.{minus}
 use Rattle.shares.specs.Side.{other}
 use Rattle.shares.specs.Share.{constantShare}
 use Rattle.tape.specs.Layout.{section, squareCount, groupCount}
 use Rattle.tape.specs.Letters.{groupInverse}
 use Rattle.protocol.specs.Tests.{doubled, lowBit, complement, exclusive}
-use Rattle.protocol.specs.Work.{sumSlot, wrapSlot, halfSlot, bothSlot, held}
-use Rattle.protocol.specs.Products.{Party, Products, lowTriple, wrapTriple, halfTriple, lastTriple, openings, closing}
+use Rattle.protocol.specs.Work.{sumSlot, wrapSlot, halfSlot, held}
+use Rattle.protocol.specs.Products.{Party, Products, lowTriple, wrapTriple, triplesOf, openings, closing}
 use Rattle.protocol.specs.Squares.{bitDifference, squareOpening, matchCount}
 use Rattle.protocol.specs.Levels.{wrapShare}
+use Rattle.protocol.specs.Answer.{halfOpening, answerFrom}
 
 -- ---- round 1: the bit differences of every test, level and bit; then α · β of each test
 
@@ -80,47 +80,23 @@ halfShare b work incoming test =
     ((held (b .n) work (sumSlot (b .n) test) + held (b .n) work (wrapSlot (b .n) test)) % modulus (b .n))
     (closing b (wrapProducts b work) incoming 0 test))
 
--- ---- round 5: M = H · U
+-- ---- round 5: H, U and Z together
 
-unfoldable pub halfProduct : Party → List ℕ → Products
-halfProduct b work =
-    record {
-      first = halfTriple (b .n);
-      count = 1;
-      left = λ i. held (b .n) work (halfSlot (b .n) 0);
-      right = λ i. held (b .n) work (halfSlot (b .n) 1);
-    }
+-- the box's shares of them
+abbrev pub halvesHeld : Party → List ℕ → ℕ → ℕ
+halvesHeld b work k = held (b .n) work (halfSlot (b .n) k)
 
--- ---- round 6: K = (1 − H − U + 2·M) · (1 − Z)
+unfoldable pub halfWord : Party → List ℕ → ℕ → ℕ
+halfWord b work k = halfOpening (b .n) (halvesHeld b work) (triplesOf b) k
 
-unfoldable pub lastLeft : ℕ → ℕ → List ℕ → ℕ
-lastLeft n side work =
-    complement n side (exclusive n ((held n work (halfSlot n 0) + held n work (halfSlot n 1)) % modulus n) (held n work (bothSlot n)))
-
-unfoldable pub lastRight : ℕ → ℕ → List ℕ → ℕ
-lastRight n side work = complement n side (held n work (halfSlot n 2))
-
-unfoldable pub lastProduct : Party → List ℕ → Products
-lastProduct b work =
-    record {
-      first = lastTriple (b .n);
-      count = 1;
-      left = λ i. lastLeft (b .n) (b .side) work;
-      right = λ i. lastRight (b .n) (b .side) work;
-    }
-
--- the answer share: H − M + K
 unfoldable pub answerShare : Party → List ℕ → List ℕ → ℕ
-answerShare b work incoming =
-    (minus (b .n) (held (b .n) work (halfSlot (b .n) 0)) (held (b .n) work (bothSlot (b .n)))
-    + closing b (lastProduct b work) incoming 0 0)
-    % modulus (b .n)
+answerShare b work incoming = answerFrom (b .n) (b .side) (halvesHeld b work) (triplesOf b) incoming
 
 -- ---- by the round's number; any other round sends nothing and changes nothing
 
 -- how many rounds come before the last one
 abbrev pub earlierRounds : ℕ
-earlierRounds = 5
+earlierRounds = 4
 
 abbrev pub lastRound : ℕ
 lastRound = suc earlierRounds
@@ -130,7 +106,7 @@ atRound round rounds none = getD (none ∷ rounds) round none
 
 -- how many words each round opens
 abbrev pub wordTable : ℕ → List ℕ
-wordTable n = (3 * (n * n) + 6) ∷ (6 * n) ∷ (3 * n) ∷ 6 ∷ 2 ∷ 2 ∷ []
+wordTable n = (3 * (n * n) + 6) ∷ (6 * n) ∷ (3 * n) ∷ 6 ∷ 3 ∷ []
 
 unfoldable pub roundWords : ℕ → ℕ → ℕ
 roundWords n round = atRound round (wordTable n) 0
@@ -142,8 +118,7 @@ messageTable b work =
     ∷ openings b (levelProducts b work)
     ∷ tabulate (groupCount (b .n)) (λ g. held (b .n) work g)
     ∷ openings b (wrapProducts b work)
-    ∷ openings b (halfProduct b work)
-    ∷ openings b (lastProduct b work)
+    ∷ tabulate 3 (halfWord b work)
     ∷ []
 
 unfoldable pub message : Party → List ℕ → ℕ → List ℕ
@@ -156,7 +131,6 @@ hearingTable b work incoming =
     ∷ sets work 0 (tabulate (groupCount (b .n)) (closing b (levelProducts b work) incoming 0))
     ∷ sets work (wrapSlot (b .n) 0) (tabulate 3 (wrapShare (b .n) (b .side) (powersOf b) work incoming))
     ∷ sets work (halfSlot (b .n) 0) (tabulate 3 (halfShare b work incoming))
-    ∷ sets work (bothSlot (b .n)) (closing b (halfProduct b work) incoming 0 0 ∷ [])
     ∷ work
     ∷ []
 

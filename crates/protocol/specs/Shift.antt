@@ -10,9 +10,9 @@ use Rattle.lists.specs.Tabulate.{tabulate}
 use Rattle.field.specs.Width.{modulus}
 use Rattle.field.specs.Subtraction.{minus}
 use Rattle.field.specs.Inverse.{inverse}
-use Rattle.tape.specs.Layout.{section, sectionLength, bodyLength}
-use Rattle.tape.specs.Letters.{squareMask, squareValue, groupInverse, groupPower, tripleLeft, tripleRight, tripleProduct}
-use Rattle.protocol.specs.Change.{Shares, squareShareOf, countOf, leftValue, rightValue}
+use Rattle.tape.specs.Layout.{section, sectionLength, bodyLength, tripleCount}
+use Rattle.tape.specs.Letters.{squareMask, squareValue, groupInverse, groupPower, tripleLeft, tripleRight, tripleProduct, lastLetter}
+use Rattle.protocol.specs.Change.{Shares, squareShareOf, countOf, leftValue, rightValue, halvesOf}
 
 -- a mask word, moved by v′ − v
 unfoldable pub moved : ℕ → ℕ → ℕ → ℕ → ℕ
@@ -68,6 +68,19 @@ module _ (s s′ : Shares) (own others : List ℕ) where
       ((newLeft i + tripleLeft (section width 2 others) i) * (newRight i + tripleRight (section width 2 others) i))
       (tripleProduct (section width 2 others) i)
 
+  -- ---- the last group: a, b and c move with the half tests, their products follow
+
+  unfoldable pub newLast : ℕ → ℕ
+  newLast k = moved width (lastLetter width (section width 2 own) k) (halvesOf s k) (halvesOf s′ k)
+
+  -- both boxes' word k of the new masks
+  abbrev pub newSum : ℕ → ℕ
+  newSum k = newLast k + lastLetter width (section width 2 others) k
+
+  -- word k, a product of theirs
+  unfoldable pub newLastProduct : ℕ → ℕ → ℕ
+  newLastProduct product k = minus width product (lastLetter width (section width 2 others) k)
+
   -- ---- the tape
 
   abbrev pub squareRow : ℕ → ℕ → ℕ
@@ -79,10 +92,21 @@ module _ (s s′ : Shares) (own others : List ℕ) where
   abbrev pub tripleRow : ℕ → ℕ → ℕ
   tripleRow i k = getD (newLeft i ∷ newRight i ∷ newProduct i ∷ []) k 0
 
+  unfoldable pub lastRow : List ℕ
+  lastRow =
+      newLast 0
+      ∷ newLast 1
+      ∷ newLast 2
+      ∷ newLastProduct (newSum 0 * newSum 1) 3
+      ∷ newLastProduct (newSum 0 * newSum 2) 4
+      ∷ newLastProduct (newSum 1 * newSum 2) 5
+      ∷ newLastProduct (newSum 0 * newSum 1 * newSum 2) 6
+      ∷ []
+
   -- the shifted tape; its trailer stays
   unfoldable pub shifted : List ℕ
   shifted =
       tabulate (sectionLength width 0) (byRow 2 squareRow)
       ++ (tabulate (sectionLength width 1) (byRow (width + 1) powerRow)
-      ++ (tabulate (sectionLength width 2) (byRow 3 tripleRow)
+      ++ ((tabulate (tripleCount width * 3) (byRow 3 tripleRow) ++ lastRow)
       ++ drop (bodyLength width) own))

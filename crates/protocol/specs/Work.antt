@@ -16,10 +16,6 @@ wrapSlot n test = 3 * n + 3 + test
 abbrev pub halfSlot : ℕ → ℕ → ℕ
 halfSlot n test = 3 * n + 6 + test
 
--- the share of M
-abbrev pub bothSlot : ℕ → ℕ
-bothSlot n = 3 * n + 9
-
 -- the words of work that a job may use
 abbrev pub workLength : ℕ → ℕ
 workLength n = 12 * n + 64

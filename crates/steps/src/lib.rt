@@ -1,4 +1,5 @@
-// The steps of a round: opening and closing squares and products, and the levels' polynomial.
+// The steps of a round: opening and closing squares and products, the levels' polynomial, and the answer from the half tests.
+pub mod halves;
 pub mod levels;
 pub mod places;
 pub mod products;

@@ -1,11 +1,11 @@
 // Places in work and on the tape, by the names that the definitions give them.
 ghost use mathlib.Core.Path.{_≡_};
 ghost use mathlib.Core.Bool.{true};
-ghost use Prim.Native.Nat.{_-_, _<_};
+ghost use Prim.Native.Nat.{_-_, _*_, _<_};
 ghost use Rattle.field.specs.Width.{listed};
-ghost use Rattle.tape.specs.Layout.{squareCount, groupCount};
-ghost use Rattle.protocol.specs.Work.{sumSlot, wrapSlot, halfSlot, bothSlot};
-ghost use Rattle.protocol.specs.Products.{lowTriple, wrapTriple, halfTriple, lastTriple};
+ghost use Rattle.tape.specs.Layout.{squareCount, groupCount, tripleCount};
+ghost use Rattle.protocol.specs.Work.{sumSlot, wrapSlot, halfSlot};
+ghost use Rattle.protocol.specs.Products.{lowTriple, wrapTriple};
 
 pub fn sum_slot(n: u32, test: usize) -> usize
     requires { ⌜ test < 3 ⌝ }
@@ -28,12 +28,6 @@ pub fn half_slot(n: u32, test: usize) -> usize
     3 * (n as usize) + 6 + test
 }
 
-pub fn both_slot(n: u32) -> usize
-    ensures { λ r. ⌜ r ≡ bothSlot n ⌝ }
-{
-    3 * (n as usize) + 9
-}
-
 pub fn low_triple(n: u32) -> usize
     ensures { λ r. ⌜ r ≡ lowTriple n ⌝ }
 {
@@ -46,16 +40,11 @@ pub fn wrap_triple(n: u32) -> usize
     3 * (n as usize) + 3
 }
 
-pub fn half_triple(n: u32) -> usize
-    ensures { λ r. ⌜ r ≡ halfTriple n ⌝ }
+// Where the last group begins in its section: behind the triples.
+pub fn last_group(n: u32) -> usize
+    ensures { λ r. ⌜ r ≡ tripleCount n * 3 ⌝ }
 {
-    3 * (n as usize) + 6
-}
-
-pub fn last_triple(n: u32) -> usize
-    ensures { λ r. ⌜ r ≡ lastTriple n ⌝ }
-{
-    3 * (n as usize) + 7
+    (3 * (n as usize) + 6) * 3
 }
 
 // How many levels the three tests have together.

@@ -1,90 +1,28 @@
--- `shares::product` meets its contract: the sum of the four products is below 4p², so one reduction serves.
+-- `shares::product` meets its contract: the fourth product is box 1's e · f.
 use mathlib.Core.Path.{refl, ap, _∙_}
-use Prim.Native.Nat.{ℕ, _+_, _*_, _%_, _<_}
-use native.Mathlib.Omega.{arith}
+use Prim.Native.Nat.{ℕ, _+_, _*_, _%_}
 use borrow.Author.Needs.{needs}
 use Rattle.field.specs.Width.{modulus}
-use Rattle.field.proofs.Widths.{bounds, product-below}
 use Rattle.shares.specs.Share.{productShare}
 use Rattle.shares.proofs.Sides.{constant-times}
 use Rattle.shares.proofs.product.Statement.{statement}
 use Rattle.shares.proofs.product.Tie as tie
 
--- the equation, before what the sums ask: a wrong formula fails here
+-- the equation, before what the steps ask: a wrong formula fails here
 returns : tie.Need-returns
 unfolding productShare
 returns c =
-    let s = c .before .before .before .before .before in
-    let a = s .args in
-    let r = c .reduce-wide .ensures in (
-      r .0
-          ∙ ap (λ (x : ℕ). x % modulus (a .n))
-          (rw (
-            c .before .before .before .before .wide-mul .ensures,
-            c .before .before .before .wide-mul2 .ensures,
-            c .before .wide-mul3 .ensures,
-            c .before .before .constant .ensures .0,
-            constant-times (a .side) (a .e) (a .f),
-          ) refl),
+    let a = c .before .before .args in
+    let r = c .summed .ensures in (
+      r .0 ∙ rw (c .before .constant .ensures .0, constant-times (a .side) (a .e) (a .f)) refl,
       r .1,
     )
-
-wide-mul-requires : tie.Need-wide-mul-requires
-wide-mul-requires c κs = search needs
-
-add-own : tie.Need-add-own
-add-own c =
-    let s = c .before in
-    omega (arith, bounds (s .pre .0), product-below (s .pre .1) (s .pre .4))
-
-wide-mul-requires-2 : tie.Need-wide-mul-requires-2
-wide-mul-requires-2 c κs = search needs
-
-add-own-2 : tie.Need-add-own-2
-add-own-2 c =
-    let s = c .before .before in
-    omega (arith, bounds (s .pre .0), product-below (s .pre .1) (s .pre .4), product-below (s .pre .2) (s .pre .3))
 
 constant-requires : tie.Need-constant-requires
 constant-requires c κs = search needs
 
-wide-mul-requires-3 : tie.Need-wide-mul-requires-3
-wide-mul-requires-3 c κs = search needs
-
--- the whole sum, before it is reduced
-total : (c : tie.After-wide-mul3)
-    → let s = c .before .before .before .before in
-    s .args .c + c .before .before .before .wide-mul .result + c .before .before .wide-mul2 .result + c .wide-mul3 .result
-    < 4 * (modulus (s .args .n) * modulus (s .args .n))
-total c =
-    let s = c .before .before .before .before in
-    let k : c .before .constant .result < modulus (s .args .n) = omega arith in
-    omega (
-      arith,
-      c .before .before .before .wide-mul .ensures,
-      c .before .before .wide-mul2 .ensures,
-      c .wide-mul3 .ensures,
-      product-below (s .pre .1) (s .pre .4),
-      product-below (s .pre .2) (s .pre .3),
-      product-below (s .pre .1) k,
-    )
-
-add-reduce-wide : tie.Need-add-reduce-wide
-add-reduce-wide c = omega (arith, bounds (c .before .before .before .before .pre .0), total c)
-
-reduce-wide-requires : tie.Need-reduce-wide-requires
-reduce-wide-requires c κs = (c .before .before .before .before .pre .0, total c)
+summed-requires : tie.Need-summed-requires
+summed-requires c κs = search needs
 
 pub product-spec : {M : Type 1} → statement M
-product-spec =
-    tie.close
-    (tie.spec
-    wide-mul-requires
-    add-own
-    wide-mul-requires-2
-    add-own-2
-    constant-requires
-    wide-mul-requires-3
-    add-reduce-wide
-    reduce-wide-requires
-    returns)
+product-spec = tie.close (tie.spec constant-requires summed-requires returns)

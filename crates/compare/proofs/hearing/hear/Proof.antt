@@ -48,17 +48,11 @@ hear-wraps-requires c κs =
     let s = m .before .before .before .before in
     ((s .pre .0 .3, s .pre .0 .4, words s 4 (m .match .keys4)), t .known-tests .ensures .2)
 
-hear-halves-requires : tie.Need-hear-halves-requires
-hear-halves-requires c κs =
-    let m = c .before in
-    let s = m .before .before .before .before in
-    (s .pre .0 .3, s .pre .0 .4, words s 5 (m .match .keys5))
-
 answer-requires : tie.Need-answer-requires
 answer-requires c κs =
     let m = c .before in
     let s = m .before .before .before .before in
-    (s .pre .0 .3, s .pre .0 .4, words s 6 (m .match .keys6))
+    (s .pre .0 .3, s .pre .0 .4, words s 5 (m .match .keys5))
 
 same-length : tie.Need-same-length
 same-length c = search needs
@@ -108,25 +102,14 @@ same-length-5 : tie.Need-same-length-5
 same-length-5 c = search needs
 
 returns-5 : tie.Need-returns-5
-unfolding replyTo
-returns-5 c =
-    let done = c .before .before in
-    let m = done .before .before in
-    let s = m .before .before .before .before in
-    ((rw (m .match .keys5), rw (m .match .keys5) (done .hear-halves .ensures (s .args .x) (s .args .y))), none s)
-
-same-length-6 : tie.Need-same-length-6
-same-length-6 c = search needs
-
-returns-6 : tie.Need-returns-6
 unfolding afterHearing
-returns-6 c =
+returns-5 c =
     let m = c .before .before in
     let a = m .before .before .before .before .args in
-    ((rw (m .match .keys6) (c .answer .ensures .0 (a .x) (a .y)), rw (m .match .keys6)), c .answer .ensures .1)
+    ((rw (m .match .keys5) (c .answer .ensures .0 (a .x) (a .y)), rw (m .match .keys5)), c .answer .ensures .1)
 
-returns-7 : tie.Need-returns-7
-returns-7 c =
+returns-6 : tie.Need-returns-6
+returns-6 c =
     let s = c .before .before .before .before in
     let a = s .args in
     let b = party (a .n) (a .side) (a .x) (a .y) (a .tape .now) in (
@@ -146,7 +129,6 @@ hear-spec =
     hear-levels-requires
     known-tests-requires
     hear-wraps-requires
-    hear-halves-requires
     answer-requires
     same-length
     returns
@@ -158,6 +140,4 @@ hear-spec =
     returns-4
     same-length-5
     returns-5
-    same-length-6
-    returns-6
-    returns-7)
+    returns-6)

@@ -5,13 +5,16 @@ use mathlib.Core.List.{List}
 use native.Mathlib.Omega.{arith}
 use lib.ListN.{length}
 use lib.Seq.{sets}
+use Rattle.protocol.specs.Work.{halfSlot}
 use Rattle.protocol.specs.Products.{party}
 use Rattle.protocol.specs.Rounds.{roundWords, message}
 use Rattle.protocol.specs.Filling.{filled}
 use Rattle.protocol.proofs.ByRound.{no-message}
 use Rattle.protocol.proofs.Filling.{filled-whole}
+use Rattle.protocol.proofs.Reading.{held-below}
 use Rattle.protocol.proofs.Lengths.{message-length}
 use Rattle.compare.proofs.Sound.{sound}
+use Rattle.compare.proofs.Closings.{three-below}
 use Rattle.compare.proofs.Messages.{level-message, wrap-message, half-message}
 use borrow.Author.Needs.{needs}
 use Rattle.compare.proofs.speaking.speak.Statement.{statement}
@@ -98,38 +101,29 @@ open-products-requires-2 c κs =
       (triples .below, omega (arith, first .wrap-triple .ensures, triples .long), room s 4 (m .match .keys4)),
     )
 
+halves-requires : tie.Need-halves-requires
+halves-requires c κs = search needs
+
 section-of-requires-4 : tie.Need-section-of-requires-4
 section-of-requires-4 c κs = search needs
 
-half-requires : tie.Need-half-requires
-half-requires c κs = search needs
-
-half-requires-2 : tie.Need-half-requires-2
-half-requires-2 c κs = search needs
-
-half-triple-requires : tie.Need-half-triple-requires
-half-triple-requires c κs = search needs
-
-open-product-requires : tie.Need-open-product-requires
+open-halves-requires : tie.Need-open-halves-requires
 unfolding roundWords
-open-product-requires c κs =
-    let i = c .before in
-    let u = i .before in
-    let v = u .before in
-    let t = v .before in
-    let m = t .before in
+open-halves-requires c κs =
+    let t = c .before in
+    let h = t .before in
+    let m = h .before in
     let s = m .before .before .before .before in
+    let a = s .args in
+    let width = s .pre .0 .3 .width in
     let triples = sound (s .pre .0 .3) 2 (omega arith) (t .section-of4 .result .now) (t .section-of4 .ensures) in (
-      (s .pre .0 .3 .width, v .half .ensures .1, u .half2 .ensures .1),
-      (triples .below, omega (arith, i .half-triple .ensures, triples .long), room s 5 (m .match .keys5)),
+      (
+        width,
+        three-below _ _ (h .halves .ensures) (λ k. held-below (a .n) (a .work .now) (halfSlot (a .n) k) width),
+        room s 5 (m .match .keys5),
+      ),
+      (triples .below, omega (arith, triples .long)),
     )
-
-speak-last-requires : tie.Need-speak-last-requires
-unfolding roundWords
-speak-last-requires c κs =
-    let m = c .before in
-    let s = m .before .before .before .before in
-    (s .pre .0 .3, s .pre .1 .0, room s 6 (m .match .keys6))
 
 same-length : tie.Need-same-length
 same-length c = search needs
@@ -193,28 +187,16 @@ same-length-5 c = search needs
 returns-5 : tie.Need-returns-5
 returns-5 c =
     let done = c .before .before in
-    let i = done .before .before in
-    let u = i .before in
-    let v = u .before in
-    let t = v .before in
-    let m = t .before in
+    let t = done .before .before in
+    let h = t .before in
+    let m = h .before in
     let a = m .before .before .before .before .args in
-    done .open-product .ensures
-    ∙ rw (i .half-triple .ensures, u .half2 .ensures .0, v .half .ensures .0, t .section-of4 .ensures, m .match .keys5)
-    (half-message (party (a .n) (a .side) (a .x) (a .y) (a .tape .now)) (a .work .now) (a .out .now))
-
-same-length-6 : tie.Need-same-length-6
-same-length-6 c = search needs
+    done .open-halves .ensures
+    ∙ rw (t .section-of4 .ensures, h .halves .ensures, m .match .keys5)
+    (ap (λ (ws : List ℕ). sets (a .out .now) 0 ws) (half-message (party (a .n) (a .side) (a .x) (a .y) (a .tape .now)) (a .work .now)))
 
 returns-6 : tie.Need-returns-6
 returns-6 c =
-    let p = c .before .before in
-    let m = p .before .before in
-    let a = m .before .before .before .before .args in
-    p .speak-last .ensures (a .x) (a .y) ∙ rw (m .match .keys6)
-
-returns-7 : tie.Need-returns-7
-returns-7 c =
     let a = c .before .before .before .before .args in
     sym
     (ap (λ (ws : List ℕ). sets (a .out .now) 0 ws)
@@ -239,12 +221,9 @@ speak-spec =
     slice-aggregate-open-products
     slice-aggregate-open-products-2
     open-products-requires-2
+    halves-requires
     section-of-requires-4
-    half-requires
-    half-requires-2
-    half-triple-requires
-    open-product-requires
-    speak-last-requires
+    open-halves-requires
     same-length
     returns
     same-length-2
@@ -255,6 +234,4 @@ speak-spec =
     returns-4
     same-length-5
     returns-5
-    same-length-6
-    returns-6
-    returns-7)
+    returns-6)

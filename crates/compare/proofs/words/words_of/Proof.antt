@@ -44,11 +44,7 @@ unfolding roundWords
 returns-5 c = rw (c .match .keys5)
 
 returns-6 : tie.Need-returns-6
-unfolding roundWords
-returns-6 c = rw (c .match .keys6)
-
-returns-7 : tie.Need-returns-7
-returns-7 c =
+returns-6 c =
     sym (no-words (c .before .args .round) (c .match .rest) (c .before .args .n))
 
 pub words-of-spec : {M : Type 1} → statement M
@@ -65,5 +61,4 @@ words-of-spec =
     returns-3
     returns-4
     returns-5
-    returns-6
-    returns-7)
+    returns-6)
