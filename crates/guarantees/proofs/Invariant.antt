@@ -61,7 +61,7 @@ module _ (g : Setting) (book : Box → Key → Lending) where
 
   -- ---- what holds of the log
 
-  -- a message spoken is the exchange's, in one of the six rounds of a listed width
+  -- a message spoken is the exchange's, in one of the five rounds of a listed width
   pub record Uttered (e : Event) : Type 0 where
     pub width : listed (e .key .width) ≡ true
     pub heard : ℕ

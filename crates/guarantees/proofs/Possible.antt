@@ -12,7 +12,7 @@ use Rattle.field.specs.Subtraction.{minus}
 use Rattle.field.specs.Width.{listed, modulus}
 use Rattle.shares.specs.Side.{isSide, other as otherSide}
 use Rattle.shares.specs.Reading.{read, legible, delivered}
-use Rattle.shares.specs.Share.{constantShare, opened, squareShare, productShare}
+use Rattle.shares.specs.Share.{constantShare, opened, squareShare, productShare, threefoldShare}
 use Rattle.tape.specs.Layout.{section}
 use Rattle.tape.specs.Order.{trailerFits, bodyInRange, inOrder}
 use Rattle.tape.specs.Plain.{plainTape}
@@ -26,7 +26,8 @@ use Rattle.protocol.specs.Products.{openLeft, openRight, openings, closed, clos
 use Rattle.protocol.specs.Squares.{bitDifference, squareClosing, matchCount}
 use Rattle.protocol.specs.Levels.{levelMatch, wrapShare}
 use Rattle.protocol.specs.Rounds.{squareWord, lowProducts, lowSum, levelProducts, wrapProducts, halfShare}
-use Rattle.protocol.specs.Rounds.{halfProduct, lastLeft, lastRight, lastProduct, answerShare, roundWords, message, afterHearing}
+use Rattle.protocol.specs.Answer.{halfOpening, halfOpened, answerFrom}
+use Rattle.protocol.specs.Rounds.{halfWord, answerShare, roundWords, message, afterHearing}
 use Rattle.rules.specs.Answers.{share}
 use Rattle.tally.specs.Tally.{tallyFits, tapesOf, isFresh, late, marked, cutMarked, freshCount}
 use Rattle.rules.specs.Modes.{inRange, modeOf, isAsleep}
@@ -249,18 +250,18 @@ expected =
     record {
       meets = true;
       ranges = true;
-      answer1 = record { box = box1; key = tape0; said = replied (share 2) };
-      answer2 = record { box = box2; key = tape0; said = replied (share 6) };
+      answer1 = record { box = box1; key = tape0; said = replied (share 1) };
+      answer2 = record { box = box2; key = tape0; said = replied (share 0) };
     }
 
 -- the first list with zeros as they are spoken, and with zeros respelled; the second list
 computed : (b : Box)
     → (summary whole false (lastHears 2) b ≡ expected) × ((summary whole true (lastHears 2) b ≡ expected) × (summary again false (lastHears 4) b ≡ expected))
-unfolding modulus listed isSide otherSide constantShare minus read legible delivered opened squareShare productShare
+unfolding modulus listed isSide otherSide constantShare minus read legible delivered opened squareShare productShare threefoldShare
     section trailerFits bodyInRange inOrder plainTape
     rangeCode pointCode levelCode coefficient polynomial complement exclusive held
     openLeft openRight openings closed closing bitDifference squareClosing matchCount levelMatch wrapShare
-    squareWord lowProducts lowSum levelProducts wrapProducts halfShare halfProduct lastLeft lastRight lastProduct
+    squareWord lowProducts lowSum levelProducts wrapProducts halfShare halfOpening halfOpened answerFrom halfWord
     answerShare roundWords message afterHearing
     tallyFits tapesOf isFresh late marked cutMarked freshCount inRange modeOf
     wakeGround startGround speakGround hearGround wakeRule startRule speakRule hearRule stepped whole again
@@ -284,8 +285,8 @@ from-run entries respelled place b c =
         meets = meets-tested g 0 w entries (ap (λ (s : Summary). s .meets) c);
         compatible = all-tested (byBox b sharesAnew (sharesOf (otherBox b))) g 0 w entries (ap (λ (s : Summary). s .ranges) c);
       };
-      answer1 = answers-at _ place box1 2 (ap (λ (s : Summary). s .answer1) c);
-      answer2 = answers-at _ (place + 1) box2 6 (ap (λ (s : Summary). s .answer2) c);
+      answer1 = answers-at _ place box1 1 (ap (λ (s : Summary). s .answer1) c);
+      answer2 = answers-at _ (place + 1) box2 0 (ap (λ (s : Summary). s .answer2) c);
     }
 
 pub whole-possible : (b : Box) → Possible whole false (lastHears 2) b

@@ -1,5 +1,5 @@
 -- Which lists meet the premises. Document 01 says that a list still meets them with any other valid tapes and in-range shares. That is so with
--- one exception: in rounds 4 to 6 a message has as many words at every width, so a hear can come as far as ground 13 with a message that the
+-- one exception: in rounds 4 and 5 a message has as many words at every width, so a hear can come as far as ground 13 with a message that the
 -- other box spoke under a larger width. Whether all its words happen to be at most p depends on the tapes; where they are, the hear is not
 -- refused though the message is not true.
 use Prim.Native.Nat.{ℕ, suc, _≤_}

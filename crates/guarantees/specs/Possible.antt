@@ -111,12 +111,12 @@ pub record AnswersAt (log : List Event) (place : ℕ) (b : Box) (v : ℕ) : Type
 pub record Possible (entries : List Entry) (respelled : Bool) (place : ℕ) (b : Box) : Type 0 where
   pub valid : Valid (plainCommon entries b) b (plainSet b)
   pub premises : Premises (plainCommon entries b) b (sharesOf b) sharesAnew (plainSet b) (zeros respelled)
-  pub answer1 : AnswersAt (events (plainCommon entries b) b (plainSet b) (sharesOf b) (zeros respelled)) place box1 2
-  pub answer2 : AnswersAt (events (plainCommon entries b) b (plainSet b) (sharesOf b) (zeros respelled)) (place + 1) box2 6
+  pub answer1 : AnswersAt (events (plainCommon entries b) b (plainSet b) (sharesOf b) (zeros respelled)) place box1 1
+  pub answer2 : AnswersAt (events (plainCommon entries b) b (plainSet b) (sharesOf b) (zeros respelled)) (place + 1) box2 0
 
 -- the sum of the two answers is the bit of x < y
 abbrev pub RightSum : Type 0
-RightSum = (2 + 6) % modulus 3 ≡ indicator (ltb ((5 + 5) % modulus 3) ((1 + 3) % modulus 3))
+RightSum = (1 + 0) % modulus 3 ≡ indicator (ltb ((5 + 5) % modulus 3) ((1 + 3) % modulus 3))
 
 -- in the second list the power did fail in a mark: that start had passed its checks
 abbrev pub CutInMark : Type 0
