@@ -15,7 +15,7 @@ pub record Cut (n words : ℕ) (blank : List ℕ) : Type 0 where
   pub long : words ≡ length (take words blank)
   pub whole : length (take words blank) ≡ tapeLength n
 
-pub cut : (n words : ℕ) (blank : List ℕ) → listed n ≡ true → words ≡ tapeLength n → length blank ≡ 9052 → Cut n words blank
+pub cut : (n words : ℕ) (blank : List ℕ) → listed n ≡ true → words ≡ tapeLength n → length blank ≡ 9053 → Cut n words blank
 cut n words blank width counted room =
     let fits : words ≤ length blank = omega (arith, counted, small width, room) in
     let long = length-take-le words blank fits in

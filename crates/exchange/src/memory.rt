@@ -6,10 +6,10 @@ ghost use lib.ListN.{length};
 ghost use Rattle.exchange.specs.Memory.{blankWork, blankWords, freshJob};
 
 // Zeros for the longest tape.
-pub fn blank_tape() -> [u32; 9052]
-    ensures { λ r. ⌜ length r ≡ 9052 ⌝ }
+pub fn blank_tape() -> [u32; 9053]
+    ensures { λ r. ⌜ length r ≡ 9053 ⌝ }
 {
-    [0; 9052]
+    [0; 9053]
 }
 
 // Zeros to work in.

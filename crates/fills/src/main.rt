@@ -95,8 +95,8 @@ fn run_31(job: Job, tape: &[u32])
 }
 
 fn width_3() {
-    let mut t1 = [0u32; 148];
-    let mut t2 = [0u32; 148];
+    let mut t1 = [0u32; 149];
+    let mut t2 = [0u32; 149];
     tapes::deal(3, &mut t1, &mut t2);
     let box1 = Job {
         n: 3,
@@ -115,8 +115,8 @@ fn width_3() {
 }
 
 fn width_31() {
-    let mut t1 = [0u32; 9052];
-    let mut t2 = [0u32; 9052];
+    let mut t1 = [0u32; 9053];
+    let mut t2 = [0u32; 9053];
     tapes::deal(31, &mut t1, &mut t2);
     let box1 = Job {
         n: 31,

@@ -8,11 +8,11 @@ ghost use Rattle.plain.specs.Printed.{printed};
 mod job;
 mod text;
 
-// The text's first line is n x1 x2 y1 y2. Its answer stands at the front of out; none is longer than 89 bytes.
+// The text's first line is n x1 x2 y1 y2. Its answer stands at the front of out; none is longer than 78 bytes.
 pub fn answer(text: &[u8], out: &mut [u8]) -> usize
-    requires { ⌜ 89 ≤ length (now out) ⌝ }
+    requires { ⌜ 78 ≤ length (now out) ⌝ }
     ensures { λ r. ⌜ take r (now (out .exit)) ≡ printed (now (text .entry)) ⌝ }
-    ensures most { λ r. ⌜ r ≤ 89 ⌝ }
+    ensures most { λ r. ⌜ r ≤ 78 ⌝ }
 {
     let five = lines::reading::five_of(text);
     if !five.ok {

@@ -48,9 +48,9 @@ fn put_counts(n: u32, out: &mut [u8], from: usize) -> usize
 }
 
 pub fn put_answer(n: u32, less: u32, out: &mut [u8]) -> usize
-    requires { ⌜ (listed n ≡ true) × (89 ≤ length (now out)) ⌝ }
+    requires { ⌜ (listed n ≡ true) × (78 ≤ length (now out)) ⌝ }
     ensures { λ r. ⌜ (now (out .exit) ≡ sets (now (out .entry)) 0 (answerText n less)) × (r ≡ length (answerText n less)) ⌝ }
-    ensures most { λ r. ⌜ r ≤ 89 ⌝ }
+    ensures most { λ r. ⌜ r ≤ 78 ⌝ }
 {
     let name = lines::writing::put_bytes(&mut *out, 0, b"rounds");
     let counts = put_counts(n, &mut *out, name);

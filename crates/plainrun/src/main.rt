@@ -24,7 +24,7 @@ fn read_line(text: &mut [u8]) -> usize
 fn main() {
     let mut text = [0u8; 64];
     let len = read_line(&mut text);
-    let mut out = [0u8; 89];
+    let mut out = [0u8; 78];
     let end = plain::answer(&text[..len], &mut out);
     io::write_all(1, &out[..end]);
 }

@@ -60,12 +60,12 @@ fn run_width(w: u32, count: u8, board: bool)
 // Every job: the words go from box to box as they are, or every zero spelled p.
 fn run_widths(board: bool) {
     run_width(3, 5, board);
-    run_width(5, 5, board);
+    run_width(5, 4, board);
     run_width(7, 3, board);
     run_width(13, 2, board);
     run_width(17, 2, board);
     run_width(19, 2, board);
-    run_width(31, 3, board);
+    run_width(31, 2, board);
 }
 
 // Says that a deal agrees, and which: only of one that does.

@@ -114,10 +114,10 @@ enum-told-2 : tie.Need-enum-told-2
 enum-told-2 c = search needs
 
 -- both buffers are as long as they were
-whole1 : (d : tie.After-deal) → length (new1 d ++ drop (words d) (old1 d)) ≡ 9052
+whole1 : (d : tie.After-deal) → length (new1 d ++ drop (words d) (old1 d)) ≡ 9053
 whole1 d = length-front (old1 d) (new1 d) (words d) (d .deal .kept .1 .1 .1 .1 .0) ∙ blanks d .before .blank-tape .ensures
 
-whole2 : (d : tie.After-deal) → length (new2 d ++ drop (words d) (old2 d)) ≡ 9052
+whole2 : (d : tie.After-deal) → length (new2 d ++ drop (words d) (old2 d)) ≡ 9053
 whole2 d = length-front (old2 d) (new2 d) (words d) (d .deal .kept .1 .1 .1 .1 .1 .0) ∙ blanks d .blank-tape2 .ensures
 
 slice-aggregate-both-same : tie.Need-slice-aggregate-both-same
