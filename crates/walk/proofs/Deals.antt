@@ -46,8 +46,8 @@ take-filler zero all l = refl
 take-filler (suc count) zero l = absurd (omega (arith, l))
 take-filler (suc count) (suc all) l = ap (λ (rest : List ℕ). 9 ∷ rest) (take-filler count all (le-of-suc-le-suc l))
 
-pub front : (count : ℕ) (l : List ℕ) → count ≤ 149 → l ≡ filler 149 → take count l ≡ filler count
-front count l fits full = ap (take count) full ∙ take-filler count 149 fits
+pub front : (count : ℕ) (l : List ℕ) → count ≤ 150 → l ≡ filler 150 → take count l ≡ filler count
+front count l fits full = ap (take count) full ∙ take-filler count 150 fits
 
 pub told-same : (attempt : Attempt) (seed n : ℕ) (t1 t2 u1 u2 : List ℕ) → Told attempt t1 t2 (dealt seed n t1 t2) → t1 ≡ u1 → t2 ≡ u2
     → Told attempt u1 u2 (dealt seed n u1 u2)

@@ -15,7 +15,7 @@ use Rattle.walk.specs.declared.sweeps.Sweep.the-variants.{Bytes, Above, 
 abbrev pub placesOf : Sweep → ℕ
 placesOf Bytes = 4 * 255
 placesOf Above = 12 * 255
-placesOf Body = 141
+placesOf Body = 142
 placesOf Words = 33
 placesOf Zeros = 33
 

@@ -105,7 +105,7 @@ pub record After (b : BoxMemory) (buffer : List ℕ) (rule : Result) : Type 0 wh
 
 -- a box's tape 0 with a body of threes
 abbrev pub threesTape : ℕ → List ℕ
-threesTape side = tabulate 141 (λ k. 3) ++ trailer 3 5 side 0
+threesTape side = tabulate 142 (λ k. 3) ++ trailer 3 5 side 0
 
 -- a hear on it, of as many of these words as the round has
 abbrev pub roundHear : State → ℕ → ℕ → List ℕ → List ℕ → Result

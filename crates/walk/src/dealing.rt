@@ -40,15 +40,15 @@ fn deal(seed: u32, n: u32, t1: &mut [u32], t2: &mut [u32]) -> Attempt
     }
 }
 
-fn buffer() -> [u32; 149]
-    ensures { λ r. ⌜ (length r ≡ 149) × (r ≡ filler 149) ⌝ }
+fn buffer() -> [u32; 150]
+    ensures { λ r. ⌜ (length r ≡ 150) × (r ≡ filler 150) ⌝ }
 {
-    [FILLER; 149]
+    [FILLER; 150]
 }
 
 // Into buffers of so many words.
 fn sized(seed: u32, n: u32, words1: usize, words2: usize) -> Attempt
-    requires { ⌜ (words1 ≤ 149) × (words2 ≤ 149) ⌝ }
+    requires { ⌜ (words1 ≤ 150) × (words2 ≤ 150) ⌝ }
     ensures { λ r. ⌜ Told r (filler words1) (filler words2) (dealt seed n (filler words1) (filler words2)) ⌝ }
 {
     let mut t1 = buffer();
@@ -82,32 +82,32 @@ fn short(attempt: Attempt) {
 }
 
 fn single() {
-    line(b"deal, seed 0: ", sized(0, 3, 148, 148));
-    line(b"deal, n 4: ", sized(1, 4, 148, 148));
+    line(b"deal, seed 0: ", sized(0, 3, 149, 149));
+    line(b"deal, n 4: ", sized(1, 4, 149, 149));
     line(
-        b"deal, box 1's buffer of 147 words: ",
-        sized(1, 3, 147, 148),
+        b"deal, box 1's buffer of 148 words: ",
+        sized(1, 3, 148, 149),
     );
     line(
-        b"deal, box 1's buffer of 149 words: ",
+        b"deal, box 1's buffer of 150 words: ",
+        sized(1, 3, 150, 149),
+    );
+    line(
+        b"deal, box 2's buffer of 148 words: ",
         sized(1, 3, 149, 148),
     );
     line(
-        b"deal, box 2's buffer of 147 words: ",
-        sized(1, 3, 148, 147),
-    );
-    line(
-        b"deal, box 2's buffer of 149 words: ",
-        sized(1, 3, 148, 149),
+        b"deal, box 2's buffer of 150 words: ",
+        sized(1, 3, 149, 150),
     );
 }
 
 pub fn lines() {
     single();
     text(b"deal, first of several:");
-    short(sized(0, 4, 147, 149));
-    short(sized(1, 4, 147, 149));
-    short(sized(1, 3, 147, 149));
-    short(sized(1, 3, 148, 148));
+    short(sized(0, 4, 148, 150));
+    short(sized(1, 4, 148, 150));
+    short(sized(1, 3, 148, 150));
+    short(sized(1, 3, 149, 149));
     text(b"\n");
 }

@@ -35,8 +35,8 @@ fn on_tape(tape: &[u32]) -> Tried
 fn tapes_lent() {
     let short = tapes::short();
     let other = tapes::plain(2, 0);
-    let high = tapes::changed(140, 7);
-    line(b"hear, tape of 147 words: ", on_tape(&short));
+    let high = tapes::changed(141, 7);
+    line(b"hear, tape of 148 words: ", on_tape(&short));
     line(b"hear, the other box's tape: ", on_tape(&other));
     line(b"hear, last body word 7: ", on_tape(&high));
 }

@@ -66,7 +66,6 @@ pub fn lines() {
     answers(2);
     openings(4);
     openings(5);
-    openings(6);
     let last = progress::reached(progress::LAST);
     let share1 = exchange::share_of(answer_of(last, 1));
     let share2 = exchange::share_of(answer_of(last, 2));

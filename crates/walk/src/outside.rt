@@ -50,7 +50,7 @@ fn tally_lengths() {
 fn job_words() {
     line(b"number 4:", 3, 1, 16, job(Turn::Speak(1), 4, 5, 1));
     line(b"speak of round 0:", 3, 1, 16, job(Turn::Speak(0), 0, 5, 1));
-    line(b"hear of round 7:", 3, 1, 16, job(Turn::Hear(7), 0, 5, 1));
+    line(b"hear of round 6:", 3, 1, 16, job(Turn::Hear(6), 0, 5, 1));
     line(b"x 7:", 3, 1, 16, job(Turn::Speak(1), 0, 7, 1));
     line(b"y 7:", 3, 1, 16, job(Turn::Speak(1), 0, 5, 7));
 }

@@ -101,30 +101,31 @@ fn on_tape(tape: &[u32]) -> Tried
 fn tape_lengths() {
     let short = tapes::short();
     let long = tapes::long();
-    line(b"start, tape of 147 words: ", on_tape(&short));
-    line(b"start, tape of 149 words: ", on_tape(&long));
+    line(b"start, tape of 148 words: ", on_tape(&short));
+    line(b"start, tape of 150 words: ", on_tape(&long));
 }
 
 // Another word in one place of the tape.
 pub fn on_changed(place: usize, word: u32) -> Tried
-    requires { ⌜ place < 148 ⌝ }
+    requires { ⌜ place < 149 ⌝ }
     ensures { λ r. ⌜ Answered r (idleState 16) freshTally (startRule (idleState 16) 0 5 1 (set (boxTape 1 0) place word) (tabulate 100 (λ k. 0)) freshTally) ⌝ }
 {
     let tape = tapes::changed(place, word);
     on_tape(&tape)
 }
 
+// Distances that did not grow with the last group; then whose tape it is.
 fn trailers() {
     line(
-        b"start, distance to the squares 140: ",
-        on_changed(141, 140),
+        b"start, distance to the squares 141: ",
+        on_changed(142, 141),
     );
-    line(b"start, distance to the powers 88: ", on_changed(142, 88));
-    line(b"start, distance to the triples 50: ", on_changed(143, 50));
-    line(b"start, tape of pair 6: ", on_changed(144, 6));
-    line(b"start, tape of side 2: ", on_changed(145, 2));
-    line(b"start, tape of number 1: ", on_changed(146, 1));
-    line(b"start, tape of n 5: ", on_changed(147, 5));
+    line(b"start, distance to the powers 87: ", on_changed(143, 87));
+    line(b"start, distance to the triples 51: ", on_changed(144, 51));
+    line(b"start, tape of pair 6: ", on_changed(145, 6));
+    line(b"start, tape of side 2: ", on_changed(146, 2));
+    line(b"start, tape of number 1: ", on_changed(147, 1));
+    line(b"start, tape of n 5: ", on_changed(148, 5));
 }
 
 // The tally after a start on that tape.
