@@ -1,6 +1,6 @@
--- The test dealer does what document 02's P1 asks of it.
-use Prim.Native.Nat.{ℕ, _+_, _*_, _^_, _<_, _≤_}
-use mathlib.Core.Path.{_≡_, refl, _∙_}
+-- The test dealer does what document 02's P1 and P7 ask of it.
+use Prim.Native.Nat.{ℕ, _+_, _*_, _%_, _^_, _<_, _≤_}
+use mathlib.Core.Path.{_≡_, refl, ap₂, _∙_}
 use mathlib.Core.Bool.{true}
 use mathlib.Core.List.{List}
 use native.Mathlib.Omega.{arith}
@@ -11,16 +11,16 @@ use Rattle.field.specs.Congruence.{Cong}
 use Rattle.field.proofs.Widths.{bounds}
 use Rattle.field.proofs.Congruences.{cong-eq, cong-sym, _⊙_, cong-mul, cong-pow}
 use Rattle.shares.specs.Side.{isSide, other}
-use Rattle.tape.specs.Layout.{groupCount, section, tapeLength}
+use Rattle.tape.specs.Layout.{groupCount, tripleCount, section, tapeLength}
 use Rattle.tape.specs.Order.{inOrder}
-use Rattle.tape.specs.Dealt.{squarePair, inversePair, powerPair, tripleGroup, Dealt}
+use Rattle.tape.specs.Dealt.{squarePair, inversePair, powerPair, tripleGroup, threefoldGroup, lastSum, Dealt}
 use Rattle.tape.proofs.Orders.{in-order}
 use Rattle.deals.specs.Groups.{freeWords, drawnSum, exponent, total, groupWord}
 use Rattle.deals.specs.Deals.{dealtTape, dealGround, dealRule}
 use Rattle.deals.specs.Dealing.{Dealing}
 use Rattle.deals.proofs.Grounds.{seed-ground, no-ground}
-use Rattle.deals.proofs.Places.{Holds, each-place, beforeGroup, tape-long, trailer-at, body-at, letter}
-use Rattle.deals.proofs.Equations.{section-below, both-drawn, both-left, root-total, power-total, inverse-total}
+use Rattle.deals.proofs.Places.{body-kinds, each-place, sectionOf, Holds, beforeGroup, tape-long, trailer-at, body-at, letter}
+use Rattle.deals.proofs.Equations.{kind-below, both-drawn, both-left, root-total, power-total, inverse-total}
 
 -- ---- the tapes
 
@@ -33,12 +33,14 @@ module _ (seed n pair number : ℕ) (width : listed n ≡ true) where
       in-order n pair side number (tape side) width box
       (tape-long seed n pair side number)
       (λ k l. trailer-at seed n pair side number k)
-      (each-place (λ i. getD (tape side) i 0 < modulus n) n 3
-      (λ kind at l inside. rw (body-at seed n pair side number kind at l inside) (section-below n width side kind _ at)))
+      (λ i l.
+      each-place (λ i. getD (tape side) i 0 < modulus n) n 4
+      (λ kind at few inside. rw (body-at seed n pair side number kind at few inside) (kind-below n width side kind _ at))
+      i (omega (arith, l, body-kinds n)))
 
-  -- both boxes' words at a place of a section
+  -- both boxes' words at a place of a kind's section
   abbrev both : ℕ → ℕ → ℕ
-  both kind i = getD (section n kind (tape 1)) i 0 + getD (section n kind (tape 2)) i 0
+  both kind i = getD (section n (sectionOf kind) (tape 1)) i 0 + getD (section n (sectionOf kind) (tape 2)) i 0
 
   -- the words of any group
   module _ (kind g j i : ℕ) (h : Holds n kind g j i) where
@@ -46,7 +48,7 @@ module _ (seed n pair number : ℕ) (width : listed n ≡ true) where
     before = beforeGroup seed n kind g
 
     words : both kind i ≡ groupWord n 1 kind before j + groupWord n 2 kind before j
-    words = rw (letter seed n pair 1 number kind g j i h, letter seed n pair 2 number kind g j i h)
+    words = ap₂ (λ (w1 w2 : ℕ). w1 + w2) (letter seed n pair 1 number kind g j i h) (letter seed n pair 2 number kind g j i h)
 
     drawn : j < freeWords kind → both kind i ≡ drawnSum n kind before j
     drawn l = words ∙ both-drawn n width kind before j l
@@ -71,8 +73,21 @@ module _ (seed n pair number : ℕ) (width : listed n ≡ true) where
     powers : (k : ℕ) → 1 ≤ k → k ≤ n → Cong (modulus n) (both 1 (g * (n + 1) + k)) (both 1 (g * (n + 1) + 1) ^ k)
     powers k least most = power k least most ⊙ cong-eq (power-total n width start k least) ⊙ cong-sym (cong-pow k root)
 
+  -- those of the last group, which has the draws after all others
+  abbrev last : ℕ
+  last = beforeGroup seed n 3 0
+
+  abbrev lastBoth : ℕ → ℕ
+  lastBoth = lastSum n (tape 1) (tape 2)
+
+  mask : (k : ℕ) → k < 3 → lastBoth k ≡ drawnSum n 3 last k
+  mask k l = drawn 3 0 k (tripleCount n * 3 + k) (omega arith) (omega arith)
+
+  last-product : (k : ℕ) → 3 ≤ k → k < 7 → lastBoth k % modulus n ≡ total n 3 last k % modulus n
+  last-product k least most = left 3 0 k (tripleCount n * 3 + k) (omega arith) (omega arith) .same
+
   pub dealt-tapes : Dealt n pair number (dealtTape seed n pair 1 number) (dealtTape seed n pair 2 number)
-  unfolding isSide other squarePair inversePair powerPair tripleGroup total
+  unfolding isSide other squarePair inversePair powerPair tripleGroup threefoldGroup total
   dealt-tapes =
       record {
         own-order = dealt-order 1 refl;
@@ -85,6 +100,11 @@ module _ (seed n pair number : ℕ) (width : listed n ≡ true) where
         triples = λ i l.
             rw (drawn 2 i 0 (i * 3) (omega arith) (omega arith), drawn 2 i 1 (i * 3 + 1) (omega arith) (omega arith))
             (eq-eqb _ _ (left 2 i 2 (i * 3 + 2) (omega arith) (omega arith) .same));
+        last-ab = rw (mask 0 (omega arith), mask 1 (omega arith)) (eq-eqb _ _ (last-product 3 (omega arith) (omega arith)));
+        last-ac = rw (mask 0 (omega arith), mask 2 (omega arith)) (eq-eqb _ _ (last-product 4 (omega arith) (omega arith)));
+        last-bc = rw (mask 1 (omega arith), mask 2 (omega arith)) (eq-eqb _ _ (last-product 5 (omega arith) (omega arith)));
+        last-abc =
+            rw (mask 0 (omega arith), mask 1 (omega arith), mask 2 (omega arith)) (eq-eqb _ _ (last-product 6 (omega arith) (omega arith)));
       }
 
 -- ---- the call

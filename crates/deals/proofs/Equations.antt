@@ -14,7 +14,7 @@ use Rattle.field.proofs.Congruences.{cong-refl, cong-eq, _⊙_, cong-mod, cong-
 use Rattle.field.proofs.Subtraction.{minus-below, plus-minus}
 use Rattle.draws.specs.Draws.{draw, word}
 use Rattle.deals.specs.Groups.{freeWords, firstWord, freeWord, drawnSum, exponent, total, groupWord}
-use Rattle.deals.specs.Deals.{sectionWord}
+use Rattle.deals.specs.Deals.{kindWord}
 
 either-below : (t : Bool) {a b p : ℕ} → a < p → b < p → cond t a b < p
 either-below true la lb = la
@@ -33,9 +33,9 @@ module _ (n : ℕ) (width : listed n ≡ true) where
       (either-below (ltb j (freeWords kind)) free
       (minus-below n (total n kind v j % modulus n) (firstWord n kind v j) width))
 
-  pub section-below : (side kind v i : ℕ) → sectionWord n side kind v i < modulus n
-  unfolding sectionWord
-  section-below side kind v i = group-below side kind _ _
+  pub kind-below : (side kind v i : ℕ) → kindWord n side kind v i < modulus n
+  unfolding kindWord
+  kind-below side kind v i = group-below side kind _ _
 
   -- ---- both boxes' words
 

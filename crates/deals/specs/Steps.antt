@@ -6,6 +6,7 @@ use Rattle.lists.specs.Tabulate.{tabulate}
 use Rattle.field.specs.Width.{modulus}
 use Rattle.field.specs.Subtraction.{minus}
 use Rattle.draws.specs.Draws.{draw, word}
+use Rattle.deals.specs.Groups.{lastProducts}
 
 -- the first so many draws after v, modulo p
 abbrev pub drawnWords : ℕ → ℕ → ℕ → List ℕ
@@ -28,3 +29,16 @@ productWords n v count =
 abbrev pub powerAt : ℕ → ℕ → ℕ → ℕ → ℕ
 powerAt n w r zero = w
 powerAt n w r (suc j) = r ^ suc j % modulus n
+
+-- box 2's last four words of the last group: what is left of the products of both boxes' a, b and c
+abbrev pub threefoldLeft : ℕ → List ℕ → List ℕ → List ℕ
+threefoldLeft n w1 w2 =
+    let mask : ℕ → ℕ = λ j. getD w1 j 0 + getD w2 j 0 in
+    tabulate 4 (λ j. minus n (getD (lastProducts (mask 0) (mask 1) (mask 2)) j 0 % modulus n) (getD w1 (3 + j) 0))
+
+-- box 2's words of the last group
+abbrev pub threefoldWords : ℕ → ℕ → List ℕ
+threefoldWords n v =
+    let own = drawnWords n v 7 in
+    let others = drawnWords n (draw v 7) 3 in
+    others ++ threefoldLeft n own others

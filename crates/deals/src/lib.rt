@@ -1,4 +1,4 @@
-// The test dealer of document 02's P1: both tapes of a tape number, from a seed.
+// The test dealer of document 02's P1 and P7: both tapes of a tape number, from a seed.
 use refusals::Check;
 use refusals::Refusal;
 ghost use mathlib.Core.Path.{_≡_};
@@ -32,7 +32,7 @@ fn deal_check(seed: u32, n: u32, t1: &[u32], t2: &[u32]) -> Check
     Check::Passed
 }
 
-// The bodies of both tapes: a section after another, each from the draws after the last one's.
+// The bodies of both tapes: the groups of a kind after those of another, each kind from the draws after the last one's.
 fn bodies(seed: u32, n: u32, t1: &mut [u32], t2: &mut [u32])
     requires { ⌜ (listed n ≡ true) × (length (now t1) ≡ tapeLength n) × (length (now t2) ≡ tapeLength n) ⌝ }
     ensures box1 { λ _. ⌜ now (t1 .exit) ≡ sets (now (t1 .entry)) 0 (dealtBody seed n 1) ⌝ }
@@ -41,9 +41,9 @@ fn bodies(seed: u32, n: u32, t1: &mut [u32], t2: &mut [u32])
     let mut last = seed;
     let mut at = 0;
     let mut kind = 0;
-    while kind < tape::SECTIONS {
-        let end = at + tape::section_words(n, kind);
-        last = groups::section(n, kind, last, &mut t1[at..end], &mut t2[at..end]);
+    while kind < groups::KINDS {
+        let end = at + groups::kind_words(n, kind);
+        last = groups::all_of(n, kind, last, &mut t1[at..end], &mut t2[at..end]);
         at = end;
         kind += 1;
     }

@@ -15,9 +15,12 @@ returns-2 : tie.Need-returns-2
 returns-2 c = rw (c .match .keys2) refl
 
 returns-3 : tie.Need-returns-3
-returns-3 c =
-    let last : c .before .args .kind ≡ 2 = omega (arith, c .match .rest .1, c .match .rest .0 .1, c .before .pre .1) in
+returns-3 c = rw (c .match .keys3) refl
+
+returns-4 : tie.Need-returns-4
+returns-4 c =
+    let last : c .before .args .kind ≡ 3 = omega (arith, c .match .rest, c .before .pre .1) in
     rw last refl
 
 pub group-words-spec : {M : Type 1} → statement M
-group-words-spec = tie.close (tie.spec add-result returns returns-2 returns-3)
+group-words-spec = tie.close (tie.spec add-result returns returns-2 returns-3 returns-4)

@@ -1,7 +1,7 @@
 -- `deals::groups::product` meets its contract: the draws stand in order, and the last word is worked out from them.
 use Prim.Native.Nat.{ℕ, _+_, _-_}
 use mathlib.Core.Path.{_≡_, sym, ap, ap₂, _∙_}
-use mathlib.Core.List.{List, _++_}
+use mathlib.Core.List.{List, [], _∷_, _++_}
 use native.Mathlib.Omega.{arith}
 use borrow.Author.Needs.{needs}
 use lib.ListN.{length, take, drop, set, length-drop}
@@ -9,7 +9,7 @@ use lib.Seq.{length-take-le}
 use Rattle.draws.specs.Draws.{draw}
 use Rattle.draws.proofs.Draws.{draw-after}
 use Rattle.deals.specs.Steps.{drawnWords, productLeft}
-use Rattle.deals.proofs.Products.{Drawn, length-drawn, drawn, left-same, set-last}
+use Rattle.deals.proofs.Products.{Drawn, length-drawn, drawn, product-same, set-rest}
 use Rattle.deals.proofs.groups.product.Statement.{statement}
 use Rattle.deals.proofs.groups.product.Tie as tie
 
@@ -38,8 +38,9 @@ module _ (f : tie.After-fill2) where
       f .fill2 .ensures .1
       ∙ ap₂ (drawnWords (start .args .n)) (f .before .before .before .before .fill .ensures .0) cut
 
-  both : Drawn (start .args .n) (f .before .before .before .before .fill .last .1 .1 .0) (f .fill2 .last .1 .1 .0 ++ rest)
-  both = drawn (start .args .n) (start .args .v) count rest (start .pre .1) (start .pre .0) one-left own-drawn others-drawn
+  both : Drawn (start .args .n) count (count - 1) (f .before .before .before .before .fill .last .1 .1 .0) (f .fill2 .last .1 .1 .0 ++ rest)
+  both =
+      drawn (start .args .n) (start .args .v) count (count - 1) rest (start .pre .0) (omega (arith, one-left, start .pre .1)) own-drawn others-drawn
 
 returns : tie.Need-returns
 returns c =
@@ -51,12 +52,12 @@ returns c =
     let front = drawnWords n (draw v k) (k - 1) in
     let last : c .product-left .result ≡ productLeft n (drawnWords n v k) front =
     c .product-left .ensures ∙ ap₂ (productLeft n) (own-drawn f) (ap (λ (words : List ℕ). words ++ rest f) (others-drawn f))
-    ∙ left-same n v k (rest f) (s .pre .1) in (
+    ∙ product-same n v k (rest f) (s .pre .1) in (
       f .fill2 .ensures .0 ∙ ap₂ draw (f .before .before .before .before .fill .ensures .0) (cut f) ∙ draw-after v k (k - 1),
       (
         own-drawn f,
         ap₂ (λ (words : List ℕ) (x : ℕ). set (words ++ rest f) (k - 1) x) (others-drawn f) last
-            ∙ set-last front (rest f) (k - 1) _ (length-drawn n (draw v k) (k - 1)) (one-left f),
+            ∙ set-rest front (rest f) (_ ∷ []) (k - 1) (length-drawn n (draw v k) (k - 1)) (one-left f),
       ),
     )
 
@@ -69,7 +70,10 @@ product-left-requires : tie.Need-product-left-requires
 product-left-requires c κs =
     let f = c .before .before .before .before in
     let d = both f in
-    ((start f .pre .0, d .some, d .long), (d .below1, d .below2))
+    let long = d .long1 in (
+      (start f .pre .0, omega (arith, start f .pre .1, long), omega (arith, d .long2, long)),
+      (λ j l. d .below1 j (omega (arith, l, long)), λ j l. d .below2 j (omega (arith, l, long))),
+    )
 
 sub-last : tie.Need-sub-last
 sub-last c = search needs

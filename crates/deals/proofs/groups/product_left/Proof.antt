@@ -1,23 +1,15 @@
 -- `deals::groups::product_left` meets its contract: the product of two sums, less a word.
-use Prim.Native.Nat.{ℕ, _-_, _*_, _%_}
-use mathlib.Core.Path.{_≡_, ap, _∙_}
+use Prim.Native.Nat.{ℕ, _-_}
+use mathlib.Core.Path.{ap, _∙_}
 use native.Mathlib.Nat.{le-of-lt}
 use native.Mathlib.Omega.{arith}
-use borrow.Author.Needs.{needs}
 use borrow.Author.Needs.{needs}
 use lib.ListN.{length, getD}
 use Rattle.field.specs.Width.{modulus}
 use Rattle.field.specs.Subtraction.{minus}
-use Rattle.field.specs.Congruence.{Cong}
-use Rattle.field.proofs.Congruences.{cong-eq, _⊙_, cong-mod, cong-mul}
+use Rattle.deals.proofs.Products.{same-product}
 use Rattle.deals.proofs.groups.product_left.Statement.{statement}
 use Rattle.deals.proofs.groups.product_left.Tie as tie
-
--- the factors are sums, reduced or not
-same-product : (p u v a b : ℕ) → a ≡ u % p → b ≡ v % p → a * b % p ≡ u * v % p
-same-product p u v a b ea eb =
-    let same : Cong p (a * b) (u * v) = cong-mul (cong-eq {a = a} ea ⊙ cong-mod) (cong-eq {a = b} eb ⊙ cong-mod) in
-    same .same
 
 returns : tie.Need-returns
 returns c =

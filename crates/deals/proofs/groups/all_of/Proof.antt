@@ -1,4 +1,4 @@
--- `deals::groups::section` meets its contract: each turn writes one group, from the draws after the last one's.
+-- `deals::groups::all_of` meets its contract: each turn writes one group, from the draws after the last one's.
 use Prim.Native.Nat.{ℕ, zero, suc, _+_, _-_, _*_, _<_, _≤_}
 use mathlib.Core.Path.{_≡_, sym, ap, _∙_}
 use mathlib.Core.List.{List, _++_}
@@ -7,25 +7,24 @@ use native.Mathlib.Omega.{arith}
 use borrow.Author.Needs.{needs}
 use borrow.Rule.Slice.PartMut.{putMid}
 use lib.ListN.{length}
-use Rattle.tape.specs.Layout.{sectionLength}
 use Rattle.lists.specs.Tabulate.{tabulate}
 use Rattle.lists.proofs.Tabulate.{length-tabulate, tabulate-append}
 use Rattle.draws.specs.Draws.{draw}
 use Rattle.draws.proofs.Draws.{draw-none, draw-after}
 use Rattle.deals.specs.Groups.{groupsOf, groupLength, groupDraws, groupWord}
-use Rattle.deals.specs.Deals.{sectionWord}
-use Rattle.deals.proofs.Places.{section-groups, group-part}
+use Rattle.deals.specs.Deals.{kindLength, kindWord}
+use Rattle.deals.proofs.Places.{group-part}
 use Rattle.deals.proofs.Fronts.{Front, front-none, front-long, front-fits, part-long, front-more, front-all}
-use Rattle.deals.proofs.groups.section.Statement.{statement}
-use Rattle.deals.proofs.groups.section.Tie as tie
+use Rattle.deals.proofs.groups.all_of.Statement.{statement}
+use Rattle.deals.proofs.groups.all_of.Tie as tie
 
 -- after g groups: the last draw, the place, and both boxes' words: the groups' so far, then the rest as it was
 record Filled (n kind v : ℕ) (w1₀ w2₀ w1 w2 : List ℕ) (last at : ℕ) : Type 0 where
   g : ℕ
   there : at ≡ g * groupLength n kind
   drawn : last ≡ draw v (g * groupDraws n kind)
-  box1 : Front (tabulate at (sectionWord n 1 kind v)) w1₀ w1
-  box2 : Front (tabulate at (sectionWord n 2 kind v)) w2₀ w2
+  box1 : Front (tabulate at (kindWord n 1 kind v)) w1₀ w1
+  box2 : Front (tabulate at (kindWord n 2 kind v)) w2₀ w2
 
 abbrev Inv-loop : tie.InvT-loop
 Inv-loop n kind v w1₀ w2₀ words last₀ at₀ w1 w2 last at = Filled n kind v w1₀ w2₀ w1 w2 last at
@@ -42,13 +41,14 @@ group-room groups size words g at long same whole there less =
 group-some : (n kind : ℕ) → 0 < groupLength n kind
 group-some n zero = omega arith
 group-some n (suc zero) = omega arith
-group-some n (suc (suc kind)) = omega arith
+group-some n (suc (suc zero)) = omega arith
+group-some n (suc (suc (suc kind))) = omega arith
 
--- the front is the whole section
-whole-section : (side n kind v at : ℕ) (old l : List ℕ) → at ≡ sectionLength n kind → length old ≡ sectionLength n kind
-    → Front (tabulate at (sectionWord n side kind v)) old l → l ≡ tabulate (sectionLength n kind) (sectionWord n side kind v)
-whole-section side n kind v at old l done long h =
-    let f = sectionWord n side kind v in
+-- the front is all of the kind
+whole-kind : (side n kind v at : ℕ) (old l : List ℕ) → at ≡ kindLength n kind → length old ≡ kindLength n kind
+    → Front (tabulate at (kindWord n side kind v)) old l → l ≡ tabulate (kindLength n kind) (kindWord n side kind v)
+whole-kind side n kind v at old l done long h =
+    let f = kindWord n side kind v in
     front-all h (omega (arith, done, long, length-tabulate at f)) ∙ ap (λ (k : ℕ). tabulate k f) done
 
 -- a turn
@@ -71,7 +71,7 @@ module _ (t : tie.In-loop Inv-loop μ-loop) where
       let kind = start .args .kind in
       let h = l .loop .inv in
       group-room (groupsOf n kind) (groupLength n kind) words (h .g) (l .loop .at) _ words-are
-      (start .pre .2 ∙ section-groups n kind (start .pre .1)) (h .there) (omega (arith, t .loop-test .taken, front-long (h .box1)))
+      (start .pre .2) (h .there) (omega (arith, t .loop-test .taken, front-long (h .box1)))
 
   room2 : l .loop .at + words ≤ length (start .args .w2 .now)
   room2 = omega (arith, room, start .pre .2, start .pre .3)
@@ -79,20 +79,20 @@ module _ (t : tie.In-loop Inv-loop μ-loop) where
   -- what is written there
   turn-part : (side : ℕ) (part : List ℕ) → let n = start .args .n in let kind = start .args .kind in
       part ≡ tabulate (groupLength n kind) (groupWord n side kind (l .loop .last))
-      → part ≡ tabulate words (λ j. sectionWord n side kind (start .args .v) (l .loop .at + j))
+      → part ≡ tabulate words (λ j. kindWord n side kind (start .args .v) (l .loop .at + j))
   turn-part side part written =
       let n = start .args .n in
       let kind = start .args .kind in
       let h = l .loop .inv in
       group-part n side kind (start .args .v) (h .g) (l .loop .last) (l .loop .at) part (h .drawn) (h .there) written
-      ∙ ap (λ (k : ℕ). tabulate k (λ j. sectionWord n side kind (start .args .v) (l .loop .at + j))) (sym words-are)
+      ∙ ap (λ (k : ℕ). tabulate k (λ j. kindWord n side kind (start .args .v) (l .loop .at + j))) (sym words-are)
 
-  turn-front : (side : ℕ) (part old whole : List ℕ) → let f = sectionWord (start .args .n) side (start .args .kind) (start .args .v) in
+  turn-front : (side : ℕ) (part old whole : List ℕ) → let f = kindWord (start .args .n) side (start .args .kind) (start .args .v) in
       Front (tabulate (l .loop .at) f) old whole → l .loop .at + words ≤ length old → part ≡ tabulate words (λ j. f (l .loop .at + j))
       → Front (tabulate (l .loop .at + words) f) old (putMid (l .loop .at) (l .loop .at + words - l .loop .at) whole part)
   turn-front side part old whole h fits written =
       let at = l .loop .at in
-      let f = sectionWord (start .args .n) side (start .args .kind) (start .args .v) in
+      let f = kindWord (start .args .n) side (start .args .kind) (start .args .v) in
       let long : length part ≡ words = ap length written ∙ length-tabulate words (λ j. f (at + j)) in
       front-more h at words part _ (length-tabulate at f) long fits
       (tabulate-append at words f ∙ ap (λ (rest : List ℕ). tabulate at f ++ rest) (sym written))
@@ -105,15 +105,15 @@ returns c =
     let kind = s .args .kind in
     let h = l .loop .inv in
     let at = l .loop .at in
-    let f = sectionWord n 1 kind (s .args .v) in
+    let f = kindWord n 1 kind (s .args .v) in
     let end : length (s .args .w1 .now) ≤ at = omega (arith, c .loop-test .left, front-long (h .box1)) in
-    let done : at ≡ sectionLength n kind = omega (arith, end, s .pre .2, h .box1 .within, length-tabulate at f) in
+    let done : at ≡ kindLength n kind = omega (arith, end, s .pre .2, h .box1 .within, length-tabulate at f) in
     let all : h .g ≡ groupsOf n kind =
-    eq-of-mul-eq-mul-right (groupLength n kind) (group-some n kind) _ _ (sym (h .there) ∙ done ∙ section-groups n kind (s .pre .1)) in (
+    eq-of-mul-eq-mul-right (groupLength n kind) (group-some n kind) _ _ (sym (h .there) ∙ done) in (
       h .drawn ∙ ap (λ (g : ℕ). draw (s .args .v) (g * groupDraws n kind)) all,
       (
-        whole-section 1 n kind (s .args .v) at _ _ done (s .pre .2) (h .box1),
-        whole-section 2 n kind (s .args .v) at _ _ done (s .pre .3) (h .box2),
+        whole-kind 1 n kind (s .args .v) at _ _ done (s .pre .2) (h .box1),
+        whole-kind 2 n kind (s .args .v) at _ _ done (s .pre .3) (h .box2),
       ),
     )
 
@@ -196,8 +196,8 @@ same-length c = front-long (c .before .loop .inv .box1)
 same-length-2 : tie.Need-same-length-2 Inv-loop μ-loop
 same-length-2 c = front-long (c .before .loop .inv .box2)
 
-pub section-spec : {M : Type 1} → statement M
-section-spec =
+pub all-of-spec : {M : Type 1} → statement M
+all-of-spec =
     tie.close
     (tie.spec
     Inv-loop
