@@ -21,7 +21,7 @@ pub fn lows(side: u32, low: [u32; 3]) -> [u32; 3]
 }
 
 // A share that work holds.
-pub fn held(n: u32, work: &[u32], slot: usize) -> u32
+fn held(n: u32, work: &[u32], slot: usize) -> u32
     requires { ⌜ (listed n ≡ true) × (slot < length (now work)) ⌝ }
     ensures { λ r. ⌜ r ≡ held n (now (work .entry)) slot ⌝ }
     ensures below { λ r. ⌜ r < modulus n ⌝ }

@@ -1,5 +1,5 @@
 -- A round's message has as many words as the table says, and hearing keeps work's length.
-use Prim.Native.Nat.{ℕ, _+_, _*_, _≤_}
+use Prim.Native.Nat.{ℕ, suc, _+_, _*_, _≤_}
 use mathlib.Core.Path.{_≡_, refl, ap, ap₂, _∙_}
 use mathlib.Core.List.{List, []}
 use mathlib.Core.Bool.{true}
@@ -7,7 +7,7 @@ use native.Mathlib.Nat.{mul-le-mul-right}
 use native.Mathlib.Omega.{arith}
 use lib.ListN.{length, length-append, take}
 use lib.Seq.{sets, length-sets, take-at}
-use Rattle.lists.specs.Tabulate.{tabulate}
+use Rattle.lists.specs.Tabulate.{tabulate, sum}
 use Rattle.lists.proofs.Tabulate.{length-tabulate}
 use Rattle.lists.proofs.Sets.{sets-front}
 use Rattle.field.specs.Width.{listed}
@@ -17,7 +17,7 @@ use Rattle.tape.specs.Layout.{squareCount, groupCount}
 use Rattle.protocol.proofs.ByRound.{at-each, at-both}
 use Rattle.protocol.specs.Work.{held}
 use Rattle.protocol.specs.Products.{Party, Products, openLeft, openRight, openings, alternating}
-use Rattle.protocol.specs.Rounds.{squareWord, lowProducts, levelProducts, wrapProducts, halfWord, wordTable, roundWords, messageTable, message, hearingTable, afterHearing}
+use Rattle.protocol.specs.Rounds.{squareWord, lowProducts, levelProducts, wrapProducts, halfWord, lastRound, wordTable, roundWords, messageTable, message, hearingTable, afterHearing}
 
 -- no round has more words than the first
 pub most-words : (n round : ℕ) → listed n ≡ true → roundWords n round ≤ roundWords n 1
@@ -35,6 +35,11 @@ first-words n = refl
 
 pub words-most : (n round : ℕ) → listed n ≡ true → roundWords n round ≤ 2889
 words-most n round l = omega (arith, most-words n round l, first-words n, small l)
+
+-- document 02's figure: the words that a box sends in a job
+pub job-words : (n : ℕ) → sum lastRound (λ r. roundWords n (suc r)) ≡ 3 * (n * n) + 9 * n + 15
+unfolding roundWords
+job-words n = omega arith
 
 openings-length : (q : Party) (ps : Products) → length (openings q ps) ≡ ps .count * 2
 unfolding openings

@@ -17,7 +17,7 @@ use Rattle.protocol.specs.Tests.{complement, exclusive}
 
 module _ (n : ℕ) (l : listed n ≡ true) where
   -- from a sum, what one part of it is
-  pub part : (a b c d : ℕ) → Cong (modulus n) (a + b) c → Cong (modulus n) b d → (e : ℕ) → e + d ≡ c → Cong (modulus n) a e
+  part : (a b c d : ℕ) → Cong (modulus n) (a + b) c → Cong (modulus n) b d → (e : ℕ) → e + d ≡ c → Cong (modulus n) a e
   part a b c d sum same e total =
       cong-cancel d (omega (arith, bounds l)) (cong-add cong-refl (cong-sym same) ⊙ sum ⊙ cong-eq (sym total))
 

@@ -16,7 +16,7 @@ halfOpening n v triples k = masked n (v k) (lastLetter n triples k)
 unfoldable pub halfOpened : ℕ → (ℕ → ℕ) → List ℕ → List ℕ → ℕ → ℕ
 halfOpened n v triples incoming k = opened n (halfOpening n v triples k) (getD incoming k 0)
 
--- the share of 1 − U − Z + H·U + H·Z + U·Z − 2·H·U·Z
+-- the share of 1 − U − Z + H·U + H·Z + U·Z − 2·H·U·Z; m 0 to m 6 are the box's a, b, c, ab, ac, bc, abc
 unfoldable pub answerFrom : ℕ → ℕ → (ℕ → ℕ) → List ℕ → List ℕ → ℕ
 answerFrom n side v triples incoming =
     let e = halfOpened n v triples incoming 0 in

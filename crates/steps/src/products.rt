@@ -12,7 +12,7 @@ ghost use Rattle.protocol.specs.Words.{Below, FromLine};
 ghost use Rattle.protocol.specs.Products.{closed, alternating};
 
 // The two words that open the product of v and u by triple i, put at a place of out.
-pub fn open_product(n: u32, v: u32, u: u32, triples: &[u32], i: usize, out: &mut [u32], at: usize)
+fn open_product(n: u32, v: u32, u: u32, triples: &[u32], i: usize, out: &mut [u32], at: usize)
     requires { ⌜ (listed n ≡ true) × (v < modulus n) × (u < modulus n) ⌝ }
     requires { ⌜ Below (modulus n) (now triples) × (i * 3 + 2 < length (now triples)) × (at + 1 < length (now out)) ⌝ }
     ensures { λ _. ⌜ now (out .exit)
@@ -23,7 +23,7 @@ pub fn open_product(n: u32, v: u32, u: u32, triples: &[u32], i: usize, out: &mut
 }
 
 // The share of the product of v and u by triple i, the other box's two words standing at a place of incoming.
-pub fn close_product(
+fn close_product(
     n: u32,
     side: u32,
     v: u32,
