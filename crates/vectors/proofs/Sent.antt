@@ -83,7 +83,7 @@ unfolding sent
 text-sent text c h told front = rw (told, front)
 
 -- the zeros of a job that agrees fit a word
-pub agreeing-small : {w number zeros : ℕ} {respell : Bool} → Agreeing w respell number zeros → zeros ≤ 34668
+pub agreeing-small : {w number zeros : ℕ} {respell : Bool} → Agreeing w respell number zeros → zeros ≤ 28890
 unfolding sent tapesSent jobSent
 agreeing-small {w} {number} {zeros} {respell} a =
     let width = agreed-width w (a .text) (a .agrees) in

@@ -7,12 +7,12 @@ use Rattle.vectors.proofs.run_width.Statement.{statement}
 use Rattle.vectors.proofs.run_width.Tie as tie
 
 abbrev Inv-loop : tie.InvT-loop
-Inv-loop w count respell agreed₀ zeros₀ k₀ t8 agreed zeros k = (agreed ≤ k) × (zeros ≤ k * 34668) × (k ≤ count)
+Inv-loop w count respell agreed₀ zeros₀ k₀ t8 agreed zeros k = (agreed ≤ k) × (zeros ≤ k * 28890) × (k ≤ count)
 
 abbrev μ-loop : tie.MeasureT-loop
 μ-loop w count respell agreed₀ zeros₀ k₀ t8 agreed zeros k = count - k
 
-small : (c : tie.After-print-decimal Inv-loop μ-loop) → c .before .before .before .before .before .compared-with .result .zeros ≤ 34668
+small : (c : tie.After-print-decimal Inv-loop μ-loop) → c .before .before .before .before .before .compared-with .result .zeros ≤ 28890
 small c =
     let t = c .before .before .before .before in
     agreeing-small (t .before .compared-with .ensures (t .if1 .taken))

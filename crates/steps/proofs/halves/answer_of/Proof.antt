@@ -37,7 +37,7 @@ array-read-mask : tie.Need-array-read-mask
 array-read-mask c = search needs
 
 mask-requires : tie.Need-mask-requires
-mask-requires c κs = let s = c .before .before .before in (s .pre .0 .0, s .pre .0 .1 .at 0, masks-below (c) .0 .0)
+mask-requires c κs = let s = c .before .before .before in (s .pre .0 .0, s .pre .0 .1 .at _, masks-below c .0 .0)
 
 shared-slice-read-open : tie.Need-shared-slice-read-open
 shared-slice-read-open c = search needs
@@ -49,7 +49,7 @@ array-read-mask-2 : tie.Need-array-read-mask-2
 array-read-mask-2 c = search needs
 
 mask-requires-2 : tie.Need-mask-requires-2
-mask-requires-2 c κs = let s = c .before .before .before .before .before .before in (s .pre .0 .0, s .pre .0 .1 .at 1, masks-below (c .before .before .before) .0 .1)
+mask-requires-2 c κs = let s = c .before .before .before .before .before .before in (s .pre .0 .0, s .pre .0 .1 .at _, masks-below (c .before .before .before) .0 .1)
 
 shared-slice-read-open-2 : tie.Need-shared-slice-read-open-2
 shared-slice-read-open-2 c = search needs
@@ -61,7 +61,7 @@ array-read-mask-3 : tie.Need-array-read-mask-3
 array-read-mask-3 c = search needs
 
 mask-requires-3 : tie.Need-mask-requires-3
-mask-requires-3 c κs = let s = c .before .before .before .before .before .before .before .before .before in (s .pre .0 .0, s .pre .0 .1 .at 2, masks-below (c .before .before .before .before .before .before) .0 .2)
+mask-requires-3 c κs = let s = c .before .before .before .before .before .before .before .before .before in (s .pre .0 .0, s .pre .0 .1 .at _, masks-below (c .before .before .before .before .before .before) .0 .2)
 
 shared-slice-read-open-3 : tie.Need-shared-slice-read-open-3
 shared-slice-read-open-3 c = search needs
