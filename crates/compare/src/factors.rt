@@ -2,7 +2,7 @@
 use steps::tests::Tests;
 ghost use mathlib.Core.Path.{_≡_};
 ghost use mathlib.Core.Bool.{true};
-ghost use Prim.Native.Nat.{_<_, _≤_};
+ghost use Prim.Native.Nat.{_+_, _<_, _≤_};
 ghost use lib.ListN.{length, getD};
 ghost use Rattle.lists.specs.Tabulate.{tabulate};
 ghost use Rattle.field.specs.Width.{listed, modulus};
@@ -29,15 +29,23 @@ fn held(n: u32, work: &[u32], slot: usize) -> u32
     field::reduce(n, work[slot])
 }
 
+// Three such shares side by side, one for each test.
+fn three_held(n: u32, work: &[u32], at: usize) -> [u32; 3]
+    requires { ⌜ (listed n ≡ true) × (at + 2 < length (now work)) ⌝ }
+    ensures { λ r. ⌜ r ≡ tabulate 3 (λ t. held n (now (work .entry)) (at + t)) ⌝ }
+{
+    let a = held(n, work, at);
+    let b = held(n, work, at + 1);
+    let c = held(n, work, at + 2);
+    [a, b, c]
+}
+
 // The shares of S.
 pub fn sums(n: u32, work: &[u32]) -> [u32; 3]
     requires { ⌜ (listed n ≡ true) × (workLength n ≤ length (now work)) ⌝ }
     ensures { λ r. ⌜ r ≡ tabulate 3 (λ t. held n (now (work .entry)) (sumSlot n t)) ⌝ }
 {
-    let a = held(n, work, steps::places::sum_slot(n, 0));
-    let b = held(n, work, steps::places::sum_slot(n, 1));
-    let c = held(n, work, steps::places::sum_slot(n, 2));
-    [a, b, c]
+    three_held(n, work, steps::places::sum_slot(n, 0))
 }
 
 // The tests once their wraps are known: the shares that work holds of them.
@@ -60,8 +68,5 @@ pub fn halves(n: u32, work: &[u32]) -> [u32; 3]
     requires { ⌜ (listed n ≡ true) × (workLength n ≤ length (now work)) ⌝ }
     ensures { λ r. ⌜ r ≡ tabulate 3 (λ t. held n (now (work .entry)) (halfSlot n t)) ⌝ }
 {
-    let a = held(n, work, steps::places::half_slot(n, 0));
-    let b = held(n, work, steps::places::half_slot(n, 1));
-    let c = held(n, work, steps::places::half_slot(n, 2));
-    [a, b, c]
+    three_held(n, work, steps::places::half_slot(n, 0))
 }

@@ -1,47 +1,24 @@
--- `compare::factors::sums` meets its contract.
+-- `compare::factors::sums` meets its contract: they stand side by side in work.
+use Prim.Native.Nat.{ℕ, _+_}
+use mathlib.Core.Path.{_≡_, ap, _∙_}
+use native.Mathlib.Omega.{arith}
 use borrow.Author.Needs.{needs}
+use Rattle.lists.proofs.Tabulate.{tabulate-same}
+use Rattle.protocol.specs.Work.{sumSlot, held}
 use Rattle.compare.proofs.factors.sums.Statement.{statement}
 use Rattle.compare.proofs.factors.sums.Tie as tie
 
 sum-slot-requires : tie.Need-sum-slot-requires
 sum-slot-requires c κs = search needs
 
-held-requires : tie.Need-held-requires
-held-requires c κs = search needs
-
-sum-slot-requires-2 : tie.Need-sum-slot-requires-2
-sum-slot-requires-2 c κs = search needs
-
-held-requires-2 : tie.Need-held-requires-2
-held-requires-2 c κs = search needs
-
-sum-slot-requires-3 : tie.Need-sum-slot-requires-3
-sum-slot-requires-3 c κs = search needs
-
-held-requires-3 : tie.Need-held-requires-3
-held-requires-3 c κs = search needs
+three-held-requires : tie.Need-three-held-requires
+three-held-requires c κs = search needs
 
 returns : tie.Need-returns
 returns c =
-    let b = c .before .before in
-    let a = b .before .before in
-    rw (
-      c .held3 .ensures .0,
-      c .before .sum-slot3 .ensures,
-      b .held2 .ensures .0,
-      b .before .sum-slot2 .ensures,
-      a .held .ensures .0,
-      a .before .sum-slot .ensures,
-    )
+    let a = c .before .before .before .args in
+    let place : (t : ℕ) → c .before .sum-slot .result + t ≡ sumSlot (a .n) t = λ t. omega (arith, c .before .sum-slot .ensures) in
+    c .three-held .ensures ∙ tabulate-same 3 _ _ (λ t less. ap (held (a .n) (a .work .now)) (place t))
 
 pub sums-spec : {M : Type 1} → statement M
-sums-spec =
-    tie.close
-    (tie.spec
-    sum-slot-requires
-    held-requires
-    sum-slot-requires-2
-    held-requires-2
-    sum-slot-requires-3
-    held-requires-3
-    returns)
+sums-spec = tie.close (tie.spec sum-slot-requires three-held-requires returns)

@@ -101,6 +101,18 @@ open-products-requires-2 c κs =
       (triples .below, omega (arith, first .wrap-triple .ensures, triples .long), room s 4 (m .match .keys4)),
     )
 
+-- round 5's words, before what the steps ask: wrong words fail here
+returns-5 : tie.Need-returns-5
+returns-5 c =
+    let done = c .before .before in
+    let t = done .before .before in
+    let h = t .before in
+    let m = h .before in
+    let a = m .before .before .before .before .args in
+    done .open-halves .ensures
+    ∙ rw (t .section-of4 .ensures, h .halves .ensures, m .match .keys5)
+    (ap (λ (ws : List ℕ). sets (a .out .now) 0 ws) (half-message (party (a .n) (a .side) (a .x) (a .y) (a .tape .now)) (a .work .now)))
+
 halves-requires : tie.Need-halves-requires
 halves-requires c κs = search needs
 
@@ -183,17 +195,6 @@ returns-4 c =
 
 same-length-5 : tie.Need-same-length-5
 same-length-5 c = search needs
-
-returns-5 : tie.Need-returns-5
-returns-5 c =
-    let done = c .before .before in
-    let t = done .before .before in
-    let h = t .before in
-    let m = h .before in
-    let a = m .before .before .before .before .args in
-    done .open-halves .ensures
-    ∙ rw (t .section-of4 .ensures, h .halves .ensures, m .match .keys5)
-    (ap (λ (ws : List ℕ). sets (a .out .now) 0 ws) (half-message (party (a .n) (a .side) (a .x) (a .y) (a .tape .now)) (a .work .now)))
 
 returns-6 : tie.Need-returns-6
 returns-6 c =
