@@ -1,5 +1,7 @@
 // What a job needs, at every width. Given `jobs WIDTH COUNT` or `checks WIDTH COUNT` it does so many whole jobs, or checks of a job's tapes, for
 // tools/bench.
+#![tactic(auto)]
+
 ghost use Rattle.std.specs.Prelude.{◌≡◌, true, length};
 ghost use Rattle.field.specs.Width.{listed};
 ghost use Rattle.tape.specs.Layout.{tape_length};

@@ -1,4 +1,6 @@
 // A link board that spells every zero of a message as p (document 02, P3).
+#![tactic(auto)]
+
 ghost use Rattle.std.specs.Prelude.{◌≡◌, true};
 ghost use Rattle.field.specs.Width.{listed};
 ghost use Rattle.shares.specs.Reading.{delivered};

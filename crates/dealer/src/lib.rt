@@ -1,4 +1,6 @@
 // Tapes for programs that run both boxes in one memory: the trailer of any tape, and the plain tapes of document 01's plainrun.
+#![tactic(auto)]
+
 ghost use Rattle.std.specs.Prelude.{◌≡◌, true, ◌&&◌, cond, ◌≤◌, eqb, leb, ltb, length};
 ghost use Rattle.std.proofs.lemmas.List.Edits.{sets};
 ghost use Rattle.field.specs.Width.{listed};

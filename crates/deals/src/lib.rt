@@ -1,4 +1,6 @@
 // The test dealer of document 02's P1 and P7: both tapes of a tape number, from a seed.
+#![tactic(auto)]
+
 ghost use Rattle.std.specs.Prelude.{◌≡◌, true, length};
 ghost use Rattle.std.proofs.lemmas.List.Edits.{sets};
 ghost use Rattle.field.specs.Width.{listed};

@@ -1,4 +1,6 @@
 // Both boxes of a job in one memory, through the five calls: the opening, one round, the whole exchange, and the answer that it opens.
+#![tactic(auto)]
+
 ghost use Rattle.std.specs.Prelude.{◌≡◌, true, cond, ◌+◌, ◌%◌, ◌<◌, ◌≤◌, ltb, length};
 ghost use Rattle.std.proofs.lemmas.List.Edits.{sets};
 ghost use Rattle.field.specs.Width.{listed, modulus};
@@ -21,21 +23,21 @@ pub mod memory;
 pub const EARLIER_ROUNDS: u32 = compare::words::LAST_ROUND - 1;
 
 // A box's shares of x and y.
-#[derive(Drop)]
+#[derive(Clone, Copy)]
 pub struct Shares {
     pub x: u32,
     pub y: u32,
 }
 
 // Both boxes' states.
-#[derive(Drop)]
+#[derive(Clone, Copy)]
 pub struct Boxes {
     pub box1: State,
     pub box2: State,
 }
 
 // What the two hears of a round gave.
-#[derive(Drop)]
+#[derive(Clone, Copy)]
 pub struct Heard {
     pub box1: Outcome,
     pub box2: Outcome,
@@ -254,7 +256,7 @@ fn answers(
 }
 
 // The number of the first refusal, or 0 and the opened answer.
-#[derive(Drop)]
+#[derive(Clone, Copy)]
 pub struct Verdict {
     pub refusal: u32,
     pub less: u32,

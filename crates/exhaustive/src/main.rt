@@ -1,4 +1,6 @@
 // Runs every input of widths 3 and 5 as a whole job of both boxes, and counts the answers that an ordinary comparison gives too.
+#![tactic(auto)]
+
 ghost use Rattle.std.specs.Prelude.{◌≡◌, true, ◌≤◌};
 ghost use Rattle.field.specs.Width.{listed};
 

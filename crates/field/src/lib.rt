@@ -1,4 +1,6 @@
 // Arithmetic modulo p = 2^n - 1 on words, for the widths n that document 01 lists.
+#![tactic(auto)]
+
 ghost use Rattle.std.specs.Prelude.{◌≡◌, ◌+◌, ◌-◌, ◌*◌, ◌/◌, ◌%◌, ◌^◌, ◌<◌, ◌≤◌, true, ◌&&◌, ltb, length, nat_lt, slice_index};
 ghost use Rattle.lists.specs.Every.{every};
 ghost use Rattle.field.specs.Width.{listed, modulus};

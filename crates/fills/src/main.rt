@@ -1,6 +1,8 @@
 // Fills the last words of round 1's message into out (document 02, P5), as many as a count says, and says which counts leave every place of out as
 // it must be: at width 3 every count, at width 31 those around the ends of the alpha * beta words, of the last level and of the whole. At width 3
 // the message is said too.
+#![tactic(auto)]
+
 ghost use Rattle.std.specs.Prelude.{◌≡◌, true, ◌+◌, ◌-◌, ◌≤◌, length};
 ghost use Rattle.lists.specs.Tabulate.{sum};
 ghost use Rattle.fills.specs.Fillings.{message_of, fill_agrees, right_at, Lent};

@@ -8,7 +8,7 @@ ghost use Rattle.fills.specs.Fillings.{message_of, fill_agrees, Lent};
 const FILLER: u32 = 4294967295;
 
 // What a box has of a job, beside its tape.
-#[derive(Drop)]
+#[derive(Clone, Copy)]
 pub struct Job {
     pub n: u32,
     pub side: u32,

@@ -1,4 +1,6 @@
 // The input side of a command-line program. No contract can say which bytes are read: this says how many there are, and that they are of one line.
+#![tactic(auto)]
+
 ghost use Rattle.io.specs.Counts.{IsPrefixLen};
 ghost use Rattle.input.specs.Line.{OneLine};
 

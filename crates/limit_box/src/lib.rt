@@ -1,4 +1,6 @@
 // The box's five calls. Each is the rule of document 01 for it, whatever it is given: a call that is refused changes nothing.
+#![tactic(auto)]
+
 ghost use Rattle.std.specs.Prelude.{◌≡◌, []};
 ghost use Rattle.rules.specs.Calls.{outcome, in_phase, x_of, y_of, turned, wake_rule, start_rule, speak_rule, hear_rule, drop_rule};
 ghost use Rattle.rules.specs.declared.state.Answer.TheVariants.{Refused};
@@ -178,7 +180,7 @@ fn with_turn(phase: Phase, turn: Turn) -> Phase
 }
 
 // A job's two shares.
-#[derive(Drop)]
+#[derive(Clone, Copy)]
 struct Shares {
     x: u32,
     y: u32,

@@ -6,14 +6,14 @@ const NEWLINE: u8 = 10;
 
 const SPACE: u8 = 32;
 
-#[derive(Drop)]
+#[derive(Clone, Copy)]
 pub struct Number {
     pub ok: bool,
     pub value: u32,
 }
 
 // The numbers mean something only where `ok` is true.
-#[derive(Drop)]
+#[derive(Clone, Copy)]
 pub struct Five {
     pub ok: bool,
     pub numbers: [u32; 5],

@@ -1,1 +1,2 @@
 // No code: definitions and laws on lists and tests that every layer above uses.
+#![tactic(auto)]

@@ -1,4 +1,6 @@
 // How much so many jobs need, told ahead and without running anything (document 02, P8).
+#![tactic(auto)]
+
 ghost use Rattle.std.specs.Prelude.{◌≡◌, true, ◌≤◌, length};
 ghost use Rattle.field.specs.Width.{listed};
 ghost use Rattle.protocol.specs.Rounds.{last_round};
@@ -12,7 +14,7 @@ use refusals::{Check, Refusal};
 pub const MOST_JOBS: u32 = 8;
 
 // The words of the tapes, of each round, the first one first, and of work; all 0 where the check is a refusal.
-#[derive(Drop)]
+#[derive(Clone, Copy)]
 pub struct Needs {
     pub check: Check,
     pub tape: u32,

@@ -1,4 +1,6 @@
 // Document 01's plainrun, from a text to what it prints.
+#![tactic(auto)]
+
 ghost use Rattle.std.specs.Prelude.{◌≡◌, ◌≤◌, length, take};
 ghost use Rattle.plain.specs.Printed.{printed};
 

@@ -1,4 +1,6 @@
 // Runs the function of plainrun on many lines, and prints what each gets.
+#![tactic(auto)]
+
 fn show(text: &[u8]) {
     let mut out = [0u8; 78];
     let end = plain::answer(text, &mut out);

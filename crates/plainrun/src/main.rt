@@ -1,4 +1,6 @@
 // Document 01's plainrun: one line of five numbers in, the words per round and the answer out.
+#![tactic(auto)]
+
 ghost use Rattle.io.specs.Counts.{IsPrefixLen};
 
 // A line of the standard input, up to its newline, the end or a full buffer. It takes no byte of the next line, and asks for none.

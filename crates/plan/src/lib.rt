@@ -1,4 +1,6 @@
 // The planner's work, from a text to what it prints: how much so many jobs need (document 02, P8).
+#![tactic(auto)]
+
 ghost use Rattle.std.specs.Prelude.{◌≡◌, ◌≤◌, length, take};
 ghost use Rattle.std.proofs.lemmas.List.Edits.{sets};
 ghost use Rattle.needs.specs.Figures.{told};

@@ -1,4 +1,6 @@
 // Runs the planner's function on many lines, and prints what each gets.
+#![tactic(auto)]
+
 fn show(text: &[u8]) {
     let mut out = [0u8; 94];
     let end = plan::answer(text, &mut out);

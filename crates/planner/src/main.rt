@@ -1,4 +1,5 @@
 // The planner's program: one line `n count` in, what so many jobs need out.
+#![tactic(auto)]
 
 // Two numbers and a newline take 22 bytes at most: a line for which 64 are too few is none, whatever comes after.
 fn main() {

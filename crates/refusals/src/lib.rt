@@ -1,8 +1,10 @@
 // Why a call is refused: document 01's table of refusals, with its numbers and trade words, and the refusals that joined it.
+#![tactic(auto)]
+
 ghost use Rattle.std.specs.Prelude.{◌≡◌};
 ghost use Rattle.refusals.specs.Numbers.{number_of};
 
-#[derive(Drop)]
+#[derive(Clone, Copy)]
 pub enum Refusal {
     // 1, asleep
     Asleep,
@@ -39,7 +41,7 @@ pub enum Refusal {
 }
 
 // What a call's grounds come to: it goes on, or is refused.
-#[derive(Drop)]
+#[derive(Clone, Copy)]
 pub enum Check {
     Passed,
     Refused(Refusal),

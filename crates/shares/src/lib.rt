@@ -1,4 +1,6 @@
 // Additive secret shares of two boxes: opening, and the shares of squares and products by dealt squares, Beaver triples and three masks.
+#![tactic(auto)]
+
 ghost use Rattle.std.specs.Prelude.{◌≡◌, true, ◌+◌, ◌*◌, ◌%◌, ◌<◌, ◌≤◌, length, get_or};
 ghost use Rattle.lists.specs.Every.{every};
 ghost use Rattle.field.specs.Width.{listed, modulus};
@@ -78,7 +80,7 @@ pub fn product(n: u32, side: u32, e: u32, f: u32, a: u32, b: u32, c: u32) -> u32
 }
 
 // One box's words of three masks and of their products, as the tape's last group deals them.
-#[derive(Drop)]
+#[derive(Clone, Copy)]
 pub struct Masks {
     pub a: u32,
     pub b: u32,

@@ -1,4 +1,6 @@
 // The steps of a round: opening and closing squares and products, the levels' polynomial, and the answer from the half tests.
+#![tactic(auto)]
+
 pub mod halves;
 pub mod levels;
 pub mod places;

@@ -5,7 +5,7 @@ ghost use Rattle.field.specs.Width.{listed, modulus};
 ghost use Rattle.protocol.specs.Tests.{doubled, low_bit, complement, exclusive};
 
 // One box's part of the tests: the doubled shares, their low bits, and the shares of the wraps once they are known.
-#[derive(Drop)]
+#[derive(Clone, Copy)]
 pub struct Tests {
     pub doubled: [u32; 3],
     pub low: [u32; 3],

@@ -1,4 +1,6 @@
 // The tally: bytes 4j to 4j + 3 are the mark of tape number j (document 02, P6).
+#![tactic(auto)]
+
 ghost use Rattle.std.specs.Prelude.{◌≡◌, true, [], ◌∷◌, ◌<◌, length};
 ghost use Rattle.tally.specs.Tally.{mark_bytes, tally_fits, tapes_of, is_fresh, late, marked, fresh_count};
 

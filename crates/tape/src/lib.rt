@@ -1,4 +1,6 @@
 // The one-time tape: where its sections stand, whether a lent tape is in order, and its sections as parts of it.
+#![tactic(auto)]
+
 ghost use Rattle.std.specs.Prelude.{◌≡◌, true, ℕ, ◌+◌, ◌<◌, ◌≤◌, length, get_or};
 ghost use Rattle.field.specs.Width.{listed, modulus};
 ghost use Rattle.tape.specs.Layout.{section_length, section_start, section, tape_length, distance_back, trailer};

@@ -5,7 +5,7 @@ ghost use Rattle.vectors.specs.Deal.{deal_told, deal_agreed, headed, AgreeingDea
 use refusals::Check;
 
 // What came of a deal's file: whether it agrees, and the numbers that its text names.
-#[derive(Drop)]
+#[derive(Clone, Copy)]
 pub struct Agreement {
     pub agrees: bool,
     pub seed: u32,

@@ -40,7 +40,7 @@ fn name_of(w: u32, k: u8) -> [u8; 12]
 }
 
 // What came of a file's job: whether it agrees, the tape number that its text names, and how many zeros of its messages were respelled.
-#[derive(Drop)]
+#[derive(Clone, Copy)]
 pub struct Agreement {
     pub agrees: bool,
     pub number: u32,
@@ -106,7 +106,7 @@ fn run(text: &[u8], w: u32, board: bool) -> Agreement
 }
 
 // Whether a job agrees, and how many zeros of its messages were respelled.
-#[derive(Drop)]
+#[derive(Clone, Copy)]
 struct Told {
     agrees: bool,
     zeros: usize,
@@ -263,7 +263,7 @@ fn exchanged(
 }
 
 // After a round: what both boxes heard, how far the text was read, whether it had both messages, and how many of their zeros were respelled.
-#[derive(Drop)]
+#[derive(Clone, Copy)]
 struct Round {
     heard: Heard,
     read: Cursor,

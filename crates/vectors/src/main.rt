@@ -1,6 +1,8 @@
 // Runs the jobs and test deals of data/, worked out by an independent model, and says which agree in every word: jobs by their tape numbers,
 // deals by the numbers that their texts name. The jobs run twice: the second time every zero of a message comes to the other box as p
 // (document 02, P3), and how many there were is said.
+#![tactic(auto)]
+
 ghost use Rattle.std.specs.Prelude.{◌≡◌, true};
 ghost use Rattle.field.specs.Width.{listed};
 ghost use Rattle.vectors.specs.Deal.{AgreeingDeal};

@@ -11,7 +11,7 @@ use rules::state::{Answer, Outcome, State};
 // What stands in the buffers that a call is lent to write.
 pub const FILLER: u32 = 9;
 
-#[derive(Drop)]
+#[derive(Clone, Copy)]
 pub struct Tried {
     pub answer: Answer,
     // the state after the call

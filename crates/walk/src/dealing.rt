@@ -8,7 +8,7 @@ use crate::calls::{FILLER, untouched};
 use crate::say::{number, text};
 use refusals::Check;
 
-#[derive(Drop)]
+#[derive(Clone, Copy)]
 pub struct Attempt {
     // 0 where the deal was not refused
     pub refusal: u32,

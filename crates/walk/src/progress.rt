@@ -9,7 +9,7 @@ ghost use Rattle.walk.specs.Walk.{fresh_tally, box_tape, tally_after, After};
 use rules::state::{Answer, State};
 
 // What a box answered last, its state, and the buffers that it is lent.
-#[derive(Drop)]
+#[derive(Clone, Copy)]
 pub struct BoxMemory {
     pub answer: Answer,
     pub state: State,
@@ -18,7 +18,7 @@ pub struct BoxMemory {
     pub tally: [u8; 16],
 }
 
-#[derive(Drop)]
+#[derive(Clone, Copy)]
 pub struct Pair {
     pub box1: BoxMemory,
     pub box2: BoxMemory,

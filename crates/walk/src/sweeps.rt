@@ -12,7 +12,7 @@ use crate::starts::on_marks;
 use crate::tallies::one_byte;
 use crate::zeros::as_zeros;
 
-#[derive(Drop)]
+#[derive(Clone, Copy)]
 pub enum Sweep {
     Bytes,
     Above,
