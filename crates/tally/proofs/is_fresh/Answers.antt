@@ -10,8 +10,8 @@ use lib.Dec.{eqb}
 use lib.ListN.{length, get_or}
 use Rattle.tally.specs.Tally.{mark_bytes, is_fresh}
 use Rattle.tally.proofs.Marks.{mark_within}
-use Rattle.tally.proofs.is_fresh.Statement.{statement}
-use Rattle.tally.proofs.is_fresh.Tie as tie
+use Rattle.tally.proofs.is_fresh.Goals.{Start}
+use Rattle.tally.proofs.is_fresh.Goals as goal
 
 -- two bytes and-ed are FF just where both are
 both_ff : (a b : ℕ) → a ≤ 255 → b ≤ 255 → eqb (bit_and a b) 255 ≡ eqb a 255 && eqb b 255
@@ -32,51 +32,37 @@ all_ff a b c d ha hb hc hd =
     ∙ rw (both_ff (bit_and a b) c (omega (arith, and_le_l a b)) hc, both_ff a b ha hb) refl
 
 -- its last byte lies within the tally, whose length fits
-within : (s : tie.Start) → mark_bytes * s.args.number + 3 < length s.args.tally.now
+within : (s : Start) → mark_bytes * s.args.number + 3 < length s.args.tally.now
 within s = omega (arith, mark_within (length s.args.tally.now) s.args.number s.requires)
 
-mul_at : tie.Need-overflow-mul-at
-mul_at c = omega (arith, within c, c.well_formed.0.0)
+pub overflow_mul-at : goal.overflow_mul-at
+overflow_mul-at c = omega (arith, within (goal.at.overflow_mul-at c).Start, c.well_formed.0.0)
 
-shared_slice_read_result : tie.Need-shared-slice-read-result
-shared_slice_read_result c = omega (arith, within c.before)
+pub bounds-tally-at : goal.bounds-tally-at
+bounds-tally-at c = omega (arith, within (goal.at.bounds-tally-at c).Start)
 
-add_result : tie.Need-overflow-add-result
-add_result c = omega (arith, within c.before, c.before.well_formed.0.0)
+pub overflow_add-result : goal.overflow_add-result
+overflow_add-result c = omega (arith, within (goal.at.overflow_add-result c).Start, c.well_formed.0.0)
 
-shared_slice_read_result_2 : tie.Need-shared-slice-read-result-2
-shared_slice_read_result_2 c = omega (arith, within c.before.before)
+pub bounds-tally-at-2 : goal.bounds-tally-at-2
+bounds-tally-at-2 c = omega (arith, within (goal.at.bounds-tally-at-2 c).Start)
 
-add_result_2 : tie.Need-overflow-add-result-2
-add_result_2 c = omega (arith, within c.before.before, c.before.before.well_formed.0.0)
+pub overflow_add-result-2 : goal.overflow_add-result-2
+overflow_add-result-2 c = omega (arith, within (goal.at.overflow_add-result-2 c).Start, c.well_formed.0.0)
 
-shared_slice_read_result_3 : tie.Need-shared-slice-read-result-3
-shared_slice_read_result_3 c = omega (arith, within c.before.before.before)
+pub bounds-tally-at-3 : goal.bounds-tally-at-3
+bounds-tally-at-3 c = omega (arith, within (goal.at.bounds-tally-at-3 c).Start)
 
-add_result_3 : tie.Need-overflow-add-result-3
-add_result_3 c = omega (arith, within c.before.before.before, c.before.before.before.well_formed.0.0)
+pub overflow_add-result-3 : goal.overflow_add-result-3
+overflow_add-result-3 c = omega (arith, within (goal.at.overflow_add-result-3 c).Start, c.well_formed.0.0)
 
-shared_slice_read_result_4 : tie.Need-shared-slice-read-result-4
-shared_slice_read_result_4 c = omega (arith, within c.before.before.before.before)
+pub bounds-tally-at-4 : goal.bounds-tally-at-4
+bounds-tally-at-4 c = omega (arith, within (goal.at.bounds-tally-at-4 c).Start)
 
-returns : tie.Need-returns
+pub returns : goal.returns
 unfolding is_fresh
 returns c =
-    let a = c.before.before.before.before.args in
+    let a = c.args in
     let at = mark_bytes * a.number in
-    let byte : (i : ℕ) → get_or a.tally.now i 0 ≤ 255 = λ i. omega (arith, c.shared_slice_known4.given i) in
+    let byte : (i : ℕ) → get_or a.tally.now i 0 ≤ 255 = λ i. omega (arith, c.type_inv.tally i) in
     rw (add-zero at) (all_ff _ _ _ _ (byte at) (byte (at + 1)) (byte (at + 2)) (byte (at + 3)))
-
-pub is_fresh_spec : {M : Type 1} → statement M
-is_fresh_spec =
-    tie.close
-    (tie.spec
-    mul_at
-    shared_slice_read_result
-    add_result
-    shared_slice_read_result_2
-    add_result_2
-    shared_slice_read_result_3
-    add_result_3
-    shared_slice_read_result_4
-    returns)
