@@ -1,0 +1,13 @@
+-- `lines::writing::put_row` meets its contract: three texts one after another.
+use mathlib.Core.List.{[], ◌∷◌}
+use native.Mathlib.Omega.{arith}
+use Rattle.lines.specs.Writing.{spaced}
+use Rattle.lines.proofs.Joins.{three}
+use Rattle.lines.proofs.writing.put_row.Goals as goal
+
+pub returns : goal.returns
+returns c =
+    let a = c.args in
+    let all = three a.name.now (spaced a.numbers.now) (10 ∷ []) c.put_bytes-rest.ensures.0 c.put_bytes-rest.ensures.1 c.put_spaced-end.ensures.out_after.0 c.put_spaced-end.ensures.out_after.1
+    c.put_bytes.ensures.0 c.put_bytes.ensures.1 in
+    record { out_after = (all.run, all.place); most = omega (arith, c.put_bytes.ensures.1, c.put_spaced-end.ensures.most, c.put_bytes-rest.ensures.1) }
