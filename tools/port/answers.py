@@ -103,7 +103,7 @@ class Function:
         for name, n in walks.items():
             t = re.sub(r"\(" + name + r" (" + NAME + r"(?:\.[\w'-]+)*)\)", lambda m: m[1] + ".before" * n, t)
             t = re.sub(r"(?<![\w'.-])" + name + r" (" + NAME + r"(?:\.[\w'-]+)*)", lambda m: m[1] + ".before" * n, t)
-        alias, bound, plain = {h: (h, 0) for h in heads}, {}, set()
+        alias, bound, plain, whole = {h: (h, 0) for h in heads}, {}, set(), {}
         # `let l = c.before.before in`
         while True:
             m = re.search(r"let ([\w'-]+) = (" + NAME + r")((?:\.before)*) in(?=\s)\s*", t)
@@ -126,6 +126,10 @@ class Function:
                 bound[let[1]] = next(o for o, v in self.field.items() if v == rest[0])
             if let and rest and name in alias:
                 plain.add(let[1])
+                if len(rest) == 2 and rest[1] == "ensures" and rest[0] in self.clauses:
+                    whole[let[1]] = self.clauses[rest[0]]
+            if name in whole and segments and segments[0].isdigit() and int(segments[0]) < len(whole[name]):
+                return ".".join([name, whole[name][int(segments[0])]] + segments[1:])
             if name in plain and name not in alias:
                 return m[0]
             if name not in alias:
@@ -213,9 +217,6 @@ def tuple_to_record(body, fields):
         if deep == 0:
             break
         k -= 1
-    before = t[:k].rstrip()
-    if before and not (before.endswith("=") or before.endswith(" in") or before.endswith("\nin") or before.endswith(".")):
-        return None
     inside, parts, deep, start = t[k + 1 : -1], [], 0, 0
     for j, ch in enumerate(inside):
         if ch in "([{":

@@ -7,6 +7,7 @@ ghost use Rattle.field.specs.Width.{listed, modulus};
 ghost use Rattle.field.specs.Subtraction.{minus};
 
 // Whether n is a width of document 01.
+#[tactic(auto, unfolding(crate::specs::Width::listed))]
 pub fn is_listed(n: u32) -> bool
     ensures { result ≡ listed n }
 {

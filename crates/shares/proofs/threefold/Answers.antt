@@ -1,16 +1,14 @@
 -- `shares::threefold` meets its contract: e · f, e · g and f · g stand for their remainders in the sum.
 use Prim.Native.Nat.{ℕ, ◌+◌, ◌*◌, ◌%◌}
-use mathlib.Core.Path.{◌≡◌, refl, sym, ap, ◌∙◌}
+use mathlib.Core.Path.{◌≡◌, sym, ap, ◌∙◌}
 use native.Mathlib.Nat.{mul-one}
 use native.Mathlib.Omega.{arith}
-use borrow.Author.Rules.{rules}
 use Rattle.field.specs.Width.{modulus}
 use Rattle.field.specs.Congruence.{Cong}
 use Rattle.field.proofs.Congruences.{cong_refl, cong_eq, ◌⊙◌, cong_mod, cong_add, cong_mul}
 use Rattle.shares.specs.Share.{constant_share, threefold_share}
 use Rattle.shares.proofs.Sides.{constant_times}
-use Rattle.shares.proofs.threefold.Statement.{statement}
-use Rattle.shares.proofs.threefold.Tie as tie
+use Rattle.shares.proofs.threefold.Goals as goal
 
 -- a public constant's share, by the constant modulo p
 constant_cong : (side : ℕ) {p a b : ℕ} → Cong p a b → Cong p (constant_share side a) (constant_share side b)
@@ -36,74 +34,25 @@ reduced p side e f g a b c ab ac bc abc = all.same
         (cong_mod ⊙ cong_add (cong_add (cong_add (constant_cong side (cong_mod ⊙ times e f g)) (times e f c)) (times e g b)) (times f g a))
         ⊙ cong_eq (omega arith)
 
-returns : tie.Need-returns
+pub returns : goal.returns
 unfolding threefold_share
 returns c =
-    let s2 = c.before in
-    let s1 = s2.before in
-    let k = s1.before in
-    let m4 = k.before in
-    let m3 = m4.before in
-    let m2 = m3.before in
-    let m1 = m2.before in
-    let a = m1.before.args in
-    let m = a.m in (
-      c.add.ensures.0
+    let a = c.args in
+    let m = a.m in record {
+      value = c.add.ensures.value
           ∙ rw (
-            s2.summed2.ensures.0,
-            s1.summed.ensures.0,
-            k.constant.ensures.0,
-            m4.mul4.ensures.0,
-            m3.mul3.ensures.0,
-            m2.mul2.ensures.0,
-            m1.mul.ensures.0,
+            c.summed-by_masks.ensures.value,
+            c.summed-by_pairs.ensures.value,
+            c.constant-efg.ensures.value,
+            c.mul.ensures.value,
+            c.mul-fg.ensures.value,
+            c.mul-eg.ensures.value,
+            c.mul-ef.ensures.value,
           )
-          (reduced (modulus a.n) a.side a.e a.f a.g m.a m.b m.c m.ab m.ac m.bc m.abc),
-      c.add.ensures.1,
-    )
+          (reduced (modulus a.n) a.side a.e a.f a.g m.a m.b m.c m.ab m.ac m.bc m.abc);
+      below = c.add.ensures.below;
+    }
 
-mul_requires : tie.Need-mul-requires
-mul_requires c κs = search rules
-
-mul_requires_2 : tie.Need-mul-requires-2
-mul_requires_2 c κs = search rules
-
-mul_requires_3 : tie.Need-mul-requires-3
-mul_requires_3 c κs = search rules
-
-mul_requires_4 : tie.Need-mul-requires-4
-mul_requires_4 c κs = search rules
-
-constant_requires : tie.Need-constant-requires
-constant_requires c κs = search rules
-
-summed_requires : tie.Need-summed-requires
-summed_requires c κs = search rules
-
-summed_requires_2 : tie.Need-summed-requires-2
-summed_requires_2 c κs =
-    let k = c.before in
-    let m3 = k.before.before in
-    let m1 = m3.before.before in
-    let s = m1.before in
-    let m = s.requires.1 in (
-      (s.requires.0.0, omega (arith, k.constant.ensures.1, k.before.mul4.ensures.1), m1.mul.ensures.1, m.2),
-      (m3.before.mul2.ensures.1, m.1, m3.mul3.ensures.1, m.0),
-    )
-
-add_requires : tie.Need-add-requires
-add_requires c κs = search rules
-
-pub threefold_spec : {M : Type 1} → statement M
-threefold_spec =
-    tie.close
-    (tie.spec
-    mul_requires
-    mul_requires_2
-    mul_requires_3
-    mul_requires_4
-    constant_requires
-    summed_requires
-    summed_requires_2
-    add_requires
-    returns)
+pub summed-by_masks-requires : goal.summed-by_masks-requires
+summed-by_masks-requires c =
+    let m = c.requires.a_bound in record { n_value = (c.requires.n_value.0, omega (arith, c.constant-efg.ensures.most, c.mul.ensures.below), c.mul-ef.ensures.below, m.2); f_bound = (c.mul-eg.ensures.below, m.1, c.mul-fg.ensures.below, m.0) }

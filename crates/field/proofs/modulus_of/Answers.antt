@@ -3,8 +3,7 @@ use Rattle.std.proofs.Common.{◌≡◌, ℕ, ◌-◌, ◌*◌, ◌%◌, ◌^◌
 use lib.Pow.{pow-lt}
 use Rattle.field.specs.Width.{modulus}
 use Rattle.field.proofs.Widths.{bounds, Bounds}
-use Rattle.field.proofs.modulus_of.Statement.{statement}
-use Rattle.field.proofs.modulus_of.Tie as tie
+use Rattle.field.proofs.modulus_of.Goals as goal
 
 -- what the shift gives
 shifted : (n : ℕ) → Bounds n → (1 * 2 ^ n) % 2 ^ 32 ≡ 2 ^ n
@@ -13,17 +12,14 @@ shifted n b =
     let small : 2 ^ n < 2 ^ 32 = pow-lt few in
     ap (λ (x : ℕ). x % 2 ^ 32) (one-mul (2 ^ n)) ∙ mod-eq_of_lt small
 
-shl_result : tie.Need-overflow-shl-result
-shl_result c = omega (arith, bounds c.requires)
+pub overflow_shl-result : goal.overflow_shl-result
+overflow_shl-result c = omega (arith, bounds c.requires)
 
-sub_result : tie.Need-overflow-sub-result
-sub_result c =
+pub overflow_sub-result : goal.overflow_sub-result
+overflow_sub-result c =
     let b = bounds c.requires in
     rw (shifted c.args.n b) (omega arith)
 
-returns : tie.Need-returns
+pub returns : goal.returns
 unfolding modulus
 returns c = ap (λ (x : ℕ). x - 1) (shifted c.args.n (bounds c.requires))
-
-pub modulus_of_spec : {M : Type 1} → statement M
-modulus_of_spec = tie.close (tie.spec shl_result sub_result returns)
