@@ -53,7 +53,7 @@ class Function:
                 return table[norm(key)]
         return None
 
-    def chain(self, segments):
+    def chain(self, segments, place=None):
         """The segments of a projection with today's names, and how many `before` it began with."""
         n = 0
         while n < len(segments) and segments[n] == "before":
@@ -74,7 +74,16 @@ class Function:
         if k not in self.field:
             return n, rest
         step = self.field[k]
+        at = self.parent(place, n) if place else None
+        while at:
+            found = next(p for p in self.m["places"] if p[0] == at)
+            if norm(found[2][0]) == k:
+                step = found[2][1]
+                break
+            at = found[1]
         out = [step]
+        if tail and re.fullmatch(r"keys\d*", tail[0]):
+            return n, out + ["is"] + tail[1:]
         if tail and norm(tail[0]) in self.inner.get(step, {}):
             return n, out + [self.inner[step][norm(tail[0])]] + tail[1:]
         if tail[:1] == ["ensures"] and len(tail) > 1 and tail[1].isdigit() and int(tail[1]) < len(self.clauses.get(step, [])):
@@ -120,7 +129,7 @@ class Function:
             if name in bound and segments and name not in alias:
                 old = self.chain([bound[name]] + segments)[1]
                 return ".".join([name] + old[1:])
-            n, rest = self.chain(segments)
+            n, rest = self.chain(segments, self.parent(heads[alias[name][0]], alias[name][1]) if name in alias else None)
             let = re.search(r"let ([\w'-]+) = $", m.string[: m.start()])
             if let and len(rest) == 1 and rest[0] in self.field.values() and name in alias:
                 bound[let[1]] = next(o for o, v in self.field.items() if v == rest[0])
@@ -148,14 +157,14 @@ class Function:
 
     def types(self, t):
         """tie.X inv dec, in the type of a helper."""
-        t = re.sub(r"\(tie\.([\w-]+)((?: (?:invariant_loop|decreases_loop)\w*)+)\)", lambda m: "tie." + m[1], t)
+        t = re.sub(r"\(tie\.([\w-]+)((?: (?:invariant|decreases)_\w+)+)\)", lambda m: "tie." + m[1], t)
 
         def one(m):
             name = self.place.get(norm(m[1]), m[1])
             self.used.add(name)
             return name
 
-        return re.sub(r"tie\.([\w-]+)((?: (?:invariant_loop|decreases_loop)\w*)*)", one, t)
+        return re.sub(r"tie\.([\w-]+)((?: (?:invariant|decreases)_\w+)*)", one, t)
 
 
 def split(text):
@@ -282,13 +291,13 @@ def convert(crate, key, m, path):
             heads = {v: places[norm(p)] for vs, p in re.findall(r"\(([\w' ]+) : tie\.([\w-]+)", t) for v in vs.split() if norm(p) in places}
             # the binder of a clause by the order of the signature
             sig = re.search(r":\s*(tie\.[\w-]+.*?)(?:\n" + r"[\w'-]+ |$)", t, re.S)
-            m2 = re.match(r"(?:abbrev |pub )*([\w'-]+) :\s*tie\.([\w-]+)(?: (?:invariant_loop|decreases_loop)\w*)* →", t)
+            m2 = re.match(r"(?:abbrev |pub )*([\w'-]+) :\s*tie\.([\w-]+)(?: (?:invariant|decreases)_\w+)* →", t)
             if m2 and norm(m2[2]) in places:
                 c = re.search(r"(?m)^" + re.escape(m2[1]) + r" ([\w']+)", t[t.index("\n") :] if "\n" in t else "")
                 if c:
                     heads[c[1]] = places[norm(m2[2])]
         t = fn.types(t)
-        t = re.sub(r"(?<=[\w)])((?: (?:invariant_loop|decreases_loop)\w*){2,})", "", t)
+        t = re.sub(r"(?<=[\w)])((?: (?:invariant|decreases)_\w+){2,})", "", t)
         t = fn.body(t, heads, walks, goal)
         return renamed(t)
 
@@ -344,6 +353,7 @@ def convert(crate, key, m, path):
     for b in goals:
         text = "\n".join(b["lines"])
         rest = text[text.index("\n") + 1 :] if "\n" in text else ""
+        rest = re.sub(r"^(?:[ \t]+[^\n]*\n)+", "", rest)
         m2 = re.search(r"(?m)^" + re.escape(b["name"]) + r" (\w+)(?: κs)?\s*=", rest)
         if not m2:
             print("   cannot read the answer", b["name"])
