@@ -3,11 +3,14 @@
 #![tactic(auto)]
 
 ghost use Rattle.std.specs.Prelude.{◌≡◌, true, length};
+ghost use Rattle.io.specs.Counts.{IsPrefixLen};
 ghost use Rattle.field.specs.Width.{listed};
 ghost use Rattle.tape.specs.Layout.{tape_length};
 ghost use Rattle.tape.specs.Dealt.{Dealt};
 
 mod work;
+
+use std::env::{Env, FillError};
 
 // What the tapes are dealt from.
 const SEED: u32 = 2463534242;
@@ -62,17 +65,27 @@ fn often(n: u32, count: u32, jobs: bool)
     run(n, count, jobs, &mut t1[..len], &mut t2[..len]);
 }
 
+// Puts an argument at the start of word and answers its length: 0 where there is none, or a longer one than word.
+fn argument(rt: &impl Env, place: usize, word: &mut [u8]) -> usize
+    ensures { IsPrefixLen result word.new }
+{
+    match rt.arg(place, word) {
+        Ok(len) => len,
+        Err(_) => 0,
+    }
+}
+
 // An argument as a number.
-fn number_at(place: usize) -> lines::reading::Number {
+fn number_at(rt: &impl Env, place: usize) -> lines::reading::Number {
     let mut word = [0u8; 16];
-    let len = os::arg(place, &mut word);
+    let len = argument(rt, place, &mut word);
     lines::reading::number_of(&word[..len])
 }
 
 // The width and the count are arguments 2 and 3.
-fn asked(jobs: bool) {
-    let width = number_at(2);
-    let count = number_at(3);
+fn asked(rt: &impl Env, jobs: bool) {
+    let width = number_at(rt, 2);
+    let count = number_at(rt, 3);
     if !width.ok {
         io::write_all(1, b"bench: the width is no number\n");
     } else if !count.ok {
@@ -84,15 +97,20 @@ fn asked(jobs: bool) {
     }
 }
 
-fn main() {
+// Whether the program was started with no argument but its own name.
+fn is_alone(rt: &impl Env) -> bool {
+    matches!(rt.arg(1, &mut []), Err(FillError::NotPresent))
+}
+
+fn main(rt: HostRuntime) {
     let mut word = [0u8; 8];
-    let len = os::arg(1, &mut word);
-    if os::arg_count() < 2 {
+    let len = argument(&rt, 1, &mut word);
+    if is_alone(&rt) {
         all_sizes();
     } else if check::same(&word[..len], b"jobs") {
-        asked(true);
+        asked(&rt, true);
     } else if check::same(&word[..len], b"checks") {
-        asked(false);
+        asked(&rt, false);
     } else {
         io::write_all(
             1,

@@ -3,6 +3,7 @@ ghost use Rattle.std.specs.Prelude.{◌≡◌, true, false};
 ghost use Rattle.vectors.specs.Deal.{deal_told, deal_agreed, headed, AgreeingDeal};
 
 use refusals::Check;
+use std::rt::Files;
 
 // What came of a deal's file: whether it agrees, and the numbers that its text names.
 #[derive(Clone, Copy)]
@@ -29,16 +30,13 @@ fn none() -> Agreement
 
 // Whether a file is there and every word of both tapes is as the dealer gives it. Which text was read cannot be said, only that one that
 // agrees has these numbers: they are printed, so that a file read in another's place shows.
-pub fn compared_with(name: &[u8]) -> Agreement
+pub fn compared_with(rt: &impl Files, name: &[u8]) -> Agreement
     ensures { result.agrees ≡ true → AgreeingDeal result.seed result.width result.pair result.number }
 {
-    let fd = os::open_read(name);
-    if fd < 0 {
-        return none();
-    }
     let mut text = [0u8; 262144];
-    let len = io::read_full(fd, &mut text);
-    libc::close(fd);
+    let Some(len) = crate::data::read(rt, name, &mut text) else {
+        return none();
+    };
     run(&text[..len])
 }
 

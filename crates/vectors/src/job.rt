@@ -16,6 +16,7 @@ ghost use Rattle.vectors.specs.Sent.{respelled_in, job_sent, tapes_sent, sent, A
 use crate::numbers::Cursor;
 use compare::words::LAST_ROUND;
 use exchange::{Boxes, Heard, Shares};
+use std::rt::Files;
 
 // The file of a width's job: job-WW-K.txt.
 fn name_of(w: u32, k: u8) -> [u8; 12]
@@ -61,17 +62,14 @@ fn none() -> Agreement
 // Whether a width's file is there and every word of its job is as the boxes give it; with a board between the boxes every zero of a message
 // comes to the other as p. Which text was read cannot be said, only that one that agrees has that tape number and so many zeros: both are printed,
 // so that a file read in another's place shows, and a zero that was left as it is.
-pub fn compared_with(w: u32, k: u8, board: bool) -> Agreement
+pub fn compared_with(rt: &impl Files, w: u32, k: u8, board: bool) -> Agreement
     ensures { result.agrees ≡ true → Agreeing w board result.number result.zeros }
 {
     let name = name_of(w, k);
-    let fd = os::open_read(&name);
-    if fd < 0 {
-        return none();
-    }
     let mut text = [0u8; 262144];
-    let len = io::read_full(fd, &mut text);
-    libc::close(fd);
+    let Some(len) = crate::data::read(rt, &name, &mut text) else {
+        return none();
+    };
     run(&text[..len], w, board)
 }
 

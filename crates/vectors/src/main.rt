@@ -7,9 +7,12 @@ ghost use Rattle.std.specs.Prelude.{◌≡◌, true};
 ghost use Rattle.field.specs.Width.{listed};
 ghost use Rattle.vectors.specs.Deal.{AgreeingDeal};
 
+mod data;
 mod deal;
 mod job;
 mod numbers;
+
+use std::rt::Files;
 
 // How the line of a width begins: what is tried.
 fn tell_width(w: u32, board: bool)
@@ -38,7 +41,7 @@ fn tell_jobs(agreed: u64, count: u8, board: bool, zeros: u64) {
     io::write_all(1, b"\n");
 }
 
-fn run_width(w: u32, count: u8, board: bool)
+fn run_width(rt: &impl Files, w: u32, count: u8, board: bool)
     requires { listed w ≡ true }
 {
     tell_width(w, board);
@@ -47,7 +50,7 @@ fn run_width(w: u32, count: u8, board: bool)
     let mut k: u8 = 0;
     while k < count {
         k += 1;
-        let told = job::compared_with(w, k, board);
+        let told = job::compared_with(rt, w, k, board);
         if told.agrees {
             io::write_all(1, b" ");
             io::print_decimal(1, told.number as u64);
@@ -59,14 +62,14 @@ fn run_width(w: u32, count: u8, board: bool)
 }
 
 // Every job: the words go from box to box as they are, or every zero spelled p.
-fn run_widths(board: bool) {
-    run_width(3, 5, board);
-    run_width(5, 4, board);
-    run_width(7, 3, board);
-    run_width(13, 2, board);
-    run_width(17, 2, board);
-    run_width(19, 2, board);
-    run_width(31, 2, board);
+fn run_widths(rt: &impl Files, board: bool) {
+    run_width(rt, 3, 5, board);
+    run_width(rt, 5, 4, board);
+    run_width(rt, 7, 3, board);
+    run_width(rt, 13, 2, board);
+    run_width(rt, 17, 2, board);
+    run_width(rt, 19, 2, board);
+    run_width(rt, 31, 2, board);
 }
 
 // Says that a deal agrees, and which: only of one that does.
@@ -84,9 +87,9 @@ fn tell_deal(told: deal::Agreement)
     io::write_all(1, b": both tapes agree\n");
 }
 
-fn run_deal(name: &[u8]) {
+fn run_deal(rt: &impl Files, name: &[u8]) {
     io::write_all(1, name);
-    let told = deal::compared_with(name);
+    let told = deal::compared_with(rt, name);
     if !told.agrees {
         io::write_all(1, b": does not agree\n");
         return;
@@ -94,13 +97,13 @@ fn run_deal(name: &[u8]) {
     tell_deal(told);
 }
 
-fn main() {
-    run_widths(false);
-    run_widths(true);
-    run_deal(b"deal-03-1.txt");
-    run_deal(b"deal-03-4294967295.txt");
-    run_deal(b"deal-05-2463534242.txt");
-    run_deal(b"deal-07-1984.txt");
-    run_deal(b"deal-13-3735928559.txt");
-    run_deal(b"deal-31-2.txt");
+fn main(rt: HostRuntime) {
+    run_widths(&rt, false);
+    run_widths(&rt, true);
+    run_deal(&rt, b"deal-03-1.txt");
+    run_deal(&rt, b"deal-03-4294967295.txt");
+    run_deal(&rt, b"deal-05-2463534242.txt");
+    run_deal(&rt, b"deal-07-1984.txt");
+    run_deal(&rt, b"deal-13-3735928559.txt");
+    run_deal(&rt, b"deal-31-2.txt");
 }
