@@ -10,7 +10,6 @@ use lib.ListN.{length}
 use Rattle.field.specs.Width.{listed}
 use Rattle.refusals.specs.Numbers.{number_of}
 use Rattle.refusals.specs.Checks.{ground_of}
-use Rattle.refusals.specs.declared.Refusal.{Refusal}
 use Rattle.refusals.specs.declared.Check.{Check}
 use Rattle.refusals.specs.declared.Check.TheVariants.{Passed, Refused}
 use Rattle.refusals.proofs.Numbers.{numbered}
@@ -62,8 +61,9 @@ module _ (seed n : ℕ) (t1 t2 : List ℕ) where
   unfolding deal_rule
   taken_outcome pair number check new1 new2 e told box1 box2 = rw (← told, e, box1, box2) refl
 
-  pub refused_outcome : (pair number : ℕ) (check : Check) (refusal : Refusal) → check ≡ Refused refusal → ground_of check ≡ deal_ground seed n t1 t2
+  pub refused_outcome : (pair number : ℕ) (check : Check) → (check ≡ Passed → ⊥) → ground_of check ≡ deal_ground seed n t1 t2
       → outcome check t1 t2 ≡ deal_rule seed n pair number t1 t2
   unfolding deal_rule
-  refused_outcome pair number check refusal e told =
-      rw (← told, e, ne_eqb (number_of refusal) 0 (λ zero. omega (arith, zero, numbered refusal))) refl
+  refused_outcome pair number Passed other told = absurd (other refl)
+  refused_outcome pair number (Refused refusal) other told =
+      rw (← told, ne_eqb (number_of refusal) 0 (λ zero. omega (arith, zero, numbered refusal))) refl

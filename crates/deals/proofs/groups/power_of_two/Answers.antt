@@ -7,8 +7,7 @@ use native.Mathlib.Omega.{arith}
 use lib.Pow.{pow_mono}
 use Rattle.field.specs.Width.{listed, modulus}
 use Rattle.field.proofs.Widths.{bounds}
-use Rattle.deals.proofs.groups.power_of_two.Statement.{statement}
-use Rattle.deals.proofs.groups.power_of_two.Tie as tie
+use Rattle.deals.proofs.groups.power_of_two.Goals as goal
 
 power_below : (n k : ℕ) → listed n ≡ true → k < n → 2 ^ k < modulus n
 power_below n k width l =
@@ -17,16 +16,13 @@ power_below n k width l =
     let four : 2 ^ 2 ≤ 2 ^ n = pow_mono {i = 2} {j = n} (omega arith) in
     omega (arith, twice, four, pow-suc 2 k, b.power)
 
-shl_result : tie.Need-overflow-shl-result
-shl_result c = omega (arith, bounds c.requires.0, c.requires.1)
+pub overflow_shl-result : goal.overflow_shl-result
+overflow_shl-result c = omega (arith, bounds c.requires.0, c.requires.1)
 
-returns : tie.Need-returns
+pub returns : goal.returns
 returns c =
     let k = c.args.k in
     let below = power_below c.args.n k c.requires.0 c.requires.1 in
     let fits : 2 ^ k < 2 ^ 32 = omega (arith, below, bounds c.requires.0) in
     let exact : (1 * 2 ^ k) % 2 ^ 32 ≡ 2 ^ k = ap (λ (x : ℕ). x % 2 ^ 32) (one-mul (2 ^ k)) ∙ mod-eq_of_lt fits in
-    (exact, rw exact below)
-
-pub power_of_two_spec : {M : Type 1} → statement M
-power_of_two_spec = tie.close (tie.spec shl_result returns)
+    record { value = exact; below = rw exact below }

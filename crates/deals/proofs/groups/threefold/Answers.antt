@@ -1,0 +1,67 @@
+-- `deals::groups::threefold` meets its contract: the draws stand in order, and box 2's last four words are worked out from them.
+use Prim.Native.Nat.{ℕ}
+use mathlib.Core.Path.{◌≡◌, sym, ap, ap₂, ◌∙◌}
+use mathlib.Core.List.{List, ◌++◌}
+use native.Mathlib.Omega.{arith}
+use lib.ListN.{length, take, drop, length-drop}
+use lib.Seq.{sets, length-take-le}
+use Rattle.draws.specs.Draws.{draw}
+use Rattle.draws.proofs.Draws.{draw_after}
+use Rattle.deals.specs.Steps.{drawn_words, threefold_left}
+use Rattle.deals.proofs.Products.{Drawn, length_drawn, drawn, set_rest}
+use Rattle.deals.proofs.groups.threefold.Goals.{After-fill-after}
+use Rattle.deals.proofs.groups.threefold.Goals as goal
+
+-- box 2's words before its last four are stored: its draws, then the words that are left
+module _ (f : After-fill-after) where
+  abbrev n : ℕ
+  n = f.args.n
+
+  abbrev v : ℕ
+  v = f.args.v
+
+  abbrev rest : List ℕ
+  rest = drop 3 f.args.w2.now
+
+  four_left : length rest ≡ 4
+  four_left = length-drop 3 f.args.w2.now ∙ omega (arith, f.requires.2)
+
+  own_drawn : f.fill-own.new.words ≡ drawn_words n v 7
+  own_drawn = f.fill-own.ensures.filled ∙ ap (drawn_words n v) f.requires.1
+
+  own_last : f.fill-own.result ≡ draw v 7
+  own_last = f.fill-own.ensures.value ∙ ap (draw v) f.requires.1
+
+  cut : length (take 3 f.args.w2.now) ≡ 3
+  cut = length-take-le 3 f.args.w2.now (omega (arith, f.requires.2))
+
+  others_drawn : f.fill-after.new.words ≡ drawn_words n (draw v 7) 3
+  others_drawn = f.fill-after.ensures.filled ∙ ap₂ (drawn_words n) own_last cut
+
+  both : Drawn n 7 3 f.fill-own.new.words (f.fill-after.new.words ++ rest)
+  both = drawn n v 7 3 rest f.requires.0 (omega (arith, four_left)) own_drawn others_drawn
+
+pub returns : goal.returns
+returns c =
+    let f = (goal.at.returns c).After-fill-after in
+    let n = c.args.n in
+    let v = c.args.v in
+    let own = drawn_words n v 7 in
+    let front = drawn_words n (draw v 7) 3 in
+    record {
+      value = c.fill-after.ensures.value ∙ ap₂ draw (own_last f) (cut f) ∙ draw_after v 7 3;
+      box1 = own_drawn f;
+      box2 =
+          c.threefold_left.ensures
+          ∙ ap₂ (λ (w1 first : List ℕ). sets (first ++ rest f) 3 (threefold_left n w1 (first ++ rest f))) (own_drawn f) (others_drawn f)
+          ∙ set_rest front (rest f) (threefold_left n own front) 3 (length_drawn n (draw v 7) 3) (four_left f);
+    }
+
+pub slice_bounds-fill-end-2 : goal.slice_bounds-fill-end-2
+slice_bounds-fill-end-2 c =
+    sym (length-take-le 3 c.args.w2.now (omega (arith, c.requires.2)))
+
+pub threefold_left-requires : goal.threefold_left-requires
+threefold_left-requires c =
+    let d = both (goal.at.threefold_left-requires c).After-fill-after in
+    record { n_value = (c.requires.0, d.long1, d.long2); below = (d.below1, d.below2) }
