@@ -215,6 +215,21 @@ def words(t):
     return set(TOKEN.findall(t))
 
 
+def parts_of(inside):
+    """What stands between a tuple's commas."""
+    parts, deep, start = [], 0, 0
+    for j, ch in enumerate(inside):
+        if ch in "([{":
+            deep += 1
+        elif ch in ")]}":
+            deep -= 1
+        elif ch == "," and deep == 0:
+            parts.append(inside[start:j])
+            start = j + 1
+    parts.append(inside[start:])
+    return [p.strip() for p in parts if p.strip()]
+
+
 def tuple_to_record(body, fields):
     """The last parenthesised tuple of a body, as a record, where it has as many parts as the goal has clauses."""
     t = body.rstrip()
@@ -226,20 +241,88 @@ def tuple_to_record(body, fields):
         if deep == 0:
             break
         k -= 1
-    inside, parts, deep, start = t[k + 1 : -1], [], 0, 0
-    for j, ch in enumerate(inside):
-        if ch in "([{":
-            deep += 1
-        elif ch in ")]}":
-            deep -= 1
-        elif ch == "," and deep == 0:
-            parts.append(inside[start:j])
-            start = j + 1
-    parts.append(inside[start:])
-    parts = [p.strip() for p in parts if p.strip()]
+    parts = parts_of(t[k + 1 : -1])
+    while len(parts) < len(fields) and parts[-1].startswith("(") and closing(parts[-1], 0) == len(parts[-1]) and len(more := parts_of(parts[-1][1:-1])) > 1:
+        parts = parts[:-1] + more
     if len(parts) != len(fields):
         return None
     return t[:k] + "record { " + "; ".join(f"{f} = {p}" for f, p in zip(fields, parts)) + " }"
+
+
+def closing(t, i):
+    """The place behind the parenthesis that closes the one at i."""
+    deep = 0
+    for j in range(i, len(t)):
+        deep += (t[j] in "([{") - (t[j] in ")]}")
+        if deep == 0:
+            return j + 1
+
+
+def joins(t, module):
+    """`⊎_elim (λ w. A) (λ w. B) c.if-x.branch`, where two branches join, as an `elim`."""
+    names, again = set(), True
+    while again:
+        again = False
+        for k in reversed([m.start() for m in re.finditer("⊎_elim", t)]):
+            arms, i = [], k + len("⊎_elim")
+            while len(arms) < 2 and (gap := re.match(r"\s+(?=\()", t[i:])):
+                j = closing(t, i + gap.end())
+                arms.append(re.match(r"\(λ (\w+)\.\s*(.*)\)$", t[i + gap.end() : j], re.S))
+                i = j
+            over = re.match(r"\s+([\w'.()-]+?)\.(if-[\w'+-]*)\.branch(?![\w'-])", t[i:])
+            if len(arms) < 2 or not all(arms) or not over:
+                continue
+            cases = []
+            for arm, way, old, fact in zip(arms, ("then", "else"), ("taken|true", "left|false"), ("true", "false")):
+                body = re.sub(r"(?<![\w'.-])" + arm[1] + r"\.0\.(?:" + old + r")(?![\w'-])", f"{arm[1]}.{over[2]}.{fact}", arm[2])
+                cases.append(f"{way}-{over[2][3:]} {arm[1]} ↦ {body}")
+                names.add(f"{way}-{over[2][3:]}")
+            t = t[:k] + f"elim {over[1]}.{over[2]}.branch [ {cases[0]} | {cases[1]} ]" + t[i + over.end() :]
+            again = True
+            break
+    if names:
+        line = re.search(r"(?m)^use " + re.escape(module) + r"\.Goals\.\{([^}]*)\}", t)
+        if line:
+            t = t[: line.start(1)] + ", ".join(sorted(names | set(line[1].split(", ")))) + t[line.end(1) :]
+        else:
+            t = t.replace(f"use {module}.Goals as goal", f"use {module}.Goals.{{{', '.join(sorted(names))}}}\nuse {module}.Goals as goal")
+    return t
+
+
+def sections(t, fn):
+    """A section over a place names earlier places, as `start = w.before.before`. Today the place itself has their facts."""
+    for m in list(re.finditer(r"(?m)^module _ \((\w+) : ([\w-]+)\) where\n((?:(?:  .*)?\n)*)", t)):
+        var, place, body = m[1], m[2], m[3]
+        backs, grown = [], True
+        while grown:
+            grown = False
+            for b in re.finditer(r"(?m)^  abbrev ([\w']+) : [\w-]+\n  \1 = ([\w']+)(?:\.before)+\n\n?", body):
+                if b[2] == var or b[2] in backs:
+                    backs.append(b[1])
+                    body, grown = body[: b.start()] + body[b.end() :], True
+                    break
+        if not backs:
+            continue
+        any_back = "(?:" + "|".join(map(re.escape, backs)) + ")"
+        body = re.sub(r"(?<![\w'.-])" + any_back + r"\.", var + ".", body)
+        head, _, tail = t.partition(m[0])
+        there = r"\(goal\.at\.[\w-]+ (\w+)\)\.[\w-]+"
+        tail = re.sub(r"\(goal\.at\.([\w-]+) (\w+)\)\.(?:After-)?[\w-]*-arg-[\w-]+", rf"(goal.at.\1 \2).{place}", tail)
+        tail = re.sub(r"\(" + any_back + " " + there + r"\)\.", r"\1.", tail)
+        tail = re.sub(r"(let \w+ = )" + any_back + " " + there + r" in", r"\1\2 in", tail)
+        t = head + f"module _ ({var} : {place}) where\n" + body + tail
+    for k, name in fn.field.items():
+        if k.startswith("loop"):
+            t = re.sub(r"(?<=[\w)])\." + k + r"\.(?=inv|\w)", f".{name}.", t)
+    t = re.sub(r"(?<=[\w)])\.inv(?![\w-])", ".invariant", t)
+    t = re.sub(r"(?<=-test)\.taken(?![\w-])", ".true", t)
+    t = re.sub(r"(?<=[\w)])\.pre(?![\w-])", ".requires", t)
+    pre = fn.m.get("pre")
+    fields = pre.get("fields") if isinstance(pre, dict) else pre
+    for d in re.finditer(r"let (\w+) = \w+\.requires in", t):
+        if fields:
+            t = re.sub(r"(?<![\w'.-])" + d[1] + r"\.([0-9])(?=\.)", lambda s: f"{d[1]}.{fields[int(s[1])]}" if int(s[1]) < len(fields) else s[0], t)
+    return t
 
 
 def convert(crate, key, m, path):
@@ -343,6 +426,8 @@ def convert(crate, key, m, path):
                 text = "\n".join(b["lines"])
                 if not re.match(r"(abbrev pub|unfoldable pub|pub )", text):
                     text = re.sub(r"^abbrev ", "abbrev pub ", text) if text.startswith("abbrev ") else "pub " + text
+                if b["kind"] == "type":
+                    text = re.sub(r"(?m)^  (?!pub )([\w'₀-₉]+(?: [\w'₀-₉]+)*) :", r"  pub \1 :", text)
                 out_inv += b["comment"] + [rewrite(text), ""]
             elif b in invariants and "text" in b:
                 out_inv += b["comment"] + [b["text"], ""]
@@ -421,7 +506,7 @@ def convert(crate, key, m, path):
             elif b in live:
                 out += b["comment"] + [b.get("answer", b.get("rest", "")), ""]
         with open(os.path.join(folder, "Answers.antt"), "w", encoding="utf-8") as f:
-            f.write("\n".join(out).rstrip() + "\n")
+            f.write(joins(sections("\n".join(out).rstrip() + "\n", fn), module))
     os.remove(path)
 
 
