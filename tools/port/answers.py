@@ -307,7 +307,8 @@ def sections(t, fn):
         body = re.sub(r"(?<![\w'.-])" + any_back + r"\.", var + ".", body)
         head, _, tail = t.partition(m[0])
         there = r"\(goal\.at\.[\w-]+ (\w+)\)\.[\w-]+"
-        tail = re.sub(r"\(goal\.at\.([\w-]+) (\w+)\)\.(?:After-)?[\w-]*-arg-[\w-]+", rf"(goal.at.\1 \2).{place}", tail)
+        own = "|".join(re.escape(n) for n in re.findall(r"(?m)^  (?:abbrev |pub )*(" + NAME + r") :", m[3]))
+        tail = re.sub(r"(?<![\w'.-])(" + own + r") \(goal\.at\.([\w-]+) (\w+)\)\.[\w-]+", rf"\1 (goal.at.\2 \3).{place}", tail)
         tail = re.sub(r"\(" + any_back + " " + there + r"\)\.", r"\1.", tail)
         tail = re.sub(r"(let \w+ = )" + any_back + " " + there + r" in", r"\1\2 in", tail)
         t = head + f"module _ ({var} : {place}) where\n" + body + tail
