@@ -31,7 +31,7 @@ module _ {s : State} {number : ℕ} {turn : Turn} {tape work : List ℕ} (r : Re
 
   -- its turn is of one of the rounds
   ready_round : round_fits (round_of turn) ≡ true
-  ready_round = (job_range s (x_of s.phase) (y_of s.phase) ready_awake r.job).round_fits
+  ready_round = (job_range s (x_of s.phase) (y_of s.phase) ready_awake r.job).in_rounds
 
   -- with another turn it is ready for that one
   ready_turned : (next : Turn) (work' : List ℕ) → round_fits (round_of next) ≡ true → work_length s.n ≤ length work'

@@ -86,7 +86,7 @@ start_moves s number x y tape work tally z =
 spoken_job : (s : State) (number round : ℕ) (tape work out : List ℕ) → speak_ground s number round tape work out ≡ 0
     → (t : TurnPassed s number (Speak round) tape) → mode_of (speak_rule s number round tape work out).state ≡ Job (Hear round) number t.due.x t.due.y
 unfolding speak_rule
-spoken_job s number round tape work out z t = rw z (turned_job s t (Hear round) t.range.round_fits)
+spoken_job s number round tape work out z t = rw z (turned_job s t (Hear round) t.range.in_rounds)
 
 speak_moves : (s : State) (number round : ℕ) (tape work out : List ℕ) → speak_ground s number round tape work out ≡ 0
     → Moves s.n (mode_of s) (speak number round tape work out) (speak_rule s number round tape work out).reply

@@ -80,7 +80,7 @@ due_job s number turn awake e = go s.phase refl (rw (awake_mode s awake) at e)
 
 -- a job in range: its turn is of one of the rounds, its shares are below p
 pub record JobRange (s : State) (turn : Turn) (x y : ℕ) : Type 0 where
-  pub round_fits_lem : round_fits (round_of turn) ≡ true
+  pub in_rounds : round_fits (round_of turn) ≡ true
   pub last : round_of turn ≤ last_round
   pub x_fits : x < modulus s.n
   pub y_fits : y < modulus s.n
@@ -94,7 +94,7 @@ job_range s x y {turn} {number} awake job =
     let twos = and_left two (ltb x (modulus s.n)) threes in
     let round = and_right (ltb number (tapes_of s.tally)) (round_fits (round_of turn)) twos in
     record {
-      round_fits_lem = round;
+      in_rounds = round;
       last = leb-true (round_of turn) last_round (and_right (leb 1 (round_of turn)) (leb (round_of turn) last_round) round);
       x_fits = ltb-true x (modulus s.n) (and_right two (ltb x (modulus s.n)) threes);
       y_fits = ltb-true y (modulus s.n) (and_right three (ltb y (modulus s.n)) fits);
