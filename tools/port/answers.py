@@ -19,6 +19,18 @@ def norm(s):
     return s[:-4] if s.endswith("_lem") else s
 
 
+def clause_of(fields, segments):
+    """Clauses were nested to the right: which one the first segments name, and what is left of them."""
+    i, at = 0, 0
+    while at < len(fields) - 1:
+        if i >= len(segments) or segments[i] not in ("0", "1"):
+            return None, segments
+        if segments[i] == "0":
+            return fields[at], segments[i + 1 :]
+        at, i = at + 1, i + 1
+    return fields[at], segments[i:]
+
+
 class Function:
     def __init__(self, m):
         self.m = m
@@ -61,16 +73,18 @@ class Function:
         rest = segments[n:]
         if not rest:
             return n, []
+        rest[0] = rest[0].strip("«»")
         s, k = rest[0], norm(rest[0])
+        if s == "good":
+            rest[0] = "well_formed"
         tail = rest[1:]
         if k in self.typed and tail[:1] == ["given"]:
             return n, ["type_inv", self.typed[k]] + tail[1:]
         if s in ("requires", "pre"):
             pre = self.m.get("pre")
             fields = pre.get("fields") if isinstance(pre, dict) else pre
-            if fields and tail and tail[0].isdigit() and int(tail[0]) < len(fields):
-                return n, ["requires", fields[int(tail[0])]] + tail[1:]
-            return n, ["requires"] + tail
+            name, left = clause_of(fields, tail) if fields else (None, tail)
+            return n, ["requires"] + ([name] if name else []) + left
         if k not in self.field:
             return n, rest
         step = self.field[k]
@@ -86,8 +100,9 @@ class Function:
             return n, out + ["is"] + tail[1:]
         if tail and norm(tail[0]) in self.inner.get(step, {}):
             return n, out + [self.inner[step][norm(tail[0])]] + tail[1:]
-        if tail[:1] == ["ensures"] and len(tail) > 1 and tail[1].isdigit() and int(tail[1]) < len(self.clauses.get(step, [])):
-            return n, out + ["ensures", self.clauses[step][int(tail[1])]] + tail[2:]
+        if tail[:1] == ["ensures"] and step in self.clauses:
+            name, left = clause_of(self.clauses[step], tail[1:])
+            return n, out + ["ensures"] + ([name] if name else []) + left
         if tail and tail[0] in ("new", "last", "auto", "kept") and step in self.callee:
             i, at = 1, 0
             while i < len(tail) and tail[i] == "1":
@@ -137,8 +152,9 @@ class Function:
                 plain.add(let[1])
                 if len(rest) == 2 and rest[1] == "ensures" and rest[0] in self.clauses:
                     whole[let[1]] = self.clauses[rest[0]]
-            if name in whole and segments and segments[0].isdigit() and int(segments[0]) < len(whole[name]):
-                return ".".join([name, whole[name][int(segments[0])]] + segments[1:])
+            if name in whole and segments:
+                field, left = clause_of(whole[name], segments)
+                return ".".join([name] + ([field] if field else []) + left)
             if name in plain and name not in alias:
                 return m[0]
             if name not in alias:
@@ -150,10 +166,11 @@ class Function:
                 return head
             place = self.parent(heads[head], n + k)
             if goal and place:
+                self.used.add(self.place.get(norm(place), place))
                 return f"(goal.at.{goal} {head}).{self.place.get(norm(place), place)}"
             return head + ".before" * (n + k)
 
-        return re.sub(r"(?<![\w'.·◌-])(" + NAME + r"|\))((?:\.[\w'-]+)*)(?![\w'·◌])", one, t)
+        return re.sub(r"(?<![\w'.·◌-])(" + NAME + r"|\))((?:\.[«\w'»-]+)*)(?![\w'·◌])", one, t)
 
     def types(self, t):
         """tie.X inv dec, in the type of a helper."""
@@ -435,6 +452,7 @@ def convert(crate, key, m, path):
         with open(os.path.join(folder, "Invariants.antt"), "w", encoding="utf-8") as f:
             f.write("\n".join(out_inv).rstrip() + "\n")
     # answers
+    fn.used = set()
     kept, used = [], set()
     for b in goals:
         text = "\n".join(b["lines"])
@@ -493,7 +511,6 @@ def convert(crate, key, m, path):
         out = [] if invariants else list(head)
         shared = sorted(n for n in in_inv if n in used)
         given = sorted(b["new"] for b in invariants if b["new"] in used)
-        fn.used = set()
         text = "\n".join(rewrite("\n".join(b["lines"])) for b in helpers if b["name"] + str(id(b)) in in_ans and b["name"] not in in_inv)
         out += uses
         if fn.used:

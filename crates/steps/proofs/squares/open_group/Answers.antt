@@ -1,0 +1,113 @@
+-- `steps::squares::open_group` meets its contract: what is stored from the group's place on are its words, by the code of its level.
+use Prim.Native.Nat.{ℕ, ◌+◌, ◌-◌, ◌*◌, ◌%◌, ◌<◌, ◌≤◌}
+use mathlib.Core.List.{List}
+use mathlib.Core.Path.{◌≡◌, sym, ap, ap₂, ◌∙◌}
+use native.Mathlib.Nat.{mod-lt, mul-le-mul_right}
+use native.Mathlib.Omega.{arith}
+use borrow.Rule.Slice.PartMut.{put_mid}
+use lib.ListN.{length, get_or, take, drop, length-drop}
+use lib.Seq.{sets, take_all, get_or-drop}
+use Rattle.lists.specs.Span.{span}
+use Rattle.lists.proofs.Parts.{put_sets}
+use Rattle.lists.proofs.Span.{length_span, span_shift}
+use Rattle.field.proofs.Widths.{bounds}
+use Rattle.shares.specs.Share.{masked}
+use Rattle.tape.specs.Layout.{square_count}
+use Rattle.tape.proofs.Sizes.{small}
+use Rattle.encoding.specs.Codes.{level_code}
+use Rattle.protocol.specs.Squares.{code_difference, bit_difference, square_opening}
+use Rattle.protocol.proofs.Matches.{group_difference}
+use Rattle.steps.proofs.squares.open_group.Goals.{After-beyond-low, After-open_bits-arg-1, Start}
+use Rattle.steps.proofs.squares.open_group.Goals as goal
+
+-- the rest of a list, as it is lent
+rest : (at : ℕ) (l : List ℕ) → take (length l - at) (drop at l) ≡ drop at l
+rest at l = take_all (length l - at) (drop at l) (omega (arith, length-drop at l))
+
+module _ (n side doubled : ℕ) (squares out : List ℕ) (g : ℕ) where
+  -- a word by its bit and by its place
+  abbrev bit_word : ℕ → ℕ
+  bit_word k = square_opening n (code_difference n side (level_code n side doubled (g % n)) k) (drop (g * n * 2) squares) k
+
+  abbrev word : ℕ → ℕ
+  word j = square_opening n (bit_difference n side (λ t. doubled) j) squares j
+
+  same_word : (k : ℕ) → k < n → bit_word k ≡ word (g * n + k)
+  same_word k less =
+      let place : g * n * 2 + k * 2 ≡ (g * n + k) * 2 = omega arith in
+      ap₂ (masked n) (sym (group_difference n side (λ t. doubled) g k less))
+      (get_or-drop (g * n * 2) squares (k * 2) 0 ∙ ap (λ (i : ℕ). get_or squares i 0) place)
+
+  -- stored in the rest of out, from bit `low` up
+  group_words : (low : ℕ) → low ≤ n → g * n + n ≤ length out
+      → put_mid (g * n) (length out - g * n) out (sets (take (length out - g * n) (drop (g * n) out)) low (span low n bit_word))
+      ≡ sets out (g * n + low) (span (g * n + low) ((g + 1) * n) word)
+  group_words low most room =
+      let end : g * n + n ≡ (g + 1) * n = omega arith in
+      put_sets (g * n) (length out - g * n) out low (span low n bit_word) (omega (arith, length_span low n bit_word))
+      ∙ ap (λ (ws : List ℕ). sets out (g * n + low) ws)
+      (span_shift (g * n) low n bit_word word (λ k above less. same_word k less) ∙ ap (λ (stop : ℕ). span (g * n + low) stop word) end)
+
+-- the group's squares are dealt
+placed : (s : Start) → s.args.g * s.args.n + s.args.n ≤ square_count s.args.n
+placed s = omega (arith, mul-le-mul_right s.args.n s.requires.n_value.2)
+
+levelled : (s : Start) → s.args.level < s.args.n
+levelled s = rw s.requires.n_value.3 (mod-lt s.args.g (omega (arith, bounds s.requires.n_value.0)))
+
+pub overflow_mul-at : goal.overflow_mul-at
+overflow_mul-at c =
+    omega (arith, placed (goal.at.overflow_mul-at c).Start, small c.requires.n_value.0)
+
+pub overflow_cast-level : goal.overflow_cast-level
+overflow_cast-level c =
+    omega (arith, levelled (goal.at.overflow_cast-level c).Start, c.ranges.n)
+
+pub level_code-code-requires : goal.level_code-code-requires
+level_code-code-requires c =
+    (c.requires.n_value.0, c.requires.n_value.1, levelled (goal.at.level_code-code-requires c).Start)
+
+pub overflow_mul-at-2 : goal.overflow_mul-at-2
+overflow_mul-at-2 c =
+    omega (arith, placed (goal.at.overflow_mul-at-2 c).Start, small c.requires.n_value.0)
+
+pub offset_bounds-squares-at : goal.offset_bounds-squares-at
+offset_bounds-squares-at c =
+    omega (arith, placed (goal.at.offset_bounds-squares-at c).Start, small c.requires.n_value.0)
+
+pub slice_bounds-open_bits-count : goal.slice_bounds-open_bits-count
+slice_bounds-open_bits-count c =
+    omega (arith, placed (goal.at.slice_bounds-open_bits-count c).Start, c.requires.below.1)
+
+pub slice_bounds-open_bits-start : goal.slice_bounds-open_bits-start
+slice_bounds-open_bits-start c = slice_bounds-open_bits-count (goal.at.slice_bounds-open_bits-start c).After-beyond-low
+
+pub offset_bounds-out-at : goal.offset_bounds-out-at
+offset_bounds-out-at c =
+    omega (arith, placed (goal.at.offset_bounds-out-at c).Start, small c.requires.n_value.0)
+
+pub slice_bounds-open_bits-count-2 : goal.slice_bounds-open_bits-count-2
+slice_bounds-open_bits-count-2 c =
+    omega (arith, placed (goal.at.slice_bounds-open_bits-count-2 c).Start, c.requires.below.2)
+
+pub slice_bounds-open_bits-start-2 : goal.slice_bounds-open_bits-start-2
+slice_bounds-open_bits-start-2 c = slice_bounds-open_bits-count-2 (goal.at.slice_bounds-open_bits-start-2 c).After-open_bits-arg-1
+
+pub open_bits-requires : goal.open_bits-requires
+open_bits-requires c =
+    let a = c.args in record {
+      n_value = (c.requires.n_value.0, omega (arith, c.beyond-low.ensures, c.requires.n_value.4));
+      below = rw (rest (a.g * a.n * 2) a.squares.now, rest (a.g * a.n) a.out.now) (
+        record { at = λ i. rw (get_or-drop (a.g * a.n * 2) a.squares.now i 0) (c.requires.below.0.at (a.g * a.n * 2 + i)) },
+        omega (arith, placed (goal.at.open_bits-requires c).Start, length-drop (a.g * a.n * 2) a.squares.now, c.requires.below.1),
+        omega (arith, placed (goal.at.open_bits-requires c).Start, length-drop (a.g * a.n) a.out.now, c.requires.below.2),
+      );
+    }
+
+pub returns : goal.returns
+returns c =
+    let a = c.args in
+    let low = a.from - a.g * a.n in
+    ap (put_mid (a.g * a.n) (length a.out.now - a.g * a.n) a.out.now)
+    (rw (rest (a.g * a.n * 2) a.squares.now, c.beyond-low.ensures, c.level_code-code.ensures, c.requires.n_value.3) at c.open_bits.ensures)
+    ∙ group_words a.n a.side a.doubled a.squares.now a.out.now a.g low (omega (arith, c.requires.n_value.4)) (omega (arith, placed (goal.at.returns c).Start, c.requires.below.2))

@@ -1,0 +1,25 @@
+-- `steps::squares::open_squares` meets its contract. The loop's invariant: the words of the tests passed stand in their places, from place `from` on.
+use Prim.Native.Nat.{ℕ, ◌*◌, ◌≤◌}
+use mathlib.Core.List.{List}
+use mathlib.Core.Path.{◌≡◌}
+use lib.ListN.{length, get_or}
+use lib.Seq.{sets}
+use Rattle.lists.specs.Span.{span, later}
+use Rattle.tape.specs.Layout.{square_count}
+use Rattle.protocol.specs.Squares.{bit_difference, square_opening}
+use Rattle.steps.proofs.squares.open_squares.Given as goal
+
+-- the word of square j
+abbrev pub word : ℕ → ℕ → (ℕ → ℕ) → List ℕ → ℕ → ℕ
+word n side d squares j = square_opening n (bit_difference n side d j) squares j
+
+abbrev pub invariant-loop-test : goal.invariant-loop-test
+invariant-loop-test l =
+    (l.test ≤ 3)
+    × (length l.out ≡ length l.initial.out)
+    × (l.out
+    ≡ sets l.initial.out (later (l.test * (l.n * l.n)) l.from)
+    (span (later (l.test * (l.n * l.n)) l.from) (square_count l.n) (word l.n l.side (λ t. get_or l.tests.doubled t 0) l.squares)))
+
+abbrev pub decreases-loop-test : goal.decreases-loop-test
+decreases-loop-test l = l.test
