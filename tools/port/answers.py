@@ -50,6 +50,11 @@ class Function:
         for pairs in m["typed"]:
             for var, place in pairs:
                 self.typed[norm(place)] = var
+        self.arms = {}
+        for arm in m["arms"]:
+            for new, old, path in arm[2] if arm else []:
+                if path:
+                    self.arms.setdefault(norm(old), []).append((path, [arm[0], new]))
         self.used = set()
         self.place = {norm(p[0]): n for p, n in zip(m["places"], m["places_by_name"])}
         self.loops = {}
@@ -85,6 +90,9 @@ class Function:
             fields = pre.get("fields") if isinstance(pre, dict) else pre
             name, left = clause_of(fields, tail) if fields else (None, tail)
             return n, ["requires"] + ([name] if name else []) + left
+        for path, new in sorted(self.arms.get(k, []), key=lambda a: -len(a[0])):
+            if tail[: len(path)] == path:
+                return n, new + tail[len(path) :]
         if k not in self.field:
             return n, rest
         step = self.field[k]
