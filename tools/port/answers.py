@@ -132,9 +132,12 @@ class Function:
     def body(self, t, heads, walks, goal=None):
         """A term with today's names. heads: the variables that are places, with the place's old name; walks: helpers that only step back.
         In a goal's answer its variable is flat: a place before it, where a lemma takes one, is `(goal.at.G c).PLACE`."""
-        for name, n in walks.items():
-            t = re.sub(r"\(" + name + r" (" + NAME + r"(?:\.[\w'-]+)*)\)", lambda m: m[1] + ".before" * n, t)
-            t = re.sub(r"(?<![\w'.-])" + name + r" (" + NAME + r"(?:\.[\w'-]+)*)", lambda m: m[1] + ".before" * n, t)
+        was = None
+        while was != t:
+            was = t
+            for name, n in walks.items():
+                t = re.sub(r"\(" + name + r" (" + NAME + r"(?:\.[\w'-]+)*)\)", lambda m: m[1] + ".before" * n, t)
+                t = re.sub(r"(?<![\w'.-])" + name + r" (" + NAME + r"(?:\.[\w'-]+)*)", lambda m: m[1] + ".before" * n, t)
         alias, bound, plain, whole = {h: (h, 0) for h in heads}, {}, set(), {}
         # `let l = c.before.before in`
         while True:
