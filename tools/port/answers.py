@@ -168,6 +168,8 @@ class Function:
                 return ".".join([name] + ([field] if field else []) + left)
             if name in plain and name not in alias:
                 return m[0]
+            if name not in alias and segments[:1] != ["before"] and name != "w":
+                return m[0]
             if name not in alias:
                 return name + "".join("." + s for s in ["before"] * n + rest)
             head, k = alias[name]

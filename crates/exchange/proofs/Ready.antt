@@ -15,7 +15,7 @@ use Rattle.rules.specs.Answers.{spoke, share, reply_of}
 use Rattle.rules.specs.Modes.{round_of, round_fits, mode_of, is_asleep, same_turn}
 use Rattle.rules.specs.Grounds.{words_fit, message_fits, turn_grounds, speak_ground, hear_ground}
 use Rattle.rules.specs.Calls.{Result, outcome, in_phase, x_of, y_of, party_of, turned, speak_rule, hear_rule}
-use Rattle.rules.proofs.Ranges.{ranged, range_mode, awake_range, job_range, turned_mode}
+use Rattle.rules.proofs.Ranges.{range_mode, awake_range, job_range, turned_mode}
 use Rattle.rules.specs.declared.state.Turn.{Turn}
 use Rattle.rules.specs.declared.state.Turn.TheVariants.{Speak, Hear}
 use Rattle.rules.specs.declared.state.State.{State}

@@ -1,0 +1,13 @@
+-- `exchange::memory::fresh_job` meets its contract: what it lends is blank.
+use mathlib.Core.Path.{◌≡◌, ap, ◌∙◌}
+use Rattle.exchange.specs.Jobs.{Ended, ended}
+use Rattle.exchange.specs.Memory.{fresh_job}
+use Rattle.exchange.proofs.memory.fresh_job.Goals as goal
+
+pub returns : goal.returns
+unfolding fresh_job
+returns c =
+    let a = c.args in
+    let told : ended c.less.result _ _ ≡ fresh_job a.n a.pair a.number a.box1 a.box2 a.t1.now a.t2.now =
+    c.less.ensures.k2_after ∙ rw (c.blank_work-w1.ensures.1, c.blank_work-w2.ensures.1, c.blank_words-o1.ensures.1, c.blank_words-o2.ensures.1) in
+    (ap (λ (j : Ended). j.refusal) told, ap (λ (j : Ended). j.less) told)
