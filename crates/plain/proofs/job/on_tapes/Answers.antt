@@ -9,29 +9,20 @@ use Rattle.exchange.specs.Memory.{fresh_job}
 use Rattle.exchange.proofs.Fresh.{fresh_answer}
 use Rattle.plain.specs.Printed.{plain_less, plain_answer}
 use Rattle.plain.proofs.FirstRefusal.{first_refusal, taken_width}
-use borrow.Author.Rules.{rules}
-use Rattle.plain.proofs.job.on_tapes.Statement.{statement}
-use Rattle.plain.proofs.job.on_tapes.Tie as tie
+use Rattle.plain.proofs.job.on_tapes.Goals as goal
 
-fresh_job_requires : tie.Need-fresh-job-requires
-fresh_job_requires c κs = search rules
-
-returns : tie.Need-returns
+pub returns : goal.returns
 unfolding plain_less plain_answer
 returns c =
-    let s = c.before.before.before in
-    let a = s.args in
-    let refusal = first_refusal a.n a.box1 a.box2 a.t1.now a.t2.now s.requires.0 s.requires.1 in
+    let a = c.args in
+    let refusal = first_refusal a.n a.box1 a.box2 a.t1.now a.t2.now c.requires.0 c.requires.1 in
     let dealt : (fresh_job a.n 1 0 a.box1 a.box2 a.t1.now a.t2.now).refusal ≡ 0 → Dealt a.n 1 0 a.t1.now a.t2.now =
     λ none.
     let width = taken_width a.n a.box1.x a.box2.x a.box1.y a.box2.y (sym refusal ∙ none) in
-    let plain = s.requires.1 width in
+    let plain = c.requires.1 width in
     rw (plain.0, plain.1) (plain_dealt a.n 1 0 width) in (
       c.fresh_job.ensures.0 ∙ refusal,
       c.fresh_job.ensures.1
           ∙ fresh_answer a.n 1 a.box1 a.box2 a.t1.now a.t2.now dealt
           ∙ ap (λ (k : ℕ). cond (eqb k 0) (plain_less a.n a.box1.x a.box2.x a.box1.y a.box2.y) 0) refusal,
     )
-
-pub on_tapes_spec : {M : Type 1} → statement M
-on_tapes_spec = tie.close (tie.spec fresh_job_requires returns)
