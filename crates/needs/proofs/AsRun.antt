@@ -1,12 +1,12 @@
 -- The figures are those of a run: a call that comes to its ground of room has only that left, and a hear its words'.
-use Prim.Native.Nat.{ℕ, suc, ◌*◌, ◌≤◌}
+use Prim.Native.Nat.{ℕ, ◌*◌, ◌≤◌}
 use mathlib.Core.Path.{◌≡◌, refl, sym, ap, ◌∙◌}
 use mathlib.Core.Bool.{Bool, true, false, not, ◌||◌, cond}
 use mathlib.Core.List.{List, [], ◌++◌}
 use native.Mathlib.Nat.{one-mul}
 use native.Mathlib.Omega.{arith}
 use borrow.Author.Tests.{leb-true, leb-false, eq-eqb, lt-ltb, le-ltb, le-leb}
-use lib.Dec.{eqb, leb, ltb}
+use lib.Dec.{leb, ltb}
 use lib.ListN.{length}
 use Rattle.field.specs.Width.{listed}
 use Rattle.tape.specs.Layout.{tape_length}
@@ -21,7 +21,7 @@ use Rattle.refusals.proofs.Chains.{none, first_none}
 use Rattle.rules.specs.Answers.{spoke}
 use Rattle.rules.specs.Grounds.{room_grounds, message_fits, word_grounds, start_ground, speak_ground, hear_ground}
 use Rattle.rules.specs.Calls.{speak_rule}
-use Rattle.rules.specs.AnyCall.{Call, start, speak, hear, grounds_of}
+use Rattle.rules.specs.AnyCall.{start, speak, hear, grounds_of}
 use Rattle.rules.specs.declared.state.Turn.TheVariants.{Speak, Hear}
 use Rattle.rules.specs.declared.state.State.{State}
 use Rattle.rules.proofs.Ranges.{awake_listed}

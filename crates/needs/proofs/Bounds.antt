@@ -11,7 +11,6 @@ use Rattle.field.specs.Width.{listed}
 use Rattle.tape.specs.Layout.{tape_length}
 use Rattle.tape.proofs.Sizes.{small, tape_is}
 use Rattle.protocol.specs.Work.{work_length}
-use Rattle.protocol.specs.Rounds.{round_words}
 use Rattle.protocol.specs.Sizes.{most_jobs, count_fits, tape_for, round_for, work_for}
 use Rattle.protocol.proofs.Lengths.{words_most}
 
