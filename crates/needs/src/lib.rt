@@ -23,6 +23,7 @@ pub struct Needs {
 }
 
 // Whether so many jobs are taken together.
+#[tactic(auto, unfolding(protocol::specs::Sizes::count_fits))]
 pub fn count_fits(count: u32) -> bool
     ensures { result ≡ count_fits count }
 {
