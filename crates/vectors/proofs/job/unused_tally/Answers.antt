@@ -4,12 +4,8 @@ use mathlib.Core.Path.{refl}
 use lib.ListN.{length-replicate}
 use Rattle.tally.specs.Tally.{longest_tally}
 use Rattle.vectors.specs.Job.{unused_tally}
-use Rattle.vectors.proofs.job.unused_tally.Statement.{statement}
-use Rattle.vectors.proofs.job.unused_tally.Tie as tie
+use Rattle.vectors.proofs.job.unused_tally.Goals as goal
 
-returns : tie.Need-returns
+pub returns : goal.returns
 unfolding unused_tally
 returns c = (length-replicate {A = ℕ} longest_tally 255, refl)
-
-pub unused_tally_spec : {M : Type 1} → statement M
-unused_tally_spec = tie.close (tie.spec returns)
