@@ -4,8 +4,6 @@ use mathlib.Core.Bool.{true}
 use mathlib.Core.List.{List, ◌++◌}
 use mathlib.Core.Path.{◌≡◌, sym, ap₂, ◌∙◌}
 use native.Mathlib.Omega.{arith}
-use borrow.Author.Rules.{rules}
-use borrow.Author.Tests.{not-true, not-false}
 use lib.ListN.{length, take, drop}
 use lib.Seq.{length_front, take_at}
 use Rattle.field.specs.Width.{listed}
@@ -94,7 +92,6 @@ slice_bounds-t2-end c = (cut2 (goal.at.slice_bounds-t2-end c).After-blank_tape-t
 
 pub slice_bounds-deal-end-2 : goal.slice_bounds-deal-end-2
 slice_bounds-deal-end-2 c = (cut2 (goal.at.slice_bounds-deal-end-2 c).After-blank_tape-t2).long
-
 
 pub slice_bounds-both_same-end : goal.slice_bounds-both_same-end
 slice_bounds-both_same-end c = sym (whole1 (goal.at.slice_bounds-both_same-end c).After-deal-check)

@@ -1,7 +1,6 @@
 -- `vectors::deal::run` meets its contract: the four numbers at the front are read, and the rest is told by them.
 use mathlib.Core.Path.{◌≡◌, sym, ◌∙◌}
 use mathlib.Core.Bool.{false≢true}
-use borrow.Author.Rules.{rules}
 use borrow.Author.Tests.{not-true, not-false}
 use lib.ListN.{replicate}
 use Rattle.vectors.specs.Numbers.{numbers_from}

@@ -1,6 +1,4 @@
 -- `vectors::job::carry` meets its contract.
-use borrow.Author.Rules.{rules}
-use borrow.Author.Tests.{not-true, not-false}
 use Rattle.vectors.proofs.Carried.{delivered_as_is}
 use Rattle.vectors.proofs.job.carry.Goals as goal
 

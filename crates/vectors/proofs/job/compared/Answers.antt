@@ -5,7 +5,6 @@ use mathlib.Core.Bool.{true}
 use mathlib.Core.List.{List, ◌++◌}
 use mathlib.Core.Path.{◌≡◌, sym, ap, ap₂, subst, ◌∙◌}
 use native.Mathlib.Omega.{arith}
-use borrow.Author.Rules.{rules}
 use lib.ListN.{length, take, drop}
 use Rattle.field.specs.Width.{listed}
 use Rattle.shares.specs.Reading.{read_words}
@@ -16,7 +15,7 @@ use Rattle.rules.proofs.Ranges.{ranged}
 use Rattle.exchange.proofs.Delivery.{AtFront, at_front, hears}
 use Rattle.vectors.specs.Numbers.{spelled}
 use Rattle.vectors.specs.Sent.{respelled_in}
-use Rattle.vectors.proofs.Carried.{respelled_append, respelled_most, Arrived, arrived}
+use Rattle.vectors.proofs.Carried.{respelled_append, respelled_most, arrived}
 use Rattle.vectors.proofs.job.compared.Goals.{After-both_speak-due}
 use Rattle.vectors.proofs.job.compared.Goals as goal
 
@@ -144,10 +143,10 @@ returns c =
     record {
       read = c.both_same-read.ensures ∙ ap₂ (λ (x y : List ℕ). spelled v.text.now v.from (x ++ y)) (front1 a).front (front2 a).front;
       box1 =
-        hears v.boxes.box2 v.number v.round v.t2.now v.w2.now ready2 v.boxes.box1 v.t1.now v.w1.now ready1
-        (sym c.requires.width) _ _ c.both_hear-heard.result.box1 _ c.both_speak-due.ensures.box1.1 read1 c.both_hear-heard.ensures.box1;
+          hears v.boxes.box2 v.number v.round v.t2.now v.w2.now ready2 v.boxes.box1 v.t1.now v.w1.now ready1
+          (sym c.requires.width) _ _ c.both_hear-heard.result.box1 _ c.both_speak-due.ensures.box1.1 read1 c.both_hear-heard.ensures.box1;
       box2 =
-        hears v.boxes.box1 v.number v.round v.t1.now v.w1.now ready1 v.boxes.box2 v.t2.now v.w2.now ready2
-        c.requires.width _ _ c.both_hear-heard.result.box2 _ c.both_speak-due.ensures.box2.1 read2 c.both_hear-heard.ensures.box2;
+          hears v.boxes.box1 v.number v.round v.t1.now v.w1.now ready1 v.boxes.box2 v.t2.now v.w2.now ready2
+          c.requires.width _ _ c.both_hear-heard.result.box2 _ c.both_speak-due.ensures.box2.1 read2 c.both_hear-heard.ensures.box2;
       zeros = ap₂ ◌+◌ zeros1 zeros2 ∙ sym (respelled_append v.board (message1 a) (message2 a));
     }

@@ -1,11 +1,9 @@
-use Prim.Native.Nat.{ℕ, ◌+◌, ◌*◌, ◌-◌, ◌≤◌}
+use Prim.Native.Nat.{ℕ, ◌+◌, ◌*◌, ◌≤◌}
 use mathlib.Core.List.{List, [], ◌∷◌, ◌++◌}
 use mathlib.Core.Bool.{true}
 use mathlib.Core.Path.{◌≡◌, refl, sym, ap, ap₂, subst, ◌∙◌}
 use native.Mathlib.Omega.{arith}
-use borrow.Author.Rules.{rules}
 use borrow.Author.Tests.{not-true, not-false}
-use lib.ListN.{length}
 use Rattle.protocol.specs.Products.{Party}
 use Rattle.protocol.specs.Exchange.{Both, exchanged}
 use Rattle.protocol.specs.Rounds.{earlier_rounds, last_round}
@@ -13,7 +11,7 @@ use Rattle.rules.specs.Answers.{share}
 use Rattle.rules.specs.Calls.{party_of}
 use Rattle.rules.proofs.Ranges.{ranged}
 use Rattle.exchange.specs.Opening.{share_of}
-use Rattle.exchange.specs.Boxes.{works, after}
+use Rattle.exchange.specs.Boxes.{works}
 use Rattle.exchange.proofs.Exchanges.{more_own, more_others, last_own, last_others}
 use Rattle.exchange.proofs.Course.{Course, course_first, course_width, course_sends, course_next, course_last}
 use Rattle.vectors.specs.declared.numbers.Cursor.{Cursor}

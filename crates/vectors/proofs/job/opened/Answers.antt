@@ -1,6 +1,5 @@
 -- `vectors::job::opened` meets its contract: two boxes that are not refused are ready for the first round.
 use mathlib.Core.Path.{◌≡◌, sym, ap, ◌∙◌}
-use borrow.Author.Rules.{rules}
 use borrow.Author.Tests.{eq-eqb, ne_eqb}
 use lib.Dec.{eqb}
 use Rattle.rules.specs.Calls.{party_of}

@@ -9,7 +9,6 @@ use Rattle.vectors.specs.Sent.{respelled_in}
 use Rattle.vectors.proofs.Readings.{filled}
 use Rattle.vectors.proofs.Jobs.{untold_says, agreed_none, agreed_other, agreed_told}
 use Rattle.vectors.proofs.Sent.{text_sent}
-use borrow.Author.Rules.{rules}
 use Rattle.vectors.proofs.job.run.Goals.{Else-not-c}
 use Rattle.vectors.proofs.job.run.Goals as goal
 

@@ -1,6 +1,5 @@
 -- `vectors::numbers::both_same` meets its contract: both parts are within their slices, and the second is read where the first ended.
 use mathlib.Core.Path.{sym, ◌∙◌}
-use borrow.Author.Rules.{rules}
 use borrow.Author.Tests.{not-true, not-false}
 use lib.ListN.{take}
 use lib.Seq.{length-take-le}

@@ -4,8 +4,6 @@ use native.Mathlib.Omega.{arith}
 use borrow.Author.Rules.{rules}
 use borrow.Author.Tests.{not-true, not-false}
 use lib.ListN.{length}
-use lib.Seq.{sets}
-use Rattle.vectors.specs.Numbers.{numbers_from, read_to}
 use Rattle.vectors.proofs.Readings.{fill_next, fill_none, fill_end, read_next, read_none, read_end}
 use Rattle.vectors.proofs.numbers.fill.Goals as goal
 

@@ -1,13 +1,9 @@
 -- `vectors::numbers::fill` meets its contract: what is left to read decides, and goes to the places that are left.
-use Prim.Native.Nat.{◌-◌, ◌<◌, ◌≤◌}
-use mathlib.Core.Path.{◌≡◌, refl, sym, ◌∙◌}
-use native.Mathlib.Omega.{arith}
-use borrow.Author.Rules.{rules}
-use borrow.Author.Tests.{not-true, not-false}
+use Prim.Native.Nat.{◌-◌}
+use mathlib.Core.Path.{◌≡◌}
 use lib.ListN.{length}
 use lib.Seq.{sets}
 use Rattle.vectors.specs.Numbers.{numbers_from, read_to}
-use Rattle.vectors.proofs.Readings.{fill_next, fill_none, fill_end, read_next, read_none, read_end}
 use Rattle.vectors.proofs.numbers.fill.Given as goal
 
 abbrev pub invariant-loop-i : goal.invariant-loop-i

@@ -1,13 +1,8 @@
 -- `vectors::numbers::past` meets its contract: each turn passes a byte of the run.
 use Prim.Native.Nat.{◌-◌, ◌≤◌}
-use mathlib.Core.Bool.{Bool, beq}
-use mathlib.Core.Path.{◌≡◌, refl, sym, ap, ◌∙◌}
-use native.Mathlib.Omega.{arith}
-use borrow.Author.Rules.{rules}
-use borrow.Author.Tests.{not-true, not-false}
+use mathlib.Core.Path.{◌≡◌}
 use lib.ListN.{length}
 use Rattle.vectors.specs.Numbers.{past}
-use Rattle.vectors.proofs.Runs.{past_here, past_more, past_end}
 use Rattle.vectors.proofs.numbers.past.Given as goal
 
 abbrev pub invariant-loop-at : goal.invariant-loop-at

@@ -1,10 +1,7 @@
-use Prim.Native.Nat.{◌-◌}
-use mathlib.Core.Path.{◌≡◌, refl, sym, ◌∙◌}
+use mathlib.Core.Path.{refl, sym, ◌∙◌}
 use native.Mathlib.Omega.{arith}
 use borrow.Author.Rules.{rules}
 use borrow.Author.Tests.{not-true, not-false}
-use lib.ListN.{length, drop}
-use Rattle.vectors.specs.Numbers.{spelled}
 use Rattle.vectors.proofs.Readings.{spelled_next, spelled_none, spelled_other, spelled_end}
 use Rattle.vectors.proofs.numbers.same.Goals as goal
 

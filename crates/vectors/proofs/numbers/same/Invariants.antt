@@ -1,12 +1,8 @@
 -- `vectors::numbers::same` meets its contract: each turn compares one word, and those that are left decide.
 use Prim.Native.Nat.{◌-◌}
-use mathlib.Core.Path.{◌≡◌, refl, sym, ◌∙◌}
-use native.Mathlib.Omega.{arith}
-use borrow.Author.Rules.{rules}
-use borrow.Author.Tests.{not-true, not-false}
+use mathlib.Core.Path.{◌≡◌}
 use lib.ListN.{length, drop}
 use Rattle.vectors.specs.Numbers.{spelled}
-use Rattle.vectors.proofs.Readings.{spelled_next, spelled_none, spelled_other, spelled_end}
 use Rattle.vectors.proofs.numbers.same.Given as goal
 
 abbrev pub invariant-loop-i : goal.invariant-loop-i
