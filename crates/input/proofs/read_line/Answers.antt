@@ -1,12 +1,12 @@
-use Prim.Native.Nat.{ℕ, ◌+◌, ◌≤◌}
+use Prim.Native.Nat.{ℕ, ◌≤◌}
 use mathlib.Core.Path.{refl, sym}
 use mathlib.Core.List.{List}
 use native.Mathlib.Omega.{arith}
 use borrow.Author.Rules.{rules}
-use lib.ListN.{length, get_or, set, length-set}
+use lib.ListN.{length, get_or, length-set}
 use lib.Seq.{length-take-le}
 use Rattle.io.specs.Counts.{IsPrefixLen}
-use Rattle.input.proofs.Newlines.{one_line, last_line, none_more}
+use Rattle.input.proofs.Newlines.{one_line, none_more}
 use Rattle.input.proofs.read_line.Goals as goal
 
 counted : (r : ℕ) (text : List ℕ) → r ≤ length text → IsPrefixLen r text
@@ -18,13 +18,6 @@ loop-len-init c = (refl, omega arith, λ i less. absurd (omega arith))
 pub returns-then-read_full-eq0 : goal.returns-then-read_full-eq0
 returns-then-read_full-eq0 c = let l = c.loop-len in record { prefix_len = counted _ _ (search rules); line = one_line l.len l.text l.invariant.2 }
 
-pub returns-then-byte-eq10 : goal.returns-then-byte-eq10
-returns-then-byte-eq10 c =
-    let l = c.loop-len in
-    let b = get_or c.read_full.new.buf 0 0 in
-    let in_text = c.loop-len-test.true in
-    record { prefix_len = counted (l.len + 1) (set l.text l.len b) (omega (arith, in_text, length-set l.text l.len b)); line = last_line l.text l.len b l.invariant.2 }
-
 pub loop-len-preserved : goal.loop-len-preserved
 loop-len-preserved c =
     let l = c.loop-len in
@@ -33,7 +26,7 @@ loop-len-preserved c =
     let in_text = c.loop-len-test.true in (
       omega (arith, same, l.invariant.0),
       omega (arith, same, in_text),
-      none_more l.text l.len b l.invariant.2 in_text c.if-byte-eq10.false,
+      none_more l.text l.len b l.invariant.2 in_text (search rules),
     )
 
 pub returns : goal.returns
