@@ -1,0 +1,7 @@
+-- `walk::five::hear_on` meets its contract: the tape is the plain one.
+use borrow.Author.Rules.{rules}
+use Rattle.walk.proofs.five.hear_on.Goals as goal
+
+pub returns : goal.returns
+returns c =
+    rw c.plain-tape.ensures.1 at c.round_hear.ensures.answered

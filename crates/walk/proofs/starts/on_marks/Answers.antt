@@ -1,0 +1,6 @@
+-- `walk::starts::on_marks` meets its contract: the state is the one that was reached.
+use borrow.Author.Rules.{rules}
+use Rattle.walk.proofs.starts.on_marks.Goals as goal
+
+pub returns : goal.returns
+returns c = rw c.idle.ensures at c.start_on.ensures

@@ -1,0 +1,8 @@
+-- `walk::states::idle` meets its contract: the rule takes the first state there.
+use mathlib.Core.Path.{◌∙◌}
+use borrow.Author.Rules.{rules}
+use Rattle.walk.proofs.Reached.{woken_four}
+use Rattle.walk.proofs.states.idle.Goals as goal
+
+pub returns : goal.returns
+returns c = c.woken-woken.ensures.0.state ∙ woken_four
