@@ -1,6 +1,5 @@
 -- `walk::answers::same` meets its contract: its kind and its number tell an answer from every other.
 use mathlib.Core.Path.{sym, ap, ◌∙◌}
-use borrow.Author.Rules.{rules}
 use borrow.Author.Tests.{eqb-true, eq-eqb}
 use Rattle.walk.specs.Walk.{kind_of, number_in}
 use Rattle.walk.proofs.Same.{same_reply}
@@ -14,8 +13,7 @@ returns-then-kind_of c =
     )
 
 pub returns-else-kind_of : goal.returns-else-kind_of
-returns-else-kind_of c =
-    (
-      λ e. absurd (c.if-kind_of.false (eqb-true _ _ e)),
-      λ e. absurd (c.if-kind_of.false (c.kind_of.ensures ∙ ap kind_of e ∙ sym c.kind_of-2.ensures)),
-    )
+returns-else-kind_of c = (
+  λ e. absurd (c.if-kind_of.false (eqb-true _ _ e)),
+  λ e. absurd (c.if-kind_of.false (c.kind_of.ensures ∙ ap kind_of e ∙ sym c.kind_of-2.ensures)),
+)

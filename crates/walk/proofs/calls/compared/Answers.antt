@@ -1,7 +1,6 @@
 -- `walk::calls::compared` meets its contract: what is called kept is the same.
 use mathlib.Core.Bool.{false≢true}
 use mathlib.Core.Path.{refl, sym, ◌∙◌}
-use borrow.Author.Rules.{rules}
 use Rattle.walk.proofs.calls.compared.Goals as goal
 
 pub returns-then-kept : goal.returns-then-kept

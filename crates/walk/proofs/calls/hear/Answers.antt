@@ -1,6 +1,5 @@
 -- `walk::calls::hear` meets its contract: the call is its rule.
 use mathlib.Core.Path.{ap}
-use borrow.Author.Rules.{rules}
 use Rattle.rules.specs.Calls.{Result}
 use Rattle.walk.proofs.Reached.{told_full}
 use Rattle.walk.proofs.calls.hear.Goals as goal

@@ -1,6 +1,5 @@
 -- `walk::calls::is_refused` meets its contract: both tests.
 use mathlib.Core.Path.{refl}
-use borrow.Author.Rules.{rules}
 use Rattle.walk.proofs.calls.is_refused.Goals as goal
 
 pub returns-then-tried : goal.returns-then-tried

@@ -1,5 +1,4 @@
 -- `walk::calls::plain_start` meets its contract: the tape is the plain one.
-use borrow.Author.Rules.{rules}
 use Rattle.walk.proofs.calls.plain_start.Goals as goal
 
 pub returns : goal.returns

@@ -2,7 +2,6 @@
 use mathlib.Core.Path.{sym}
 use native.Mathlib.Omega.{arith}
 use lib.Seq.{length-take-le}
-use borrow.Author.Rules.{rules}
 use Rattle.walk.proofs.calls.round_hear.Goals as goal
 
 pub slice_bounds-hear-end : goal.slice_bounds-hear-end

@@ -1,5 +1,4 @@
 -- `walk::calls::start` meets its contract: the call is its rule.
-use borrow.Author.Rules.{rules}
 use Rattle.walk.proofs.Reached.{told}
 use Rattle.walk.proofs.calls.start.Goals as goal
 

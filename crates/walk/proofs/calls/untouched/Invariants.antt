@@ -1,14 +1,7 @@
 -- `walk::calls::untouched` meets its contract: every word that was passed is the filler.
 use Prim.Native.Nat.{ℕ, ◌≤◌, ◌<◌, ◌-◌}
-use mathlib.Core.Bool.{false≢true}
-use mathlib.Core.List.{List}
-use mathlib.Core.Path.{◌≡◌, refl, sym, ap, ◌∙◌}
-use lib.ListN.{length, get_or, length-replicate, get_or-replicate}
-use lib.Seq.{ext_get_or}
-use native.Mathlib.Omega.{arith}
-use borrow.Author.Count.{below_more}
-use borrow.Author.Rules.{rules}
-use Rattle.walk.specs.Walk.{filler}
+use mathlib.Core.Path.{◌≡◌}
+use lib.ListN.{length, get_or}
 use Rattle.walk.proofs.calls.untouched.Given as goal
 
 abbrev pub invariant-loop-i : goal.invariant-loop-i

@@ -1,6 +1,5 @@
 -- `walk::calls::wake` meets its contract: the call is its rule.
 use mathlib.Core.Path.{refl}
-use borrow.Author.Rules.{rules}
 use Rattle.walk.proofs.Reached.{told}
 use Rattle.walk.proofs.calls.wake.Goals as goal
 

@@ -1,6 +1,5 @@
 -- `walk::cuts::kinds` ends: there are sixteen.
 use Prim.Native.Nat.{◌-◌, ◌≤◌}
-use borrow.Author.Rules.{rules}
 use Rattle.walk.proofs.cuts.kinds.Given as goal
 
 abbrev pub invariant-loop-kind : goal.invariant-loop-kind

@@ -1,6 +1,5 @@
 -- `walk::cuts::points` ends: the steps run to the last.
 use Prim.Native.Nat.{◌≤◌, ◌+◌, ◌-◌, ◌*◌}
-use borrow.Author.Rules.{rules}
 use Rattle.protocol.specs.Rounds.{last_round}
 use Rattle.walk.proofs.cuts.points.Given as goal
 

@@ -1,7 +1,6 @@
 -- `walk::dealing::deal` meets its contract: the dealer's rule, and what is read off both buffers.
 use mathlib.Core.Path.{sym, ap, ◌∙◌}
 use mathlib.Core.Bool.{Bool, ◌&&◌}
-use borrow.Author.Rules.{rules}
 use Rattle.walk.proofs.Deals.{told}
 use Rattle.walk.proofs.dealing.deal.Goals as goal
 

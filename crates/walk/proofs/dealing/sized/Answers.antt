@@ -3,7 +3,6 @@ use Prim.Native.Nat.{ℕ}
 use mathlib.Core.Path.{◌≡◌, sym, ap, ◌∙◌}
 use mathlib.Core.List.{List}
 use lib.ListN.{length, take, length-replicate}
-use borrow.Author.Rules.{rules}
 use Rattle.walk.specs.Walk.{filler}
 use Rattle.walk.proofs.Deals.{front, told_same, whole}
 use Rattle.walk.proofs.dealing.sized.Goals.{After-buffer-t1, After-buffer-t2}

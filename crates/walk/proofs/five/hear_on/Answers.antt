@@ -1,5 +1,4 @@
 -- `walk::five::hear_on` meets its contract: the tape is the plain one.
-use borrow.Author.Rules.{rules}
 use Rattle.walk.proofs.five.hear_on.Goals as goal
 
 pub returns : goal.returns

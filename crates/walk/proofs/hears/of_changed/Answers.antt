@@ -1,5 +1,4 @@
 -- `walk::hears::of_changed` meets its contract: the words are those with one changed.
-use borrow.Author.Rules.{rules}
 use Rattle.walk.proofs.hears.of_changed.Goals as goal
 
 pub returns : goal.returns

@@ -1,5 +1,4 @@
 -- `walk::hears::of_words` meets its contract: the state is the one that was reached.
-use borrow.Author.Rules.{rules}
 use Rattle.walk.proofs.hears.of_words.Goals as goal
 
 pub returns : goal.returns

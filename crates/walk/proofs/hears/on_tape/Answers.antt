@@ -1,5 +1,4 @@
 -- `walk::hears::on_tape` meets its contract: the state is the one that was reached.
-use borrow.Author.Rules.{rules}
 use Rattle.walk.proofs.hears.on_tape.Goals as goal
 
 pub returns : goal.returns

@@ -1,6 +1,5 @@
 -- `walk::job::answers` ends: the steps run to the last.
 use Prim.Native.Nat.{◌≤◌, ◌+◌, ◌-◌, ◌*◌}
-use borrow.Author.Rules.{rules}
 use Rattle.protocol.specs.Rounds.{last_round}
 use Rattle.walk.proofs.job.answers.Given as goal
 

@@ -1,6 +1,5 @@
 -- `walk::job::openings` ends: no round has more words than the first.
 use Prim.Native.Nat.{◌-◌, ◌≤◌}
-use borrow.Author.Rules.{rules}
 use Rattle.walk.proofs.job.openings.Given as goal
 
 abbrev pub invariant-loop-k : goal.invariant-loop-k

@@ -1,5 +1,4 @@
 -- `walk::order::wrong_start` meets its contract: the tally is the one with tapes 0 and 2 spent.
-use borrow.Author.Rules.{rules}
 use Rattle.walk.proofs.order.wrong_start.Goals as goal
 
 pub returns : goal.returns

@@ -1,5 +1,4 @@
 -- `walk::progress::both_heard` meets its contract: each tape is the box's plain one.
-use borrow.Author.Rules.{rules}
 use Rattle.walk.proofs.progress.both_heard.Goals as goal
 
 pub returns : goal.returns

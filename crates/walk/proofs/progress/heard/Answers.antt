@@ -1,6 +1,5 @@
 -- `walk::progress::heard` meets its contract: the words of the round stand at the front of the other box's out.
 use mathlib.Core.Path.{refl}
-use borrow.Author.Rules.{rules}
 use Rattle.walk.proofs.progress.heard.Goals as goal
 
 pub returns : goal.returns

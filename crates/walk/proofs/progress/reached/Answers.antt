@@ -1,9 +1,7 @@
-use Prim.Native.Nat.{◌≤◌, ◌-◌}
 use mathlib.Core.Path.{◌≡◌, ap, ◌∙◌}
 use native.Mathlib.Omega.{arith}
 use borrow.Author.Rules.{rules}
-use Rattle.lists.specs.Tabulate.{tabulate}
-use Rattle.walk.specs.Walk.{idle_state, tally_after}
+use Rattle.walk.specs.Walk.{tally_after}
 use Rattle.walk.proofs.Reached.{woken_four, woken_tally, next_tally}
 use Rattle.walk.proofs.progress.reached.Goals as goal
 

@@ -1,11 +1,8 @@
 -- `walk::progress::reached` meets its contract: the first step marks tape 0, and no later one changes the tally.
 use Prim.Native.Nat.{◌≤◌, ◌-◌}
-use mathlib.Core.Path.{◌≡◌, ap, ◌∙◌}
-use native.Mathlib.Omega.{arith}
-use borrow.Author.Rules.{rules}
+use mathlib.Core.Path.{◌≡◌}
 use Rattle.lists.specs.Tabulate.{tabulate}
 use Rattle.walk.specs.Walk.{idle_state, tally_after}
-use Rattle.walk.proofs.Reached.{woken_four, woken_tally, next_tally}
 use Rattle.walk.proofs.progress.reached.Given as goal
 
 abbrev pub invariant-loop-step : goal.invariant-loop-step

@@ -1,6 +1,5 @@
 -- `walk::progress::spoken` meets its contract: the call is its rule on the plain tape.
 use mathlib.Core.Path.{refl}
-use borrow.Author.Rules.{rules}
 use Rattle.walk.proofs.progress.spoken.Goals as goal
 
 pub returns : goal.returns

@@ -1,6 +1,5 @@
 -- `walk::progress::started` meets its contract: the call is its rule on the plain tape.
 use mathlib.Core.Path.{refl}
-use borrow.Author.Rules.{rules}
 use Rattle.walk.proofs.Reached.{after}
 use Rattle.walk.proofs.progress.started.Goals as goal
 

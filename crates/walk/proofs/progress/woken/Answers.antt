@@ -1,6 +1,5 @@
 -- `walk::progress::woken` meets its contract: the call is its rule in the first state.
 use mathlib.Core.Path.{refl}
-use borrow.Author.Rules.{rules}
 use Rattle.walk.proofs.Reached.{after}
 use Rattle.walk.proofs.progress.woken.Goals as goal
 

@@ -1,7 +1,4 @@
-use Prim.Native.Nat.{◌-◌, ◌≤◌}
 use native.Mathlib.Omega.{arith}
-use borrow.Author.Rules.{rules}
-use lib.ListN.{length}
 use Rattle.walk.proofs.say.bytes.Goals as goal
 
 pub overflow_cast-list : goal.overflow_cast-list

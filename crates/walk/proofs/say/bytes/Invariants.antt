@@ -1,7 +1,5 @@
 -- `walk::say::bytes` ends: it goes from byte to byte.
 use Prim.Native.Nat.{◌-◌, ◌≤◌}
-use native.Mathlib.Omega.{arith}
-use borrow.Author.Rules.{rules}
 use lib.ListN.{length}
 use Rattle.walk.proofs.say.bytes.Given as goal
 

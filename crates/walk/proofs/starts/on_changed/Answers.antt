@@ -1,5 +1,4 @@
 -- `walk::starts::on_changed` meets its contract: the tape is the plain one but for one word.
-use borrow.Author.Rules.{rules}
 use Rattle.walk.proofs.starts.on_changed.Goals as goal
 
 pub returns : goal.returns

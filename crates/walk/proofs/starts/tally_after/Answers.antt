@@ -1,6 +1,5 @@
 -- `walk::starts::tally_after` meets its contract: the call is its rule, on the plain tape.
 use mathlib.Core.Path.{ap}
-use borrow.Author.Rules.{rules}
 use Rattle.rules.specs.Calls.{Result}
 use Rattle.walk.proofs.starts.tally_after.Goals as goal
 

@@ -1,6 +1,5 @@
 -- `walk::states::box2_hearing` meets its contract: box 1's state and work, of the other side.
 use mathlib.Core.Path.{ap, ◌∙◌}
-use borrow.Author.Rules.{rules}
 use Rattle.rules.specs.declared.state.State.{State}
 use Rattle.walk.specs.Walk.{with_side}
 use Rattle.walk.proofs.states.box2_hearing.Goals as goal

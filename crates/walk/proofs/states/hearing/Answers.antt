@@ -1,6 +1,5 @@
 -- `walk::states::hearing` meets its contract: the rule takes the opened job there.
 use mathlib.Core.Path.{◌∙◌}
-use borrow.Author.Rules.{rules}
 use Rattle.walk.proofs.Reached.{spoken_four}
 use Rattle.walk.proofs.states.hearing.Goals as goal
 

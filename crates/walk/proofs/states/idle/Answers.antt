@@ -1,6 +1,5 @@
 -- `walk::states::idle` meets its contract: the rule takes the first state there.
 use mathlib.Core.Path.{◌∙◌}
-use borrow.Author.Rules.{rules}
 use Rattle.walk.proofs.Reached.{woken_four}
 use Rattle.walk.proofs.states.idle.Goals as goal
 

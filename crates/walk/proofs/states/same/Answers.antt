@@ -1,6 +1,5 @@
 -- `walk::states::same` meets its contract: its words tell a state from every other.
 use mathlib.Core.Path.{sym, ap, ◌∙◌}
-use borrow.Author.Rules.{rules}
 use Rattle.walk.specs.Walk.{words_of}
 use Rattle.walk.proofs.Words.{same_state}
 use Rattle.walk.proofs.states.same.Goals as goal

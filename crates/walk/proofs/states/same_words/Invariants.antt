@@ -1,12 +1,7 @@
 -- `walk::states::same_words` meets its contract: every word that was passed is the same in both.
 use Prim.Native.Nat.{ℕ, ◌≤◌, ◌<◌, ◌-◌}
-use mathlib.Core.Bool.{false≢true}
-use mathlib.Core.List.{List}
-use mathlib.Core.Path.{◌≡◌, refl, ap}
+use mathlib.Core.Path.{◌≡◌}
 use lib.ListN.{length, get_or}
-use lib.Seq.{ext_get_or}
-use borrow.Author.Count.{below_more}
-use borrow.Author.Rules.{rules}
 use Rattle.walk.proofs.states.same_words.Given as goal
 
 abbrev pub invariant-loop-i : goal.invariant-loop-i

@@ -1,6 +1,5 @@
 -- `walk::states::started` meets its contract: the rule takes the woken box there.
 use mathlib.Core.Path.{◌∙◌}
-use borrow.Author.Rules.{rules}
 use Rattle.walk.proofs.Reached.{woken_four, woken_tally, opened_four}
 use Rattle.walk.proofs.states.started.Goals as goal
 

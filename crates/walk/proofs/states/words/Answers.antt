@@ -1,6 +1,5 @@
 -- `walk::states::words` meets its contract: by the phases.
 use mathlib.Core.Path.{refl}
-use borrow.Author.Rules.{rules}
 use Rattle.walk.proofs.states.words.Goals as goal
 
 pub returns-in-Asleep : goal.returns-in-Asleep

@@ -1,9 +1,7 @@
-use Prim.Native.Nat.{◌-◌, ◌≤◌}
 use mathlib.Core.Bool.{false≢true}
 use mathlib.Core.Path.{◌≡◌, sym, ◌∙◌}
 use native.Mathlib.Omega.{arith}
-use borrow.Author.Rules.{rules}
-use Rattle.walk.specs.Sweeps.{RightAt, Counted, none, here, not_here}
+use Rattle.walk.specs.Sweeps.{none, here, not_here}
 use Rattle.walk.proofs.sweeps.count.Goals.{else-right_at, then-right_at}
 use Rattle.walk.proofs.sweeps.count.Goals as goal
 

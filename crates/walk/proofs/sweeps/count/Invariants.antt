@@ -1,10 +1,6 @@
 -- `walk::sweeps::count` meets its contract: each turn counts one place.
 use Prim.Native.Nat.{◌-◌, ◌≤◌}
-use mathlib.Core.Bool.{false≢true}
-use mathlib.Core.Path.{◌≡◌, sym, ◌∙◌}
-use native.Mathlib.Omega.{arith}
-use borrow.Author.Rules.{rules}
-use Rattle.walk.specs.Sweeps.{RightAt, Counted, none, here, not_here}
+use Rattle.walk.specs.Sweeps.{RightAt, Counted}
 use Rattle.walk.proofs.sweeps.count.Given as goal
 
 abbrev pub invariant-loop-place : goal.invariant-loop-place

@@ -1,7 +1,6 @@
 -- `walk::sweeps::right_at` meets its contract: a place of the sweep is a byte, of its mark or above it, a place of the tape, or a place of the words, with an 8 or a 7 there.
 use Prim.Native.Nat.{◌+◌, ◌/◌, ◌%◌}
 use native.Mathlib.Omega.{arith}
-use borrow.Author.Rules.{rules}
 use mathlib.Core.Path.{◌∙◌}
 use lib.ListN.{set}
 use Rattle.lists.specs.Tabulate.{tabulate}

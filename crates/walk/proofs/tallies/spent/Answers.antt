@@ -1,6 +1,5 @@
 -- `walk::tallies::spent` meets its contract: both marks written, computed.
 use mathlib.Core.Path.{refl, ◌∙◌}
-use borrow.Author.Rules.{rules}
 use Rattle.tally.specs.Tally.{cut_marked}
 use Rattle.walk.proofs.tallies.spent.Goals as goal
 

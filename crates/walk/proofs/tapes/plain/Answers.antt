@@ -1,7 +1,6 @@
 -- `walk::tapes::plain` meets its contract: the dealer's plain tape of width 3.
 use mathlib.Core.Path.{refl}
 use Rattle.field.specs.Width.{listed}
-use borrow.Author.Rules.{rules}
 use Rattle.walk.proofs.tapes.plain.Goals as goal
 
 pub plain-requires : goal.plain-requires

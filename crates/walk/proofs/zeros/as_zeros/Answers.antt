@@ -2,7 +2,6 @@
 use mathlib.Core.Path.{sym, ap, ◌∙◌}
 use Rattle.exchange.specs.Opening.{refusal_of}
 use Rattle.walk.proofs.Same.{same_calls}
-use borrow.Author.Rules.{rules}
 use borrow.Author.Tests.{eqb-true}
 use Rattle.walk.proofs.zeros.as_zeros.Goals as goal
 

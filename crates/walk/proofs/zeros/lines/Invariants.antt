@@ -1,6 +1,5 @@
 -- `walk::zeros::lines` ends: the rounds run to the last.
 use Prim.Native.Nat.{◌≤◌, ◌+◌, ◌-◌}
-use borrow.Author.Rules.{rules}
 use Rattle.protocol.specs.Rounds.{last_round}
 use Rattle.walk.proofs.zeros.lines.Given as goal
 

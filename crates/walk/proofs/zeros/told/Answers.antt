@@ -1,5 +1,4 @@
 -- `walk::zeros::told` meets its contract: what is said of a box was found of it.
-use borrow.Author.Rules.{rules}
 use Rattle.walk.proofs.zeros.told.Goals as goal
 
 pub tell_as_zeros-requires : goal.tell_as_zeros-requires
