@@ -6,6 +6,9 @@ ghost use Rattle.field.specs.Width.{listed};
 ghost use Rattle.shares.specs.Reading.{delivered};
 ghost use Rattle.board.specs.Zeros.{zeros_in};
 
+// The word that has a second spelling.
+const ZERO: u32 = 0;
+
 // Respells a message, and answers how many zeros it had.
 pub fn respell(n: u32, words: &mut [u32]) -> usize
     requires { listed n ≡ true }
@@ -16,7 +19,7 @@ pub fn respell(n: u32, words: &mut [u32]) -> usize
     let mut zeros = 0;
     let mut i = 0;
     while i < words.len() {
-        if words[i] == 0 {
+        if words[i] == ZERO {
             words[i] = p;
             zeros += 1;
         }

@@ -6,6 +6,9 @@ const NEWLINE: u8 = 10;
 
 const SPACE: u8 = 32;
 
+// A part of one byte may be the digit 0; in a longer one it would lead.
+const ONE_BYTE: usize = 1;
+
 #[derive(Clone, Copy)]
 pub struct Number {
     pub ok: bool,
@@ -81,7 +84,7 @@ pub fn number_of(part: &[u8]) -> Number
             value: 0,
         };
     }
-    if 1 < part.len() {
+    if ONE_BYTE < part.len() {
         if part[0] == 48 {
             return Number {
                 ok: false,

@@ -2,7 +2,7 @@ use Prim.Native.Nat.{◌<◌}
 use native.Mathlib.Omega.{arith}
 use lib.ListN.{length}
 use Rattle.board.proofs.Turns.{respelled_none, zeros_so_far, respelled_zero, respelled_other, respelled_all}
-use Rattle.board.proofs.respell.Goals.{else-words-i-eq0, then-words-i-eq0}
+use Rattle.board.proofs.respell.Goals.{else-words-i-eq-ZERO, then-words-i-eq-ZERO}
 use Rattle.board.proofs.respell.Goals as goal
 
 pub loop-i-init : goal.loop-i-init
@@ -19,7 +19,7 @@ loop-i-preserved c =
     let inv = c.loop-i.invariant in
     let old = c.args.words.now in
     let less : c.loop-i.i < length old = omega (arith, c.loop-i-test.true, inv.stored.long) in
-    elim c.if-words-i-eq0.branch [ then-words-i-eq0 w ↦ rw (w.words-is, w.zeros-is) (respelled_zero inv less w.if-words-i-eq0.true _ c.modulus_of-p.ensures) | else-words-i-eq0 w ↦ rw (w.words-is, w.zeros-is) (respelled_other inv less w.if-words-i-eq0.false) ]
+    elim c.if-words-i-eq-ZERO.branch [ then-words-i-eq-ZERO w ↦ rw (w.words-is, w.zeros-is) (respelled_zero inv less w.if-words-i-eq-ZERO.true _ c.modulus_of-p.ensures) | else-words-i-eq-ZERO w ↦ rw (w.words-is, w.zeros-is) (respelled_other inv less w.if-words-i-eq-ZERO.false) ]
 
 pub returns : goal.returns
 returns c =
