@@ -134,12 +134,21 @@ pub fn numbers_of(text: &[u8], numbers: &mut [u32]) -> bool
     numbers_on(&text[..end], numbers)
 }
 
+// Four numbers with a space after each; then the rest of the line is the fifth, in which a space would be no digit.
+fn five_on(line: &[u8]) -> Five
+    ensures ok_value { result.ok ≡ is_numbers 5 line.now }
+    ensures values { result.ok ≡ true → result.numbers ≡ numbers_of line.now }
+{
+    let mut numbers = [0u32; 5];
+    let ok = numbers_on(line, &mut numbers);
+    Five { ok, numbers }
+}
+
 // What stands after the first newline isn't looked at.
 pub fn five_of(text: &[u8]) -> Five
     ensures ok_value { result.ok ≡ is_five text.now }
     ensures values { is_five text.now ≡ true → result.numbers ≡ five_of text.now }
 {
-    let mut numbers = [0u32; 5];
-    let ok = numbers_of(text, &mut numbers);
-    Five { ok, numbers }
+    let end = first_of(text, NEWLINE);
+    five_on(&text[..end])
 }
