@@ -130,8 +130,8 @@ pub fn numbers_of(text: &[u8], numbers: &mut [u32]) -> bool
     ensures value { result ≡ is_line (length numbers.old) text.now }
     ensures values { result ≡ true → numbers.new ≡ line_numbers text.now }
 {
-    let end = first_of(text, NEWLINE);
-    numbers_on(&text[..end], numbers)
+    let line_end = first_of(text, NEWLINE);
+    numbers_on(&text[..line_end], numbers)
 }
 
 // Four numbers with a space after each; then the rest of the line is the fifth, in which a space would be no digit.
