@@ -97,7 +97,7 @@ difference_cases n x y l lx ly = go (less_cases x y)
         inl (less, minus_unique n x y _ l (le_of_lt ly) (omega arith) once)
     go (inr (none, more)) = inr (more, minus_unique n x y _ l (le_of_lt ly) (omega arith) (cong_eq (omega arith)))
 
--- the answer from the three half tests: 1 if x < y is 1 − U − Z + H-as-U + H-as-Z + U-as-Z − 2·H·U·Z
+-- the answer from the three half tests: 1 if x < y is 1 − U − Z + H·U + H·Z + U·Z − 2·H·U·Z
 pub compared : (n x y : ℕ) → listed n ≡ true → x < modulus n → y < modulus n
     → let p = modulus n in
     let h = half p x in

@@ -14,7 +14,7 @@ half_opening n v triples k = masked n (v k) (last_letter n triples k)
 unfoldable pub half_opened : ℕ → (ℕ → ℕ) → List ℕ → List ℕ → ℕ → ℕ
 half_opened n v triples incoming k = opened n (half_opening n v triples k) (get_or incoming k 0)
 
--- the share of 1 − U − Z + H-as-U + H-as-Z + U-as-Z − 2·H·U·Z; m 0 to m 6 are the box's a, b, c, ab, ac, bc, abc
+-- the share of 1 − U − Z + H·U + H·Z + U·Z − 2·H·U·Z; m 0 to m 6 are the box's a, b, c, ab, ac, bc, abc
 unfoldable pub answer_from : ℕ → ℕ → (ℕ → ℕ) → List ℕ → List ℕ → ℕ
 answer_from n side v triples incoming =
     let e = half_opened n v triples incoming 0 in

@@ -6,7 +6,7 @@ use Rattle.field.specs.Subtraction.{minus}
 use Rattle.encoding.specs.Matching.{indicator}
 use Rattle.protocol.specs.Clear.{half}
 
--- document 02, P7: 1 − U − Z + H-as-U + H-as-Z + U-as-Z − 2·H·U·Z
+-- document 02, P7: 1 − U − Z + H·U + H·Z + U·Z − 2·H·U·Z
 unfoldable pub five_rounds : ℕ → ℕ → ℕ → ℕ → ℕ
 five_rounds n h u z = minus n (1 + h * u + h * z + u * z) ((u + z + 2 * (h * u * z)) % modulus n)
 
