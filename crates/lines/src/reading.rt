@@ -9,6 +9,9 @@ const SPACE: u8 = 32;
 // A part of one byte may be the digit 0; in a longer one it would lead.
 const ONE_BYTE: usize = 1;
 
+// The least number that doesn't fit 32 bits.
+const TOO_LARGE: u64 = 4294967296;
+
 #[derive(Clone, Copy)]
 pub struct Number {
     pub ok: bool,
@@ -59,7 +62,7 @@ fn value_of(part: &[u8]) -> Number
             };
         }
         value = value * 10 + (b - 48) as u64;
-        if 4294967296 <= value {
+        if TOO_LARGE <= value {
             return Number {
                 ok: false,
                 value: 0,

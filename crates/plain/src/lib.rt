@@ -9,6 +9,9 @@ use exchange::Shares;
 mod job;
 mod text;
 
+// Memory is set aside for no width above this.
+const WIDEST: u32 = 13;
+
 // The text's first line is n x1 x2 y1 y2. Its answer stands at the front of out; none is longer than 78 bytes.
 pub fn answer(text: &[u8], out: &mut [u8]) -> usize
     requires { 78 ≤ length out.old }
@@ -21,7 +24,7 @@ pub fn answer(text: &[u8], out: &mut [u8]) -> usize
     }
     let numbers = five.numbers;
     let n = numbers[0];
-    if 13 < n {
+    if WIDEST < n {
         return text::put_refused(2, out);
     }
     let box1 = Shares {

@@ -56,6 +56,14 @@ answers-last-requires c =
     let fits2 = leb-true _ _ (and_right enough1 enough2 (room (goal.at.answers-last-requires c).Else-not-has_room)) in
     record { ready = (p.ready.0, rw p.n_value.0 fits1); ready_2 = (p.ready.1, rw p.n_value.1 fits2); n_value = p.n_value.0 ∙ sym p.n_value.1 }
 
+pub returns : goal.returns
+returns c =
+    let enough = room (goal.at.returns c).Else-not-has_room in
+    let n = c.args.n in
+    let share1 = c.share_of.ensures ∙ ap share_of c.answers-last.ensures.box1 in
+    let share2 = c.share_of-2.ensures ∙ ap share_of c.answers-last.ensures.box2 in
+    (rw enough, rw enough (c.add.ensures.value ∙ ap₂ (λ (x y : ℕ). (x + y) % modulus n) share1 share2))
+
 pub add-requires : goal.add-requires
 add-requires c =
     let s = (goal.at.add-requires c).Start in
@@ -70,11 +78,3 @@ add-requires c =
       rw share1 (subst (λ (n : ℕ). answer_own (box1 s) (box2 s) (first s) < modulus n) width1 (own_below (box1 s) (box2 s) (first s) listed1)),
       le_of_lt (rw share2 (subst (λ (n : ℕ). answer_others (box1 s) (box2 s) (first s) < modulus n) width2 (others_below (box1 s) (box2 s) (first s) listed2))),
     )
-
-pub returns : goal.returns
-returns c =
-    let enough = room (goal.at.returns c).Else-not-has_room in
-    let n = c.args.n in
-    let share1 = c.share_of.ensures ∙ ap share_of c.answers-last.ensures.box1 in
-    let share2 = c.share_of-2.ensures ∙ ap share_of c.answers-last.ensures.box2 in
-    (rw enough, rw enough (c.add.ensures.value ∙ ap₂ (λ (x y : ℕ). (x + y) % modulus n) share1 share2))

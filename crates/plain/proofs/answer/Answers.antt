@@ -24,11 +24,11 @@ returns-then-not-five c =
     let a = c.args in
     let text = sym (not_five a.text.now (sym c.five_of-five.ensures.ok_value ∙ not-true _ c.if-not-five.true)) in record { out_after = shown a.out.now put.new.out put.result _ put.ensures.out_after.0 put.ensures.out_after.1 (omega (arith, put.ensures.most, c.requires)) ∙ text; most = omega (arith, put.ensures.most) }
 
-pub returns-then-n-gt13 : goal.returns-then-n-gt13
-returns-then-n-gt13 c =
-    let put = c.put_refused-then-n-gt13 in
+pub returns-then-n-gt-WIDEST : goal.returns-then-n-gt-WIDEST
+returns-then-n-gt-WIDEST c =
+    let put = c.put_refused-then-n-gt-WIDEST in
     let a = c.args in
-    let text = sym (read (goal.at.returns-then-n-gt13 c).Else-not-five ∙ wide _ _ _ _ _ c.if-n-gt13.true) in record { out_after = shown a.out.now put.new.out put.result _ put.ensures.out_after.0 put.ensures.out_after.1 (omega (arith, put.ensures.most, c.requires)) ∙ text; most = omega (arith, put.ensures.most) }
+    let text = sym (read (goal.at.returns-then-n-gt-WIDEST c).Else-not-five ∙ wide _ _ _ _ _ (omega (arith, c.if-n-gt-WIDEST.true))) in record { out_after = shown a.out.now put.new.out put.result _ put.ensures.out_after.0 put.ensures.out_after.1 (omega (arith, put.ensures.most, c.requires)) ∙ text; most = omega (arith, put.ensures.most) }
 
 pub returns-then-verdict-ne0 : goal.returns-then-verdict-ne0
 returns-then-verdict-ne0 c =

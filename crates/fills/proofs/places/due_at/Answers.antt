@@ -6,10 +6,6 @@ use Rattle.fills.specs.Due.{due_at}
 use Rattle.fills.proofs.places.due_at.Goals.{else-whole-count-via-then-whole-count+else-j-whole, else-whole-count-via-else-whole-count}
 use Rattle.fills.proofs.places.due_at.Goals as goal
 
-pub returns-then-j-whole : goal.returns-then-j-whole
-unfolding due_at
-returns-then-j-whole c = rw (le-leb _ _ c.if-whole-count.true, lt-ltb _ _ c.if-j-whole.true) refl
-
 pub returns-else-whole-count : goal.returns-else-whole-count
 unfolding due_at
 returns-else-whole-count c =
@@ -17,3 +13,7 @@ returns-else-whole-count c =
       | else-whole-count-via-then-whole-count+else-j-whole w ↦ rw (le-ltb _ _ w.if-j-whole.false, and-false _) refl
       | else-whole-count-via-else-whole-count w ↦ rw (lt-leb _ _ w.if-whole-count.false) refl
     ]
+
+pub returns-then-j-whole : goal.returns-then-j-whole
+unfolding due_at
+returns-then-j-whole c = rw (le-leb _ _ c.if-whole-count.true, lt-ltb _ _ c.if-j-whole.true) refl

@@ -22,14 +22,14 @@ returns-then-b-gt57 c =
     let high = digits_high c.args.part.now c.loop-i.i c.loop-i-test.true c.if-b-gt57.true in
     record { ok_value = rw (c.loop-i.invariant.2 ∙ high) refl; value = λ e. absurd (false≢true e) }
 
-pub returns-then-value-ge4294967296 : goal.returns-then-value-ge4294967296
-returns-then-value-ge4294967296 c =
+pub returns-then-value-ge-TOO_LARGE : goal.returns-then-value-ge-TOO_LARGE
+returns-then-value-ge-TOO_LARGE c =
     let part = c.args.part.now in
     let v = c.loop-i.value in
     let i = c.loop-i.i in
     let next = value_next v part i c.loop-i-test.true in
     let least = value_least (v * 10 + (get_or part i 0 - 48)) (drop (i + 1) part) in
-    let large : 4294967296 ≤ value_of part = omega (arith, c.loop-i.invariant.3 ∙ next, least, c.if-value-ge4294967296.true) in
+    let large : 4294967296 ≤ value_of part = omega (arith, c.loop-i.invariant.3 ∙ next, least, c.if-value-ge-TOO_LARGE.true) in
     record { ok_value = sym (and-false (all_digits part) (le-ltb _ _ large)); value = λ e. absurd (false≢true e) }
 
 pub loop-i-preserved : goal.loop-i-preserved
@@ -38,7 +38,7 @@ loop-i-preserved c =
     let in_part = c.loop-i-test.true in
     let more = digits_next part c.loop-i.i in_part c.if-b-lt48.false c.if-b-gt57.false in (
       omega arith,
-      c.if-value-ge4294967296.false,
+      c.if-value-ge-TOO_LARGE.false,
       c.loop-i.invariant.2 ∙ more,
       c.loop-i.invariant.3 ∙ value_next c.loop-i.value part c.loop-i.i in_part,
     )

@@ -71,6 +71,26 @@ slice_bounds-t2-end c = (cut2 (goal.at.slice_bounds-t2-end c).After-blank_tape-t
 pub slice_bounds-fill-end-2 : goal.slice_bounds-fill-end-2
 slice_bounds-fill-end-2 c = (cut2 (goal.at.slice_bounds-fill-end-2 c).After-blank_tape-t2).long
 
+pub returns : goal.returns
+returns c =
+    let v = c.args in
+    let b = (goal.at.returns c).After-blank_tape-t2 in
+    let read1 = read_tape (cut1 b) v.text.now v.from c.fill-read1.result c.fill-read1.ensures.value in
+    let read2 = read_tape (cut2 b) v.text.now c.fill-read1.result.at c.fill-read2.result c.fill-read2.ensures.value in
+    let ok1 = not-false c.fill-read1.result.ok c.if-not-read1.false in
+    let ok2 = not-false c.fill-read2.result.ok c.if-not-read2.false in
+    let count = c.tape_words-len.ensures in
+    let t1 = filled_front v.text.now v.from _ _ c.fill-read1.new.into c.fill-read1.result (cut1 b).fits c.fill-read1.ensures.value ok1 c.fill-read1.ensures.filled in
+    let t2 = filled_front v.text.now c.fill-read1.result.at _ _ c.fill-read2.new.into c.fill-read2.result (cut2 b).fits c.fill-read2.ensures.value ok2 c.fill-read2.ensures.filled in
+    let tape1 = t1 ∙ ap (λ (k : ℕ). numbers_from k v.text.now v.from) count in
+    let tape2 = t2 ∙ ap (λ (k : ℕ). numbers_from k v.text.now c.fill-read1.result.at) count in
+    let job = job_told v.text.now c.fill-read2.result.at v.n v.pair v.number v.box1.x v.box1.y v.box2.x v.box2.y in
+    let told = tapes_told_lem v.text.now v.from v.n v.pair v.number v.box1.x v.box1.y v.box2.x v.box2.y
+    c.fill-read1.result read1 c.fill-read2.result read2 (width b) ok1 ok2 in
+    let messages = tapes_sent_lem v.n v.box1.x v.box1.y v.box2.x v.box2.y v.text.now v.from _ _
+    c.fill-read1.result read1 tape1 tape2 in
+    record { agrees_value = c.opened.ensures.agrees_value ∙ ap₂ job tape1 tape2 ∙ told; zeros = λ agrees. c.opened.ensures.zeros agrees ∙ ap (respelled_in v.board) messages }
+
 pub returns-then-not-read2 : goal.returns-then-not-read2
 returns-then-not-read2 c =
     let v = c.args in
@@ -98,23 +118,3 @@ pub slice_bounds-opened-end-2 : goal.slice_bounds-opened-end-2
 slice_bounds-opened-end-2 c =
     let b = (goal.at.slice_bounds-opened-end-2 c).After-blank_tape-t2 in
     sym (length-take-le _ _ (front_fits _ _ c.fill-read2.new.into (cut2 b).fits c.fill-read2.auto.into))
-
-pub returns : goal.returns
-returns c =
-    let v = c.args in
-    let b = (goal.at.returns c).After-blank_tape-t2 in
-    let read1 = read_tape (cut1 b) v.text.now v.from c.fill-read1.result c.fill-read1.ensures.value in
-    let read2 = read_tape (cut2 b) v.text.now c.fill-read1.result.at c.fill-read2.result c.fill-read2.ensures.value in
-    let ok1 = not-false c.fill-read1.result.ok c.if-not-read1.false in
-    let ok2 = not-false c.fill-read2.result.ok c.if-not-read2.false in
-    let count = c.tape_words-len.ensures in
-    let t1 = filled_front v.text.now v.from _ _ c.fill-read1.new.into c.fill-read1.result (cut1 b).fits c.fill-read1.ensures.value ok1 c.fill-read1.ensures.filled in
-    let t2 = filled_front v.text.now c.fill-read1.result.at _ _ c.fill-read2.new.into c.fill-read2.result (cut2 b).fits c.fill-read2.ensures.value ok2 c.fill-read2.ensures.filled in
-    let tape1 = t1 ∙ ap (λ (k : ℕ). numbers_from k v.text.now v.from) count in
-    let tape2 = t2 ∙ ap (λ (k : ℕ). numbers_from k v.text.now c.fill-read1.result.at) count in
-    let job = job_told v.text.now c.fill-read2.result.at v.n v.pair v.number v.box1.x v.box1.y v.box2.x v.box2.y in
-    let told = tapes_told_lem v.text.now v.from v.n v.pair v.number v.box1.x v.box1.y v.box2.x v.box2.y
-    c.fill-read1.result read1 c.fill-read2.result read2 (width b) ok1 ok2 in
-    let messages = tapes_sent_lem v.n v.box1.x v.box1.y v.box2.x v.box2.y v.text.now v.from _ _
-    c.fill-read1.result read1 tape1 tape2 in
-    record { agrees_value = c.opened.ensures.agrees_value ∙ ap₂ job tape1 tape2 ∙ told; zeros = λ agrees. c.opened.ensures.zeros agrees ∙ ap (respelled_in v.board) messages }
