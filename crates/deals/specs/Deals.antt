@@ -1,10 +1,10 @@
 -- The test dealer (document 02, P1): both tapes from a seed, or a refusal and nothing changed.
-use Rattle.std.specs.Prelude.{ℕ, zero, suc, ◌+◌, ◌*◌, ◌/◌, ◌%◌, not, ◌||◌, cond, List, [], ◌∷◌, ◌++◌, eqb, length}
+use Rattle.std.specs.Prelude.{ℕ, zero, suc, ◌+◌, ◌*◌, ◌/◌, ◌%◌, not, ◌||◌, cond, List, [], ◌∷◌, ◌++◌, eqb, length, Result, ⊤}
 use Rattle.lists.specs.Tabulate.{tabulate}
 use Rattle.field.specs.Width.{listed}
 use Rattle.refusals.specs.Grounds.{Ground, ◌when◌, earliest_of}
 use Rattle.refusals.specs.Checks.{ground_of}
-use Rattle.refusals.specs.declared.Check.{Check}
+use Rattle.refusals.specs.declared.Refusal.{Refusal}
 use Rattle.refusals.specs.declared.Refusal.TheVariants.{Width, Room, Seed}
 use Rattle.draws.specs.Draws.{draw}
 use Rattle.tape.specs.Layout.{tape_length, trailer}
@@ -62,5 +62,5 @@ deal_rule seed n pair number t1 t2 =
     (record { refusal = cause; tape1 = t1; tape2 = t2 })
 
 -- what a call gave back, with both buffers as it left them
-abbrev pub outcome : Check → List ℕ → List ℕ → Deal
-outcome check t1 t2 = record { refusal = ground_of check; tape1 = t1; tape2 = t2 }
+abbrev pub outcome : Result ⊤ Refusal → List ℕ → List ℕ → Deal
+outcome answer t1 t2 = record { refusal = ground_of answer; tape1 = t1; tape2 = t2 }

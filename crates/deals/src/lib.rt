@@ -8,28 +8,26 @@ ghost use Rattle.refusals.specs.Checks.{ground_of};
 ghost use Rattle.tape.specs.Layout.{tape_length};
 ghost use Rattle.deals.specs.Deals.{dealt_body, dealt_tape, deal_ground, deal_rule, outcome};
 
-use refusals::{Check, Refusal};
+use refusals::Refusal;
 
 mod groups;
 
 // The grounds of refusal: 14, 2, 12.
-fn deal_check(seed: u32, n: u32, t1: &[u32], t2: &[u32]) -> Check
+#[tactic(auto, unfolding(crate::specs::Deals::deal_ground))]
+fn deal_check(seed: u32, n: u32, t1: &[u32], t2: &[u32]) -> Result<(), Refusal>
     ensures { ground_of result ≡ deal_ground seed n t1.now t2.now }
 {
     if seed == 0 {
-        return Check::Refused(Refusal::Seed);
+        return Err(Refusal::Seed);
     }
     if !field::is_listed(n) {
-        return Check::Refused(Refusal::Width);
+        return Err(Refusal::Width);
     }
     let words = tape::tape_words(n);
-    if t1.len() != words {
-        return Check::Refused(Refusal::Room);
+    if t1.len() != words || t2.len() != words {
+        return Err(Refusal::Room);
     }
-    if t2.len() != words {
-        return Check::Refused(Refusal::Room);
-    }
-    Check::Passed
+    Ok(())
 }
 
 // The bodies of both tapes: the groups of a kind after those of another, each kind from the draws after the last one's.
@@ -61,12 +59,18 @@ fn write(seed: u32, n: u32, pair: u32, number: u32, t1: &mut [u32], t2: &mut [u3
 }
 
 // Writes both tapes, or refuses and changes nothing.
-pub fn deal(seed: u32, n: u32, pair: u32, number: u32, t1: &mut [u32], t2: &mut [u32]) -> Check
+#[tactic(auto, using(refusals::proofs::Numbers::numbered), unfolding(crate::specs::Deals::deal_rule))]
+pub fn deal(
+    seed: u32,
+    n: u32,
+    pair: u32,
+    number: u32,
+    t1: &mut [u32],
+    t2: &mut [u32],
+) -> Result<(), Refusal>
     ensures { outcome result t1.new t2.new ≡ deal_rule seed n pair number t1.old t2.old }
 {
-    let check = deal_check(seed, n, &*t1, &*t2);
-    if let Check::Passed = check {
-        write(seed, n, pair, number, t1, t2);
-    }
-    check
+    deal_check(seed, n, &*t1, &*t2)?;
+    write(seed, n, pair, number, t1, t2);
+    Ok(())
 }

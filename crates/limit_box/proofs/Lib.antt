@@ -1,4 +1,3 @@
 mod Chains
 mod Outcomes
-mod TurnChecks
 mod HandedOn

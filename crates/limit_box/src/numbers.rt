@@ -1,2 +1,11 @@
 // The number of a refusal, for whoever uses the box and does not name the crate of refusals.
-pub use refusals::number_of;
+ghost use Rattle.refusals.specs.Numbers.{number_of};
+ghost use Rattle.std.specs.Prelude.{◌≡◌};
+
+use refusals::Refusal;
+
+pub fn number_of(refusal: Refusal) -> u32
+    ensures { result ≡ number_of refusal }
+{
+    u32::from(refusal)
+}

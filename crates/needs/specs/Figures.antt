@@ -1,9 +1,10 @@
 -- How much so many jobs need (document 02, P8): one rule, which refuses or tells the figures.
-use Rattle.std.specs.Prelude.{ℕ, not, cond, List, [], ◌∷◌, eqb}
+use Rattle.std.specs.Prelude.{ℕ, not, cond, List, [], ◌∷◌, eqb, Result, Ok, Err}
 use Rattle.field.specs.Width.{listed}
 use Rattle.protocol.specs.Sizes.{count_fits, tape_for, rounds_for, work_for}
 use Rattle.refusals.specs.Grounds.{Ground, ◌when◌, earliest_of}
-use Rattle.refusals.specs.Checks.{ground_of}
+use Rattle.refusals.specs.Numbers.{number_of}
+use Rattle.refusals.specs.declared.Refusal.{Refusal}
 use Rattle.refusals.specs.declared.Refusal.TheVariants.{Width, Count}
 use Rattle.needs.specs.declared.Needs.{Needs}
 
@@ -32,6 +33,11 @@ needs_rule n count =
     let cause = needs_ground n count in
     cond (eqb cause 0) (figures_for n count) (no_figures cause)
 
+-- the figures that a call gave back
+abbrev pub figures_of : Needs → Figures
+figures_of needs = record { refusal = 0; tape = needs.tape; rounds = needs.rounds; work = needs.work }
+
 -- what a call gave back
-abbrev pub told : Needs → Figures
-told r = record { refusal = ground_of r.check; tape = r.tape; rounds = r.rounds; work = r.work }
+abbrev pub told : Result Needs Refusal → Figures
+told (Ok needs) = figures_of needs
+told (Err refusal) = no_figures (number_of refusal)

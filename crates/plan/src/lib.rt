@@ -3,15 +3,13 @@
 
 ghost use Rattle.std.specs.Prelude.{◌≡◌, ◌≤◌, length, take};
 ghost use Rattle.std.proofs.lemmas.List.Edits.{sets};
-ghost use Rattle.needs.specs.Figures.{told};
+ghost use Rattle.needs.specs.Figures.{figures_of};
 ghost use Rattle.plan.specs.Printed.{figures_text, printed};
-
-use refusals::Check;
 
 // The three lines of figures; all of them take 94 bytes at most.
 fn put_figures(needs: needs::Needs, out: &mut [u8]) -> usize
     requires { 94 ≤ length out.old }
-    ensures out_after { (out.new ≡ sets out.old 0 (figures_text (told needs))) × (result ≡ length (figures_text (told needs))) }
+    ensures out_after { (out.new ≡ sets out.old 0 (figures_text (figures_of needs))) × (result ≡ length (figures_text (figures_of needs))) }
     ensures most { result ≤ 94 }
 {
     let tape = lines::writing::put_named(&mut *out, 0, b"tape ", needs.tape);
@@ -30,10 +28,8 @@ pub fn answer(text: &[u8], out: &mut [u8]) -> usize
     if !lines::reading::numbers_of(text, &mut numbers) {
         return lines::writing::put_refused(0, out);
     }
-    let needs = needs::words_for(numbers[0], numbers[1]);
-    let check = needs.check;
-    if let Check::Refused(refusal) = check {
-        return lines::writing::put_refused(refusals::number_of(refusal), out);
+    match needs::words_for(numbers[0], numbers[1]) {
+        Ok(needs) => put_figures(needs, out),
+        Err(refusal) => lines::writing::put_refused(u32::from(refusal), out),
     }
-    put_figures(needs, out)
 }

@@ -2,14 +2,14 @@
 use refusals::Refusal;
 
 // The call that is due in a job, with its round.
-#[derive(Clone, Copy)]
+#[derive(Clone, Copy, Debug, PartialEq, Eq)]
 pub enum Turn {
     Speak(u32),
     Hear(u32),
 }
 
 // Asleep until wake has read the tally; then idle, or in a job with a tape number and the two shares.
-#[derive(Clone, Copy)]
+#[derive(Clone, Copy, Debug, PartialEq, Eq)]
 pub enum Phase {
     Asleep,
     Idle,
@@ -21,7 +21,7 @@ pub enum Phase {
     },
 }
 
-#[derive(Clone, Copy)]
+#[derive(Clone, Copy, Debug, PartialEq, Eq)]
 pub struct State {
     pub n: u32,
     pub side: u32,
@@ -31,7 +31,7 @@ pub struct State {
 }
 
 // What a call answers.
-#[derive(Clone, Copy)]
+#[derive(Clone, Copy, Debug, PartialEq, Eq)]
 pub enum Answer {
     // wake: how many tapes are fresh
     Fresh(u32),
@@ -49,7 +49,7 @@ pub enum Answer {
 }
 
 // A call's outcome: its answer and the next state.
-#[derive(Clone, Copy)]
+#[derive(Clone, Copy, Debug, PartialEq, Eq)]
 pub struct Outcome {
     pub answer: Answer,
     pub state: State,

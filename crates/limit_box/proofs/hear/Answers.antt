@@ -1,74 +1,64 @@
--- `limit_box::hear` meets its contract: refused by its check, or the words are taken in; after the last round the answer share comes back.
-use Prim.Native.Nat.{ℕ}
-use mathlib.Core.Path.{◌≡◌, refl, ap₂, ◌∙◌}
+-- `limit_box::hear` meets its contract: one that is not refused is of the job that the state is in; after the last round the answer share
+-- comes back.
+use mathlib.Core.Path.{◌≡◌, refl, sym, ◌∙◌}
 use native.Mathlib.Omega.{arith}
-use Rattle.protocol.specs.Products.{party}
 use Rattle.protocol.specs.Rounds.{after_hearing, reply_to}
-use Rattle.rules.specs.Grounds.{hear_ground}
-use Rattle.rules.specs.Calls.{party_of, hear_rule}
+use Rattle.rules.specs.Calls.{party_of}
+use Rattle.rules.specs.declared.state.Turn.TheVariants.{Hear}
 use Rattle.rules.proofs.Passed.{HearPassed, hear_passed, words_most}
-use Rattle.limit_box.proofs.Outcomes.{refused_outcome, passed_ground, last_outcome, more_outcome}
-use Rattle.limit_box.proofs.HandedOn.{given}
-use Rattle.limit_box.proofs.hear.Goals.{After-hear-share, In-Passed}
+use Rattle.limit_box.proofs.Outcomes.{last_outcome, more_outcome}
+use Rattle.limit_box.proofs.HandedOn.{Given, given}
+use Rattle.limit_box.proofs.hear.Goals.{After-hear-share, In_default}
 use Rattle.limit_box.proofs.hear.Goals as goal
 
 -- a hear that is not refused
-goes : (c : In-Passed)
-    → let a = c.args in
-    hear_ground a.state a.number a.round a.tape.now a.work.now a.incoming.now ≡ 0
-goes c = passed_ground _ _ c.in-Passed.is c.hear_check-check.ensures
-
-passed : (c : In-Passed)
+passed : (c : In_default)
     → let a = c.args in
     HearPassed a.state a.number a.round a.tape.now a.work.now a.incoming.now
 passed c =
     let a = c.args in
-    hear_passed a.state a.number a.round a.tape.now a.work.now a.incoming.now (goes c)
+    hear_passed a.state a.number a.round a.tape.now a.work.now a.incoming.now (sym c.in_default.ensures)
 
--- what the hearing gives, of the box that the state is
-reply : (c : After-hear-share)
-    → let a = c.args in
-    c.hear-share.result ≡ reply_to (party_of a.state a.tape.now) a.work.now a.round a.incoming.now
-reply c =
-    let a = c.args in
-    let own = c.shares_in-own.ensures in
-    c.hear-share.ensures.value.0
-    ∙ ap₂ (λ (x y : ℕ). reply_to (party a.state.n a.state.side x y a.tape.now) a.work.now a.round a.incoming.now) own.0 own.1
-
-after : (c : After-hear-share)
-    → let a = c.args in
-    c.hear-share.new.work ≡ after_hearing (party_of a.state a.tape.now) a.work.now a.round a.incoming.now
-after c =
-    let a = c.args in
-    let own = c.shares_in-own.ensures in
-    c.hear-share.ensures.value.1
-    ∙ ap₂ (λ (x y : ℕ). after_hearing (party a.state.n a.state.side x y a.tape.now) a.work.now a.round a.incoming.now) own.0 own.1
+pub unreachable-requires : goal.unreachable-requires
+unreachable-requires c = c.in_default-phase.not-Job _ _ _ _ (passed (goal.at.unreachable-requires c).In_default).turn.due.job
 
 pub hear-share-requires : goal.hear-share-requires
 hear-share-requires c =
     let a = c.args in
-    let go = passed (goal.at.hear-share-requires c).In-Passed in
-    let g = given _ _ go.turn c.shares_in-own.ensures in record { side_value = (g.sided, g.x_fits, g.y_fits, g.readable, go.room); from_line = record { most = words_most a.state.n a.incoming.now go.words; long = omega (arith, go.long) } }
+    let go = passed (goal.at.hear-share-requires c).In_default in
+    let g = given go.turn c.in-Job.is in
+    record {
+      side_value = (g.sided, g.x_fits, g.y_fits, g.readable, go.room);
+      from_line = record { most = words_most a.state.n a.incoming.now go.words; long = omega (arith, go.long) };
+    }
+
+-- what the hearing gives, of the box that the state is
+module _ (c : After-hear-share) where
+  job : Given c.args.state c.args.number (Hear c.args.round) c.in-Job.x c.in-Job.y c.args.tape.now
+  job =
+      let a = c.args in
+      given (hear_passed a.state a.number a.round a.tape.now a.work.now a.incoming.now (sym c.in_default.ensures)).turn c.in-Job.is
+
+  reply : c.hear-share.result ≡ reply_to (party_of c.args.state c.args.tape.now) c.args.work.now c.args.round c.args.incoming.now
+  reply = rw job.job c.hear-share.ensures.value.0
+
+  after : c.hear-share.new.work ≡ after_hearing (party_of c.args.state c.args.tape.now) c.args.work.now c.args.round c.args.incoming.now
+  after = rw job.job c.hear-share.ensures.value.1
 
 pub returns-then-round-eq-LAST_ROUND : goal.returns-then-round-eq-LAST_ROUND
 returns-then-round-eq-LAST_ROUND c =
     let a = c.args in
-    last_outcome a.state a.number a.round a.tape.now a.work.now a.incoming.now (goes (goal.at.returns-then-round-eq-LAST_ROUND c).In-Passed)
-    c.hear-share.result c.in_phase.result c.hear-share.new.work
-    c.if-round-eq-LAST_ROUND.true (reply (goal.at.returns-then-round-eq-LAST_ROUND c).After-hear-share) c.in_phase.ensures (after (goal.at.returns-then-round-eq-LAST_ROUND c).After-hear-share)
+    let h = (goal.at.returns-then-round-eq-LAST_ROUND c).After-hear-share in
+    last_outcome a.state a.number a.round a.tape.now a.work.now a.incoming.now (sym c.in_default.ensures)
+    c.hear-share.result c.in_phase.result c.hear-share.new.work c.if-round-eq-LAST_ROUND.true (reply h) c.in_phase.ensures (after h)
 
 pub overflow_add-turn : goal.overflow_add-turn
 overflow_add-turn c =
-    omega (arith, (passed (goal.at.overflow_add-turn c).In-Passed).turn.range.last)
+    omega (arith, (passed (goal.at.overflow_add-turn c).In_default).turn.range.last)
 
-pub returns-in-Refused : goal.returns-in-Refused
-unfolding hear_rule
-returns-in-Refused c =
-    refused_outcome _ _ _ _ _ _ _ c.in-Refused.is c.hear_check-check.ensures c.refused.ensures.0 c.refused.ensures.1
-
-pub returns-else-round-eq-LAST_ROUND : goal.returns-else-round-eq-LAST_ROUND
-returns-else-round-eq-LAST_ROUND c =
+pub returns : goal.returns
+returns c =
     let a = c.args in
-    more_outcome a.state a.number a.round a.tape.now a.work.now a.incoming.now (goes (goal.at.returns-else-round-eq-LAST_ROUND c).In-Passed)
-    c.in_phase-in-Passed.result c.hear-share.new.work
-    c.if-round-eq-LAST_ROUND.false (c.in_phase-in-Passed.ensures ∙ rw c.with_turn-next.ensures refl) (after (goal.at.returns-else-round-eq-LAST_ROUND c).After-hear-share)
+    let h = (goal.at.returns c).After-hear-share in
+    more_outcome a.state a.number a.round a.tape.now a.work.now a.incoming.now (sym c.in_default.ensures)
+    c.in_phase-2.result c.hear-share.new.work c.if-round-eq-LAST_ROUND.false (c.in_phase-2.ensures ∙ rw (job h).job refl) (after h)

@@ -1,5 +1,5 @@
 -- `needs::fill_rounds` meets its contract: each turn stores a round's words.
-use Prim.Native.Nat.{suc, ◌-◌}
+use Prim.Native.Nat.{suc}
 use Rattle.lists.proofs.Stores.{Stored}
 use Rattle.protocol.specs.Rounds.{last_round}
 use Rattle.protocol.specs.Sizes.{round_for}
@@ -7,6 +7,3 @@ use Rattle.needs.proofs.fill_rounds.Given as goal
 
 abbrev pub invariant-loop-k : goal.invariant-loop-k
 invariant-loop-k l = Stored l.initial.rounds 0 last_round (λ r. round_for l.n l.count (suc r)) l.rounds l.k
-
-abbrev pub decreases-loop-k : goal.decreases-loop-k
-decreases-loop-k l = last_round - l.k

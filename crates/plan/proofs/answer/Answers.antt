@@ -26,19 +26,18 @@ returns-then-not-numbers_of c =
     let all = front 94 a.out.now put.new.out put.result _ _ put.ensures.out_after.0 put.ensures.out_after.1 text (omega (arith, put.ensures.most)) c.requires in
     record { out_after = all.0; long = all.1; most = all.2 }
 
-pub returns-in-Refused : goal.returns-in-Refused
-returns-in-Refused c =
-    let put = c.put_refused-in-Refused in
+pub returns-in-Err : goal.returns-in-Err
+returns-in-Err c =
+    let put = c.put_refused-in-Err in
     let a = c.args in
-    let e = c.in-Refused.is in
-    let text = sym (read (goal.at.returns-in-Refused c).Else-not-numbers_of ∙ turned_down _ _ _ c.words_for-needs.ensures _ e ∙ ap refused_text (sym c.number_of.ensures)) in
+    let text = sym (read (goal.at.returns-in-Err c).Else-not-numbers_of ∙ turned_down _ _ c.in-Err.refusal c.in-Err.ensures ∙ ap refused_text (sym c.from.ensures)) in
     let all = front 94 a.out.now put.new.out put.result _ _ put.ensures.out_after.0 put.ensures.out_after.1 text (omega (arith, put.ensures.most)) c.requires in
     record { out_after = all.0; long = all.1; most = all.2 }
 
-pub returns : goal.returns
-returns c =
+pub returns-in-Ok : goal.returns-in-Ok
+returns-in-Ok c =
     let put = c.put_figures in
     let a = c.args in
-    let text = sym (read (goal.at.returns c).Else-not-numbers_of ∙ taken _ _ _ c.words_for-needs.ensures c.in_default.is) in
+    let text = sym (read (goal.at.returns-in-Ok c).Else-not-numbers_of ∙ taken _ _ c.in-Ok.needs c.in-Ok.ensures) in
     let all = front 94 a.out.now put.new.out put.result _ _ put.ensures.out_after.0 put.ensures.out_after.1 text (omega (arith, put.ensures.most)) c.requires in
     record { out_after = all.0; long = all.1; most = all.2 }

@@ -7,7 +7,7 @@ use native.Mathlib.Omega.{arith}
 use lib.ListN.{length}
 use Rattle.lines.specs.Writing.{named, row}
 use Rattle.lines.proofs.Joins.{Put, three}
-use Rattle.needs.specs.Figures.{told}
+use Rattle.needs.specs.Figures.{figures_of}
 use Rattle.plan.specs.Printed.{figures_text}
 use Rattle.plan.proofs.put_figures.Goals as goal
 
@@ -15,7 +15,7 @@ pub returns : goal.returns
 unfolding figures_text
 returns c =
     let a = c.args in
-    let f = told a.needs in
+    let f = figures_of a.needs in
     let first : List ℕ = 116 ∷ 97 ∷ 112 ∷ 101 ∷ 32 ∷ [] in
     let second : List ℕ = 114 ∷ 111 ∷ 117 ∷ 110 ∷ 100 ∷ 115 ∷ [] in
     let third : List ℕ = 119 ∷ 111 ∷ 114 ∷ 107 ∷ 32 ∷ [] in
