@@ -2,11 +2,11 @@
 #![tactic(auto)]
 
 ghost use Rattle.std.specs.Prelude.{◌≡◌, []};
-ghost use Rattle.rules.specs.Calls.{outcome, in_phase, wake_rule, start_rule, speak_rule, hear_rule, drop_rule};
-ghost use Rattle.rules.specs.declared.state.Answer.TheVariants.{Refused};
+ghost use Rattle.rules.specs.Answers.{fresh, started, spoke, heard_or_share, dropped, reply_of};
+ghost use Rattle.rules.specs.Calls.{outcome, wake_rule, start_rule, speak_rule, hear_rule, drop_rule};
 
 use refusals::Refusal;
-use rules::state::{Answer, Outcome, Phase, State, Turn};
+use rules::state::{Phase, State, Turn};
 
 mod checks;
 mod grounds;
@@ -16,134 +16,94 @@ pub mod numbers;
 // Counts the fresh tapes, and keeps the width, the side, the pair and the tally's length. The tally is lent for reading only, so it cannot
 // change: the contract's buffer is the tally at entry.
 #[tactic(auto, using(refusals::proofs::Numbers::numbered), unfolding(rules::specs::Calls::wake_rule))]
-pub fn wake(state: State, n: u32, side: u32, pair: u32, tally: &[u8]) -> Outcome
-    ensures { outcome result tally.now ≡ wake_rule state n side pair tally.now }
+pub fn wake(state: &mut State, n: u32, side: u32, pair: u32, tally: &[u8]) -> Result<u32, Refusal>
+    ensures { outcome (reply_of fresh result) state.new tally.now ≡ wake_rule state.old n side pair tally.now }
 {
-    if let Err(refusal) = checks::wake_check(state, n, side, tally) {
-        return refused(state, refusal);
-    }
-    Outcome {
-        answer: Answer::Fresh(tally::fresh_count(tally)),
-        state: State {
-            n,
-            side,
-            pair,
-            tally: tally.len() as u32,
-            phase: Phase::Idle,
-        },
-    }
+    checks::wake_check(*state, n, side, tally)?;
+    *state = State {
+        n,
+        side,
+        pair,
+        tally: tally.len() as u32,
+        phase: Phase::Idle,
+    };
+    Ok(tally::fresh_count(tally))
 }
 
 // Opens a job: its tape is spent from here on, whatever happens to the job. Nothing is sent.
 #[tactic(auto, using(refusals::proofs::Numbers::numbered), unfolding(rules::specs::Calls::start_rule))]
 pub fn start(
-    state: State,
+    state: &mut State,
     number: u32,
     x: u32,
     y: u32,
     tape: &[u32],
     work: &[u32],
     tally: &mut [u8],
-) -> Outcome
-    ensures { outcome result tally.new ≡ start_rule state number x y tape.now work.now tally.old }
+) -> Result<(), Refusal>
+    ensures { outcome (reply_of (λ _. started) result) state.new tally.new ≡ start_rule state.old number x y tape.now work.now tally.old }
 {
-    if let Err(refusal) = checks::start_check(state, number, x, y, tape, work, &*tally) {
-        return refused(state, refusal);
-    }
+    checks::start_check(*state, number, x, y, tape, work, &*tally)?;
     tally::spend(tally, number as usize);
     let turn = Turn::Speak(1);
-    Outcome {
-        answer: Answer::Started,
-        state: in_phase(state, Phase::Job { turn, number, x, y }),
-    }
+    state.phase = Phase::Job { turn, number, x, y };
+    Ok(())
 }
 
-// Writes the round's words at the front of out.
+// Writes the round's words at the front of out, and answers how many.
 #[tactic(auto, using(refusals::proofs::Numbers::numbered), unfolding(rules::specs::Calls::speak_rule))]
 pub fn speak(
-    state: State,
+    state: &mut State,
     number: u32,
     round: u32,
     tape: &[u32],
     work: &[u32],
     out: &mut [u32],
-) -> Outcome
-    ensures { outcome result out.new ≡ speak_rule state number round tape.now work.now out.old }
+) -> Result<usize, Refusal>
+    ensures { outcome (reply_of spoke result) state.new out.new ≡ speak_rule state.old number round tape.now work.now out.old }
 {
-    if let Err(refusal) = checks::speak_check(state, number, round, tape, work, &*out) {
-        return refused(state, refusal);
-    }
+    checks::speak_check(*state, number, round, tape, work, &*out)?;
     let Phase::Job { x, y, .. } = state.phase else {
         unreachable!()
     };
     compare::speaking::speak(state.n, state.side, round, x, y, tape, work, out);
     let turn = Turn::Hear(round);
-    Outcome {
-        answer: Answer::Spoke(compare::words::words_of(state.n, round) as u32),
-        state: in_phase(state, Phase::Job { turn, number, x, y }),
-    }
+    state.phase = Phase::Job { turn, number, x, y };
+    Ok(compare::words::words_of(state.n, round))
 }
 
 // Takes in the other box's words. After the last round the answer share comes back and the job is closed.
 #[tactic(auto, using(refusals::proofs::Numbers::numbered), unfolding(rules::specs::Calls::hear_rule))]
 pub fn hear(
-    state: State,
+    state: &mut State,
     number: u32,
     round: u32,
     tape: &[u32],
     work: &mut [u32],
     incoming: &[u32],
-) -> Outcome
-    ensures { outcome result work.new ≡ hear_rule state number round tape.now work.old incoming.now }
+) -> Result<Option<u32>, Refusal>
+    ensures { outcome (reply_of heard_or_share result) state.new work.new ≡ hear_rule state.old number round tape.now work.old incoming.now }
 {
-    if let Err(refusal) = checks::hear_check(state, number, round, tape, &*work, incoming) {
-        return refused(state, refusal);
-    }
+    checks::hear_check(*state, number, round, tape, &*work, incoming)?;
     let Phase::Job { x, y, .. } = state.phase else {
         unreachable!()
     };
     let share = compare::hearing::hear(state.n, state.side, round, x, y, tape, work, incoming);
     if round == compare::words::LAST_ROUND {
-        let closed = Phase::Idle;
-        return Outcome {
-            answer: Answer::Share(share),
-            state: in_phase(state, closed),
-        };
+        state.phase = Phase::Idle;
+        return Ok(Some(share));
     }
     let turn = Turn::Speak(round + 1);
-    Outcome {
-        answer: Answer::Heard,
-        state: in_phase(state, Phase::Job { turn, number, x, y }),
-    }
+    state.phase = Phase::Job { turn, number, x, y };
+    Ok(None)
 }
 
 // Closes the job. Its tape remains spent.
 #[tactic(auto, using(refusals::proofs::Numbers::numbered), unfolding(rules::specs::Calls::drop_rule))]
-pub fn drop(state: State) -> Outcome
-    ensures { outcome result [] ≡ drop_rule state }
+pub fn drop(state: &mut State) -> Result<(), Refusal>
+    ensures { outcome (reply_of (λ _. dropped) result) state.new [] ≡ drop_rule state.old }
 {
-    if let Err(refusal) = checks::drop_check(state) {
-        return refused(state, refusal);
-    }
-    Outcome {
-        answer: Answer::Dropped,
-        state: in_phase(state, Phase::Idle),
-    }
-}
-
-// A refusal leaves the state as it was.
-fn refused(same: State, refusal: Refusal) -> Outcome
-    ensures { (result.answer ≡ Refused refusal) × (result.state ≡ same) }
-{
-    Outcome {
-        answer: Answer::Refused(refusal),
-        state: same,
-    }
-}
-
-// The same box in another phase.
-fn in_phase(state: State, phase: Phase) -> State
-    ensures { result ≡ in_phase state phase }
-{
-    State { phase, ..state }
+    checks::drop_check(*state)?;
+    state.phase = Phase::Idle;
+    Ok(())
 }

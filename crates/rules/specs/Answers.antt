@@ -1,8 +1,7 @@
--- Document 01's answers, and which of them each case of the box's answer is.
-use Rattle.std.specs.Prelude.{ℕ}
+-- What a call answers, and what each call's own answer says.
+use Rattle.std.specs.Prelude.{ℕ, Option, Some, None, Result, Ok, Err}
 use Rattle.refusals.specs.Numbers.{number_of}
-use Rattle.rules.specs.declared.state.Answer.{Answer}
-use Rattle.rules.specs.declared.state.Answer.TheVariants.{Fresh, Started, Spoke, Heard, Share, Dropped, Refused}
+use Rattle.refusals.specs.declared.Refusal.{Refusal}
 
 pub data Reply : Type 0 where
   -- wake: how many tapes are fresh
@@ -17,11 +16,12 @@ pub data Reply : Type 0 where
   -- a refusal and its number
   refused : ℕ → Reply
 
-abbrev pub reply_of : Answer → Reply
-reply_of (Fresh k) = fresh k
-reply_of Started = started
-reply_of (Spoke k) = spoke k
-reply_of Heard = heard
-reply_of (Share v) = share v
-reply_of Dropped = dropped
-reply_of (Refused r) = refused (number_of r)
+-- what a hear answers: the share after the last round, and nothing before
+abbrev pub heard_or_share : Option ℕ → Reply
+heard_or_share None = heard
+heard_or_share (Some word) = share word
+
+-- a call's answer by what it says where the call goes on, or its refusal by the number
+abbrev pub reply_of : {A : Type 0} → (A → Reply) → Result A Refusal → Reply
+reply_of said (Ok answer) = said answer
+reply_of said (Err refusal) = refused (number_of refusal)

@@ -3,7 +3,7 @@ use Rattle.std.specs.Prelude.{ℕ, ◌+◌, cond, List, [], eqb, length}
 use Rattle.std.proofs.lemmas.List.Edits.{sets}
 use Rattle.protocol.specs.Products.{Party, party}
 use Rattle.protocol.specs.Rounds.{last_round, round_words, message, after_hearing, answer_share}
-use Rattle.rules.specs.Answers.{Reply, fresh, started, spoke, heard, share, dropped, refused, reply_of}
+use Rattle.rules.specs.Answers.{Reply, fresh, started, spoke, heard, share, dropped, refused}
 use Rattle.tally.specs.Tally.{marked, fresh_count}
 use Rattle.rules.specs.Grounds.{wake_ground, start_ground, speak_ground, hear_ground, drop_ground}
 use Rattle.rules.specs.declared.state.Turn.{Turn}
@@ -11,7 +11,6 @@ use Rattle.rules.specs.declared.state.Turn.TheVariants.{Speak, Hear}
 use Rattle.rules.specs.declared.state.Phase.{Phase}
 use Rattle.rules.specs.declared.state.Phase.TheVariants.{Asleep, Idle, Job}
 use Rattle.rules.specs.declared.state.State.{State}
-use Rattle.rules.specs.declared.state.Outcome.{Outcome}
 
 -- `buffer` is the one that the call may change: start's tally, speak's out, hear's work
 pub record Result : Type 0 where
@@ -19,9 +18,9 @@ pub record Result : Type 0 where
   pub state : State
   pub buffer : List ℕ
 
--- what a call gave back, with that buffer as it was left
-abbrev pub outcome : Outcome → List ℕ → Result
-outcome r buffer = record { reply = reply_of r.answer; state = r.state; buffer = buffer }
+-- what a call answered, with the state and the buffer as it left them
+abbrev pub outcome : Reply → State → List ℕ → Result
+outcome reply state buffer = record { reply = reply; state = state; buffer = buffer }
 
 abbrev pub in_phase : State → Phase → State
 in_phase s phase = record { n = s.n; side = s.side; pair = s.pair; tally = s.tally; phase = phase }

@@ -1,27 +1,25 @@
 -- `limit_box::speak` meets its contract: one that is not refused is of the job that the state is in, and the round's words fit.
 use mathlib.Core.Path.{refl, sym}
-use native.Mathlib.Omega.{arith}
-use Rattle.protocol.proofs.Lengths.{words_most}
 use Rattle.rules.specs.Calls.{speak_rule}
 use Rattle.rules.proofs.Passed.{SpeakPassed, speak_passed}
 use Rattle.limit_box.proofs.HandedOn.{given}
-use Rattle.limit_box.proofs.speak.Goals.{In_default}
+use Rattle.limit_box.proofs.speak.Goals.{In_ok-speak_check}
 use Rattle.limit_box.proofs.speak.Goals as goal
 
 -- a speak that is not refused
-passed : (c : In_default)
+passed : (c : In_ok-speak_check)
     → let a = c.args in
-    SpeakPassed a.state a.number a.round a.tape.now a.work.now a.out.now
+    SpeakPassed a.state.now a.number a.round a.tape.now a.work.now a.out.now
 passed c =
     let a = c.args in
-    speak_passed a.state a.number a.round a.tape.now a.work.now a.out.now (sym c.in_default.ensures)
+    speak_passed a.state.now a.number a.round a.tape.now a.work.now a.out.now (sym c.in_ok-speak_check.ensures)
 
 pub unreachable-requires : goal.unreachable-requires
-unreachable-requires c = c.in_default-phase.not-Job _ _ _ _ (passed (goal.at.unreachable-requires c).In_default).turn.due.job
+unreachable-requires c = c.in_default.not-Job _ _ _ _ (passed (goal.at.unreachable-requires c).In_ok-speak_check).turn.due.job
 
 pub speak-requires : goal.speak-requires
 speak-requires c =
-    let go = passed (goal.at.speak-requires c).In_default in
+    let go = passed (goal.at.speak-requires c).In_ok-speak_check in
     let g = given go.turn c.in-Job.is in
     record { side_value = (g.sided, g.x_fits, g.y_fits, g.readable); n_in_bounds = (go.room, go.out_room) }
 
@@ -29,13 +27,8 @@ speak-requires c =
 pub returns : goal.returns
 unfolding speak_rule
 returns c =
-    let g = given (passed (goal.at.returns c).In_default).turn c.in-Job.is in
-    rw (← c.in_default.ensures, c.words_of.ensures, c.in_phase.ensures, c.speak.ensures, g.job) refl
+    let g = given (passed (goal.at.returns c).In_ok-speak_check).turn c.in-Job.is in
+    rw (← c.in_ok-speak_check.ensures, c.words_of.ensures, c.speak.ensures, g.job) refl
 
 pub words_of-requires : goal.words_of-requires
-words_of-requires c = (passed (goal.at.words_of-requires c).In_default).turn.sound.width
-
-pub overflow_cast-result : goal.overflow_cast-result
-overflow_cast-result c =
-    let a = c.args in
-    omega (arith, c.words_of.ensures, words_most a.state.n a.round (passed (goal.at.overflow_cast-result c).In_default).turn.sound.width)
+words_of-requires c = (passed (goal.at.words_of-requires c).In_ok-speak_check).turn.sound.width
