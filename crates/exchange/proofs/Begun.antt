@@ -3,14 +3,18 @@ use Prim.Native.Nat.{ℕ, ◌<◌}
 use mathlib.Core.Path.{◌≡◌, refl, ap, ◌∙◌, sym}
 use mathlib.Core.Bool.{Bool, true, false, cond}
 use mathlib.Core.List.{List}
-use borrow.Author.Tests.{lt-ltb, eqb-true}
+use native.Mathlib.Omega.{arith}
+use borrow.Author.Tests.{lt-ltb, ne_eqb, eqb-true}
 use lib.Dec.{eqb}
 use lib.ListN.{length}
 use Rattle.field.specs.Width.{modulus}
 use Rattle.tally.specs.Tally.{tapes_of}
 use Rattle.rules.specs.Modes.{in_range}
 use Rattle.rules.specs.Grounds.{wake_ground, start_ground}
-use Rattle.rules.specs.Answers.{reply_of}
+use Rattle.refusals.specs.Numbers.{number_of}
+use Rattle.refusals.proofs.Numbers.{numbered}
+use Rattle.refusals.specs.declared.Refusal.{Refusal}
+use Rattle.rules.specs.Answers.{Reply, fresh, refused}
 use Rattle.rules.specs.Calls.{Result, outcome, unless, wake_rule, start_rule}
 use Rattle.rules.proofs.Decide.{decide}
 use Rattle.rules.proofs.Ranges.{awake_range, ranged}
@@ -19,7 +23,6 @@ use Rattle.rules.specs.declared.state.Turn.TheVariants.{Speak}
 use Rattle.rules.specs.declared.state.Phase.{Phase}
 use Rattle.rules.specs.declared.state.Phase.TheVariants.{Idle, Job}
 use Rattle.rules.specs.declared.state.State.{State}
-use Rattle.rules.specs.declared.state.Outcome.{Outcome}
 use Rattle.exchange.specs.Opening.{first_state, refusal_of, begun}
 use Rattle.exchange.specs.Boxes.{Ready}
 
@@ -48,17 +51,17 @@ pub record Begun (n side pair number x y : ℕ) (tape work tally : List ℕ) (s 
 
 module _ (n side pair number x y : ℕ) (tape work tally : List ℕ) where
   -- not refused, it woke
-  woke : refusal_of (begun n side pair number x y tape work tally).reply ≡ 0 → wake_ground first_state n side tally ≡ 0
+  woke : refusal_of (begun first_state n side pair number x y tape work tally).reply ≡ 0 → wake_ground first_state n side tally ≡ 0
   unfolding begun wake_rule
   woke e = not_refused (wake_ground first_state n side tally) _ _ _ (first_goes (wake_rule first_state n side pair tally) _ e)
 
   -- and then started
   begun_start : wake_ground first_state n side tally ≡ 0
-      → begun n side pair number x y tape work tally ≡ start_rule (awake n side pair tally Idle) number x y tape work tally
+      → begun first_state n side pair number x y tape work tally ≡ start_rule (awake n side pair tally Idle) number x y tape work tally
   unfolding begun wake_rule
   begun_start zero = rw zero
 
-  start_goes : refusal_of (begun n side pair number x y tape work tally).reply ≡ 0
+  start_goes : refusal_of (begun first_state n side pair number x y tape work tally).reply ≡ 0
       → start_ground (awake n side pair tally Idle) number x y tape work tally ≡ 0
   unfolding start_rule
   start_goes e = not_refused (start_ground (awake n side pair tally Idle) number x y tape work tally) _ _ _ (rw (begun_start (woke e)) at e)
@@ -77,18 +80,32 @@ module _ (n side pair number x y : ℕ) (tape work tally : List ℕ) where
         room = p.room;
       }
 
-  pub begun_ready : refusal_of (begun n side pair number x y tape work tally).reply ≡ 0
-      → Begun n side pair number x y tape work tally (begun n side pair number x y tape work tally).state
+  pub begun_ready : refusal_of (begun first_state n side pair number x y tape work tally).reply ≡ 0
+      → Begun n side pair number x y tape work tally (begun first_state n side pair number x y tape work tally).state
   unfolding start_rule
   begun_ready e =
       let goes = start_goes e in
       let p = start_passed (awake n side pair tally Idle) number x y tape work tally goes in
-      let state : (begun n side pair number x y tape work tally).state ≡ awake n side pair tally (Job (Speak 1) number x y) =
+      let state : (begun first_state n side pair number x y tape work tally).state ≡ awake n side pair tally (Job (Speak 1) number x y) =
       ap (λ (r : Result). r.state) (begun_start (woke e)) ∙ rw goes in
       record { state = state; ready = rw state (opens p); x_fits = p.x_fits; y_fits = p.y_fits }
 
   -- of what `begin` gave back
-  pub begin_ready : (a : Outcome) (tally' : List ℕ) → outcome a tally' ≡ begun n side pair number x y tape work tally
-      → refusal_of (reply_of a.answer) ≡ 0 → Begun n side pair number x y tape work tally a.state
-  begin_ready a tally' e zero =
+  pub begin_ready : (reply : Reply) (s : State) (tally' : List ℕ) → outcome reply s tally' ≡ begun first_state n side pair number x y tape work tally
+      → refusal_of reply ≡ 0 → Begun n side pair number x y tape work tally s
+  begin_ready reply s tally' e zero =
       rw (ap (λ (r : Result). r.state) e) (begun_ready (sym (ap (λ (r : Result). refusal_of r.reply) e) ∙ zero))
+
+-- ---- a box that comes to a job from any state
+
+module _ (s : State) (n side pair number x y : ℕ) (tape work tally : List ℕ) where
+  pub begun_refused : (refusal : Refusal) (s' : State) → outcome (refused (number_of refusal)) s' tally ≡ wake_rule s n side pair tally
+      → outcome (refused (number_of refusal)) s' tally ≡ begun s n side pair number x y tape work tally
+  unfolding begun
+  begun_refused refusal s' told =
+      rw (← told, ne_eqb (number_of refusal) 0 (λ zero. omega (arith, zero, numbered refusal))) refl
+
+  pub begun_woken : (count : ℕ) (s' : State) → outcome (fresh count) s' tally ≡ wake_rule s n side pair tally
+      → begun s n side pair number x y tape work tally ≡ start_rule s' number x y tape work tally
+  unfolding begun
+  begun_woken count s' told = rw (← told) refl

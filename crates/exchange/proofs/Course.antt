@@ -7,12 +7,11 @@ use lib.ListN.{length}
 use Rattle.protocol.specs.Products.{Party}
 use Rattle.protocol.specs.Rounds.{earlier_rounds, round_words, message, after_hearing, answer_share}
 use Rattle.protocol.proofs.Lengths.{most_words}
-use Rattle.rules.specs.Answers.{share, reply_of}
+use Rattle.rules.specs.Answers.{Reply, share}
 use Rattle.rules.specs.Calls.{outcome, party_of}
 use Rattle.rules.proofs.Ranges.{ranged}
 use Rattle.rules.specs.declared.state.Turn.TheVariants.{Speak}
 use Rattle.rules.specs.declared.state.State.{State}
-use Rattle.rules.specs.declared.state.Outcome.{Outcome}
 use Rattle.exchange.specs.Boxes.{Ready, heard_after}
 use Rattle.exchange.proofs.Ready.{heard_next, heard_last}
 
@@ -40,17 +39,17 @@ module _ {first : State} {number : ℕ} {tape : List ℕ} {k : ℕ} {held : List
   pub course_sends : (round : ℕ) → message (party_of s tape) work round ≡ message (party_of first tape) held round
   course_sends round = rw (c.same, c.so_far)
 
-  module _ (incoming sent : List ℕ) (told : incoming ≡ sent) (r : Outcome) (work' : List ℕ) where
+  module _ (incoming sent : List ℕ) (told : incoming ≡ sent) (reply : Reply) (s' : State) (work' : List ℕ) where
     -- one round more
-    pub course_next : k < earlier_rounds → outcome r work' ≡ heard_after s tape work (k + 1) incoming → (held' : List ℕ)
+    pub course_next : k < earlier_rounds → outcome reply s' work' ≡ heard_after s tape work (k + 1) incoming → (held' : List ℕ)
         → held' ≡ after_hearing (party_of first tape) held (k + 1) sent
-        → Course first number tape (k + 1) held' r.state work'
+        → Course first number tape (k + 1) held' s' work'
     course_next more e held' next =
-        let n = heard_next s number (k + 1) tape work c.due incoming r work' (omega (arith, more)) e in
+        let n = heard_next s number (k + 1) tape work c.due incoming reply s' work' (omega (arith, more)) e in
         record { due = n.ready; same = n.same ∙ c.same; so_far = n.after ∙ rw (c.same, c.so_far, told, next) }
 
     -- the last one
-    pub course_last : k ≡ earlier_rounds → outcome r work' ≡ heard_after s tape work (k + 1) incoming
-        → reply_of r.answer ≡ share (answer_share (party_of first tape) held sent)
+    pub course_last : k ≡ earlier_rounds → outcome reply s' work' ≡ heard_after s tape work (k + 1) incoming
+        → reply ≡ share (answer_share (party_of first tape) held sent)
     course_last all e =
-        heard_last s number (k + 1) tape work c.due incoming r work' (omega (arith, all)) e ∙ rw (c.same, c.so_far, told)
+        heard_last s number (k + 1) tape work c.due incoming reply s' work' (omega (arith, all)) e ∙ rw (c.same, c.so_far, told)

@@ -39,7 +39,7 @@ unfolding mode_of in_range
 asleep = rw zero_unlisted refl
 
 -- a box does not wake at a width that is not listed
-unlisted : (n side pair x y : ℕ) (tape work : List ℕ) → listed n ≡ false → refusal_of (begun n side pair 0 x y tape work one_fresh).reply ≡ 2
+unlisted : (n side pair x y : ℕ) (tape work : List ℕ) → listed n ≡ false → refusal_of (begun first_state n side pair 0 x y tape work one_fresh).reply ≡ 2
 unfolding begun wake_rule wake_ground
 unlisted n side pair x y tape work e = rw (asleep, e) refl
 
@@ -67,7 +67,7 @@ module _ (n side pair x y : ℕ) (tape work : List ℕ) (width : listed n ≡ tr
   share_test true false ea eb = rw (stays_idle, ea, eb) refl
   share_test false b ea eb = rw (stays_idle, ea) refl
 
-  shares_decide : refusal_of (begun n side pair 0 x y tape work one_fresh).reply ≡ cond (ltb x (modulus n) && ltb y (modulus n)) 0 9
+  shares_decide : refusal_of (begun first_state n side pair 0 x y tape work one_fresh).reply ≡ cond (ltb x (modulus n) && ltb y (modulus n)) 0 9
   unfolding begun
   shares_decide = rw woken (share_test (ltb x (modulus n)) (ltb y (modulus n)) refl refl)
 

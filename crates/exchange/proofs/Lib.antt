@@ -1,4 +1,5 @@
 mod Turned
+mod Told
 pub mod Ready
 pub mod Delivery
 pub mod Course

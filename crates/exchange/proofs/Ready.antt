@@ -11,7 +11,7 @@ use Rattle.protocol.specs.Work.{work_length}
 use Rattle.protocol.specs.Rounds.{last_round, round_words, message, after_hearing, answer_share}
 use Rattle.protocol.proofs.Lengths.{after_length}
 use Rattle.refusals.specs.Grounds.{earliest_of}
-use Rattle.rules.specs.Answers.{spoke, share, reply_of}
+use Rattle.rules.specs.Answers.{Reply, spoke, share}
 use Rattle.rules.specs.Modes.{round_of, round_fits, mode_of, is_asleep, same_turn}
 use Rattle.rules.specs.Grounds.{words_fit, message_fits, turn_grounds, speak_ground, hear_ground}
 use Rattle.rules.specs.Calls.{Result, outcome, in_phase, x_of, y_of, party_of, turned, speak_rule, hear_rule}
@@ -19,7 +19,6 @@ use Rattle.rules.proofs.Ranges.{range_mode, awake_range, job_range, turned_mode}
 use Rattle.rules.specs.declared.state.Turn.{Turn}
 use Rattle.rules.specs.declared.state.Turn.TheVariants.{Speak, Hear}
 use Rattle.rules.specs.declared.state.State.{State}
-use Rattle.rules.specs.declared.state.Outcome.{Outcome}
 use Rattle.exchange.specs.Boxes.{Ready, heard_after}
 use Rattle.exchange.proofs.Turned.{turned_x, turned_y, turned_twice, same_party}
 
@@ -97,18 +96,18 @@ module _ (s : State) (number round : ℕ) (tape work : List ℕ) (r : Ready s nu
       let goes = hear_goes due number tape work round incoming (ready_turned r (Hear round) work (ready_round r) r.room) long fits in
       rw (goes, turned_twice s.phase (Hear round) (Speak (round + 1)), turned_x s.phase (Hear round), turned_y s.phase (Hear round))
 
-  module _ (incoming : List ℕ) (a : Outcome) (work' : List ℕ) where
+  module _ (incoming : List ℕ) (reply : Reply) (s' : State) (work' : List ℕ) where
     -- such a hear gave the answer share, if the round was the last
-    pub heard_last : round ≡ last_round → outcome a work' ≡ heard_after s tape work round incoming → reply_of a.answer ≡ share (answer_share (party_of s tape) work incoming)
+    pub heard_last : round ≡ last_round → outcome reply s' work' ≡ heard_after s tape work round incoming → reply ≡ share (answer_share (party_of s tape) work incoming)
     unfolding heard_after
     heard_last last e = ap (λ (q : Result). q.reply) e ∙ rw last
 
     -- and before the last the box is ready for the next
-    pub heard_next : round < last_round → outcome a work' ≡ heard_after s tape work round incoming → Next s number round tape work incoming a.state work'
+    pub heard_next : round < last_round → outcome reply s' work' ≡ heard_after s tape work round incoming → Next s number round tape work incoming s' work'
     unfolding heard_after
     heard_next more e =
         let other = ne_eqb round last_round (λ last. omega (arith, last, more)) in
-        let state : a.state ≡ in_phase s (turned s.phase (Speak (round + 1))) = ap (λ (q : Result). q.state) e ∙ rw other in
+        let state : s' ≡ in_phase s (turned s.phase (Speak (round + 1))) = ap (λ (q : Result). q.state) e ∙ rw other in
         let after : work' ≡ after_hearing (party_of s tape) work round incoming = ap (λ (q : Result). q.buffer) e ∙ rw other in
         let room : work_length s.n ≤ length work' = omega (arith, ap length after, after_length (party_of s tape) work incoming round, r.room) in
         record {

@@ -22,7 +22,8 @@ use Rattle.protocol.proofs.Right.{right}
 use Rattle.rules.specs.Calls.{party_of}
 use Rattle.rules.specs.declared.state.State.{State}
 use Rattle.exchange.specs.Boxes.{works, answer1, answer2}
-use Rattle.exchange.specs.declared.Verdict.{Verdict}
+use Rattle.std.specs.Prelude.{Ok, Err, IfOk, Result as Answer}
+use Rattle.refusals.specs.declared.Refusal.{Refusal}
 use Rattle.exchange.specs.Opening.{refusal_of}
 use Rattle.exchange.specs.Jobs.{Lent, comes, roomy, job_refusal, Ended, ended, job_of}
 use Rattle.exchange.proofs.Begun.{Begun, begun_ready}
@@ -90,9 +91,9 @@ job_answer n pair number box1 box2 dealt = go (eqb (job_refusal n pair number bo
     go false e = rw e
 
 -- of what came of it
-pub ended_right : (n pair number : ℕ) (box1 box2 : Lent) (v : Verdict) (k1 k2 : List ℕ) → ended v k1 k2 ≡ job_of n pair number box1 box2
-    → v.refusal ≡ 0 → Dealt n pair number box1.tape box2.tape
-    → v.less ≡ indicator (ltb ((box1.x + box2.x) % modulus n) ((box1.y + box2.y) % modulus n))
+pub ended_right : (n pair number : ℕ) (box1 box2 : Lent) (v : Answer ℕ Refusal) (k1 k2 : List ℕ) → ended v k1 k2 ≡ job_of n pair number box1 box2
+    → IfOk v (λ less. Dealt n pair number box1.tape box2.tape → less ≡ indicator (ltb ((box1.x + box2.x) % modulus n) ((box1.y + box2.y) % modulus n)))
 unfolding job_of
-ended_right n pair number box1 box2 v k1 k2 e zero m =
-    ap (λ (j : Ended). j.less) e ∙ job_right n pair number box1 box2 (sym (ap (λ (j : Ended). j.refusal) e) ∙ zero) m
+ended_right n pair number box1 box2 (Ok less) k1 k2 e =
+    λ m. ap (λ (j : Ended). j.less) e ∙ job_right n pair number box1 box2 (sym (ap (λ (j : Ended). j.refusal) e)) m
+ended_right n pair number box1 box2 (Err refusal) k1 k2 e = tt

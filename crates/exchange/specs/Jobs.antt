@@ -1,12 +1,13 @@
 -- A whole job of both boxes: box 1 comes to it and then box 2, and where neither is refused they exchange all rounds.
-use Rattle.std.specs.Prelude.{ℕ, ◌+◌, ◌%◌, Bool, ◌&&◌, cond, List, eqb, leb, length}
+use Rattle.std.specs.Prelude.{ℕ, ◌+◌, ◌%◌, Bool, ◌&&◌, cond, List, eqb, leb, length, Ok, Err, Result as Answer}
 use Rattle.field.specs.Width.{modulus}
 use Rattle.protocol.specs.Rounds.{round_words}
 use Rattle.rules.specs.Calls.{Result}
 use Rattle.rules.specs.declared.state.State.{State}
 use Rattle.exchange.specs.declared.Shares.{Shares}
-use Rattle.exchange.specs.declared.Verdict.{Verdict}
-use Rattle.exchange.specs.Opening.{refusal_of, begun}
+use Rattle.refusals.specs.Checks.{ground_of}
+use Rattle.refusals.specs.declared.Refusal.{Refusal}
+use Rattle.exchange.specs.Opening.{first_state, refusal_of, begun}
 use Rattle.exchange.specs.Boxes.{answer1, answer2}
 
 -- a box's shares, and what it is lent for a job
@@ -24,7 +25,7 @@ lent own tape work tally out =
 
 -- the box of that side comes to the job
 abbrev pub comes : ℕ → ℕ → ℕ → ℕ → Lent → Result
-comes n side pair number l = begun n side pair number l.x l.y l.tape l.work l.tally
+comes n side pair number l = begun first_state n side pair number l.x l.y l.tape l.work l.tally
 
 -- both outs have room for the longest message, the first
 abbrev pub roomy : ℕ → List ℕ → List ℕ → Bool
@@ -48,8 +49,13 @@ pub record Ended : Type 0 where
   pub tally1 : List ℕ
   pub tally2 : List ℕ
 
-abbrev pub ended : Verdict → List ℕ → List ℕ → Ended
-ended v k1 k2 = record { refusal = v.refusal; less = v.less; tally1 = k1; tally2 = k2 }
+-- the opened answer, and 0 where the job was refused
+abbrev pub less_of : Answer ℕ Refusal → ℕ
+less_of (Ok less) = less
+less_of (Err refusal) = 0
+
+abbrev pub ended : Answer ℕ Refusal → List ℕ → List ℕ → Ended
+ended v k1 k2 = record { refusal = ground_of v; less = less_of v; tally1 = k1; tally2 = k2 }
 
 -- refused, it answers 0; and where box 1 is refused, box 2 does not come to the job
 unfoldable pub job_of : ℕ → ℕ → ℕ → Lent → Lent → Ended

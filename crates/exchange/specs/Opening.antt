@@ -30,7 +30,7 @@ share_of dropped = 0
 share_of (refused k) = 0
 
 -- the start's result, or the wake's where that is refused
-unfoldable pub begun : ℕ → ℕ → ℕ → ℕ → ℕ → ℕ → List ℕ → List ℕ → List ℕ → Result
-begun n side pair number x y tape work tally =
-    let woken = wake_rule first_state n side pair tally in
+unfoldable pub begun : State → ℕ → ℕ → ℕ → ℕ → ℕ → ℕ → List ℕ → List ℕ → List ℕ → Result
+begun s n side pair number x y tape work tally =
+    let woken = wake_rule s n side pair tally in
     cond (eqb (refusal_of woken.reply) 0) (start_rule woken.state number x y tape work tally) woken

@@ -1,8 +1,11 @@
 // Memory for jobs of any width: room for the longest tape, work and message, and a job with buffers of its own.
 ghost use Rattle.std.specs.Prelude.{◌≡◌, length};
+ghost use Rattle.refusals.specs.Checks.{ground_of};
+ghost use Rattle.exchange.specs.Jobs.{less_of};
 ghost use Rattle.exchange.specs.Memory.{blank_work, blank_words, fresh_job};
 
-use crate::{Shares, Verdict};
+use crate::Shares;
+use refusals::Refusal;
 
 // Zeros for the longest tape.
 pub fn blank_tape() -> [u32; 9053]
@@ -34,9 +37,9 @@ pub fn fresh_job(
     box2: Shares,
     t1: &[u32],
     t2: &[u32],
-) -> Verdict
-    ensures { (result.refusal ≡ (fresh_job n pair number box1 box2 t1.now t2.now).refusal)
-        × (result.less ≡ (fresh_job n pair number box1 box2 t1.now t2.now).less) }
+) -> Result<u32, Refusal>
+    ensures refusal { ground_of result ≡ (fresh_job n pair number box1 box2 t1.now t2.now).refusal }
+    ensures less { less_of result ≡ (fresh_job n pair number box1 box2 t1.now t2.now).less }
 {
     let mut w1 = blank_work();
     let mut w2 = blank_work();

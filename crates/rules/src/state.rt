@@ -27,3 +27,12 @@ pub struct State {
     pub tally: u32,
     pub phase: Phase,
 }
+
+// A box at first.
+pub const FIRST: State = State {
+    n: 0,
+    side: 0,
+    pair: 0,
+    tally: 0,
+    phase: Phase::Asleep,
+};

@@ -1,21 +1,16 @@
 -- `exchange::answers` meets its contract. The loop's invariant: both boxes are on their course, after the rounds heard.
-use Prim.Native.Nat.{◌-◌, ◌≤◌}
 use mathlib.Core.Path.{◌≡◌}
 use lib.ListN.{length}
-use Rattle.protocol.specs.Rounds.{earlier_rounds}
 use Rattle.exchange.specs.Boxes.{after}
 use Rattle.exchange.proofs.Course.{Course}
 use Rattle.exchange.proofs.answers.Given as goal
 
 abbrev pub invariant-loop-heard : goal.invariant-loop-heard
-invariant-loop-heard l =
-    (l.heard ≤ earlier_rounds)
-    × Course l.initial.due.box1 l.number l.t1 l.heard (after l.initial.due.box1 l.initial.due.box2 l.t1 l.t2 l.initial.w1 l.initial.w2 l.heard).own l.due.box1 l.w1
-    × Course l.initial.due.box2 l.number l.t2 l.heard (after l.initial.due.box1 l.initial.due.box2 l.t1 l.t2 l.initial.w1 l.initial.w2 l.heard).others l.due.box2 l.w2
-    × (length l.w1 ≡ length l.initial.w1)
-    × (length l.w2 ≡ length l.initial.w2)
-    × (length l.o1 ≡ length l.initial.o1)
-    × (length l.o2 ≡ length l.initial.o2)
-
-abbrev pub decreases-loop-heard : goal.decreases-loop-heard
-decreases-loop-heard l = earlier_rounds - l.heard
+invariant-loop-heard l = record {
+  box1 : Course l.initial.s1 l.number l.t1 l.heard (after l.initial.s1 l.initial.s2 l.t1 l.t2 l.initial.w1 l.initial.w2 l.heard).own l.s1 l.w1;
+  box2 : Course l.initial.s2 l.number l.t2 l.heard (after l.initial.s1 l.initial.s2 l.t1 l.t2 l.initial.w1 l.initial.w2 l.heard).others l.s2 l.w2;
+  same_w1 : length l.w1 ≡ length l.initial.w1;
+  same_w2 : length l.w2 ≡ length l.initial.w2;
+  same_o1 : length l.o1 ≡ length l.initial.o1;
+  same_o2 : length l.o2 ≡ length l.initial.o2;
+}

@@ -6,60 +6,60 @@ use Rattle.protocol.specs.Rounds.{round_words, message}
 use Rattle.rules.specs.Calls.{party_of}
 use Rattle.rules.proofs.Ranges.{ranged}
 use Rattle.exchange.proofs.Delivery.{AtFront, at_front, hears}
-use Rattle.exchange.proofs.round.Goals.{After-both_speak-arg-1, After-both_speak-arg-2-1, After-both_speak-due}
+use Rattle.exchange.proofs.round.Goals.{After-both_speak}
 use Rattle.exchange.proofs.round.Goals as goal
 
 -- each box's message at the front of its out
-front1 : (a : After-both_speak-due)
+front1 : (a : After-both_speak)
     → let v = a.args in
-    let words = message (party_of v.boxes.box1 v.t1.now) v.w1.now v.round in
-    AtFront words a.both_speak-due.new.o1 a.words_of-words.result
+    let words = message (party_of v.s1.now v.t1.now) v.w1.now v.round in
+    AtFront words a.both_speak.new.o1 a.words_of-words.result
 front1 a =
     let v = a.args in
-    at_front v.boxes.box1 v.t1.now v.w1.now v.round v.o1.now _ a.words_of-words.result a.words_of-words.ensures a.requires.ready.1
-    a.both_speak-due.ensures.box1.0
+    at_front v.s1.now v.t1.now v.w1.now v.round v.o1.now _ a.words_of-words.result a.words_of-words.ensures a.requires.box1.1
+    a.both_speak.ensures.box1.0
 
-front2 : (a : After-both_speak-due)
+front2 : (a : After-both_speak)
     → let v = a.args in
-    let words = message (party_of v.boxes.box2 v.t2.now) v.w2.now v.round in
-    AtFront words a.both_speak-due.new.o2 a.words_of-words.result
+    let words = message (party_of v.s2.now v.t2.now) v.w2.now v.round in
+    AtFront words a.both_speak.new.o2 a.words_of-words.result
 front2 a =
     let v = a.args in
-    let count = a.words_of-words.ensures ∙ ap (λ (n : ℕ). round_words n v.round) a.requires.n_value in
-    at_front v.boxes.box2 v.t2.now v.w2.now v.round v.o2.now _ a.words_of-words.result count a.requires.ready_2.1
-    a.both_speak-due.ensures.box2.0
+    let count = a.words_of-words.ensures ∙ ap (λ (n : ℕ). round_words n v.round) a.requires.width in
+    at_front v.s2.now v.t2.now v.w2.now v.round v.o2.now _ a.words_of-words.result count a.requires.box2.1
+    a.both_speak.ensures.box2.0
 
 pub words_of-words-requires : goal.words_of-words-requires
 words_of-words-requires c =
-    (ranged c.args.boxes.box1 c.requires.ready.0.ranged).width
+    (ranged c.args.s1.now c.requires.box1.0.ranged).width
 
 pub slice_bounds-both_hear-end : goal.slice_bounds-both_hear-end
-slice_bounds-both_hear-end c = (front2 (goal.at.slice_bounds-both_hear-end c).After-both_speak-due).within
+slice_bounds-both_hear-end c = (front2 (goal.at.slice_bounds-both_hear-end c).After-both_speak).within
 
 pub slice_bounds-both_hear-end-2 : goal.slice_bounds-both_hear-end-2
-slice_bounds-both_hear-end-2 c = (front2 (goal.at.slice_bounds-both_hear-end-2 c).After-both_speak-due).long
+slice_bounds-both_hear-end-2 c = (front2 (goal.at.slice_bounds-both_hear-end-2 c).After-both_speak).long
 
 pub slice_bounds-both_hear-end-3 : goal.slice_bounds-both_hear-end-3
-slice_bounds-both_hear-end-3 c = (front1 (goal.at.slice_bounds-both_hear-end-3 c).After-both_speak-due).within
+slice_bounds-both_hear-end-3 c = (front1 (goal.at.slice_bounds-both_hear-end-3 c).After-both_speak).within
 
 pub slice_bounds-both_hear-end-4 : goal.slice_bounds-both_hear-end-4
-slice_bounds-both_hear-end-4 c = (front1 (goal.at.slice_bounds-both_hear-end-4 c).After-both_speak-due).long
+slice_bounds-both_hear-end-4 c = (front1 (goal.at.slice_bounds-both_hear-end-4 c).After-both_speak).long
 
 pub returns : goal.returns
 returns c =
     let v = c.args in
-    let ready1 = c.requires.ready.0 in
-    let ready2 = c.requires.ready_2.0 in
-    let same = c.requires.n_value in
-    let told = c.both_speak-due.ensures in record {
+    let ready1 = c.requires.box1.0 in
+    let ready2 = c.requires.box2.0 in
+    let same = c.requires.width in
+    let told = c.both_speak.ensures in record {
       box1 = (
         told.box1.0,
-        hears v.boxes.box2 v.number v.round v.t2.now v.w2.now ready2 v.boxes.box1 v.t1.now v.w1.now ready1 (sym same)
-            _ _ c.both_hear.result.box1 _ told.box1.1 (ap (read_words v.boxes.box1.n) (front2 (goal.at.returns c).After-both_speak-due).front) c.both_hear.ensures.box1,
+        hears v.s2.now v.number v.round v.t2.now v.w2.now ready2 v.s1.now v.t1.now v.w1.now ready1 (sym same)
+            _ _ _ _ _ told.box1.1 (ap (read_words v.s1.now.n) (front2 (goal.at.returns c).After-both_speak).front) c.both_hear.ensures.box1,
       );
       box2 = (
         told.box2.0,
-        hears v.boxes.box1 v.number v.round v.t1.now v.w1.now ready1 v.boxes.box2 v.t2.now v.w2.now ready2 same
-            _ _ c.both_hear.result.box2 _ told.box2.1 (ap (read_words v.boxes.box2.n) (front1 (goal.at.returns c).After-both_speak-due).front) c.both_hear.ensures.box2,
+        hears v.s1.now v.number v.round v.t1.now v.w1.now ready1 v.s2.now v.t2.now v.w2.now ready2 same
+            _ _ _ _ _ told.box2.1 (ap (read_words v.s2.now.n) (front1 (goal.at.returns c).After-both_speak).front) c.both_hear.ensures.box2,
       );
     }
