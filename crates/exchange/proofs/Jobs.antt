@@ -6,7 +6,7 @@ use mathlib.Core.List.{List}
 use native.Mathlib.Omega.{arith}
 use borrow.Author.Tests.{ne_eqb}
 use lib.Dec.{eqb}
-use Rattle.std.specs.Prelude.{Ok, Err, Result as Answer}
+use Rattle.std.specs.Prelude.{Err, Result as Answer}
 use Rattle.refusals.specs.Numbers.{number_of}
 use Rattle.refusals.specs.Checks.{ground_of}
 use Rattle.refusals.proofs.Numbers.{numbered}

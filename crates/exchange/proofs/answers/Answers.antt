@@ -1,13 +1,11 @@
-use Rattle.std.proofs.Common.{Ok, Some, rules}
-use Rattle.exchange.specs.Boxes.{answer1, answer2}
+use Rattle.std.proofs.Common.{rules}
 use Prim.Native.Nat.{ℕ, ◌+◌, ◌≤◌}
-use mathlib.Core.Path.{◌≡◌, refl, sym, ap, subst, ◌∙◌}
+use mathlib.Core.Path.{◌≡◌, refl, sym, subst, ◌∙◌}
 use native.Mathlib.Omega.{arith}
 use lib.ListN.{length}
 use Rattle.protocol.specs.Products.{Party}
 use Rattle.protocol.specs.Exchange.{Both, exchanged}
 use Rattle.protocol.specs.Rounds.{earlier_rounds, last_round, round_words}
-use Rattle.rules.specs.Answers.{share}
 use Rattle.rules.specs.Calls.{party_of}
 use Rattle.exchange.specs.Boxes.{works}
 use Rattle.exchange.proofs.Exchanges.{more_own, more_others, last_own, last_others}

@@ -1,7 +1,5 @@
 -- `exchange::begin` meets its contract: a refused wake ends it, and otherwise the start's answer comes back.
-use Rattle.std.proofs.Common.{◌≡◌, Err, sym, ap, ◌∙◌, rules}
-use Rattle.rules.specs.Answers.{started, reply_of}
-use Rattle.rules.specs.Calls.{outcome}
+use Rattle.std.proofs.Common.{◌≡◌, Err, sym, ◌∙◌, rules}
 use Rattle.exchange.proofs.Begun.{begun_refused, begun_woken}
 use Rattle.exchange.proofs.begin.Goals as goal
 

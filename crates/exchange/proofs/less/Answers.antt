@@ -32,7 +32,7 @@ returns-in_err-begin c =
     let v = s.args in
     let same : c.from_residual.result ≡ Err c.in_err-begin.field-0.0 = search rules in
     let end = ends_at_box1 v.n v.pair v.number (lent1 s) (lent2 s) c.in_err-begin.field-0.0 _ _ c.in_err-begin.ensures in
-    rw same (record { ended = end; right = ended_right v.n v.pair v.number (lent1 s) (lent2 s) _ _ _ end })
+    rw same (record { ended = end; right = ended_right v.n v.pair v.number (lent1 s) (lent2 s) (Err c.in_err-begin.field-0.0) _ _ end })
 
 pub returns-in_err-begin-2 : goal.returns-in_err-begin-2
 returns-in_err-begin-2 c =
@@ -41,7 +41,7 @@ returns-in_err-begin-2 c =
     let same : c.from_residual-in_err-begin-2.result ≡ Err c.in_err-begin-2.field-0.0 = search rules in
     let end =
     ends_at_box2 v.n v.pair v.number (lent1 s) (lent2 s) _ _ c.in_ok-begin.ensures c.in_err-begin-2.field-0.0 _ _ c.in_err-begin-2.ensures in
-    rw same (record { ended = end; right = ended_right v.n v.pair v.number (lent1 s) (lent2 s) _ _ _ end })
+    rw same (record { ended = end; right = ended_right v.n v.pair v.number (lent1 s) (lent2 s) (Err c.in_err-begin-2.field-0.0) _ _ end })
 
 pub opened-requires : goal.opened-requires
 opened-requires c =
@@ -57,4 +57,4 @@ returns c =
     let end =
     ends_opened v.n v.pair v.number (lent1 s) (lent2 s) _ _ c.in_ok-begin.ensures _ _ c.in_ok-begin-2.ensures
     c.opened.result c.opened.ensures.0 c.opened.ensures.1 in
-    record { ended = end; right = ended_right v.n v.pair v.number (lent1 s) (lent2 s) _ _ _ end }
+    record { ended = end; right = ended_right v.n v.pair v.number (lent1 s) (lent2 s) c.opened.result _ _ end }
