@@ -31,12 +31,12 @@ fn sizes(n: u32)
     io::write_all(1, b" words\n");
 }
 
-// Both boxes' tapes. What the dealer answers is not looked at: by its contract it does not refuse.
+// Both boxes' tapes: the dealer refuses none of what is asked of it here.
 fn deal(n: u32, t1: &mut [u32], t2: &mut [u32])
     requires { (listed n ≡ true) × (length t1.old ≡ tape_length n) × (length t2.old ≡ tape_length n) }
     ensures { Dealt n 1 0 t1.new t2.new }
 {
-    deals::deal(SEED, n, work::PAIR, work::NUMBER, t1, t2);
+    deals::deal(SEED, n, work::PAIR, work::NUMBER, t1, t2).unwrap();
 }
 
 // On dealt tapes, as boxes get them: on plain ones, mostly zeros, a branch on a word would always go the same way.

@@ -67,7 +67,7 @@ pub fn refusal_of(answer: Answer) -> u32
         Answer::Heard => 0,
         Answer::Share(_) => 0,
         Answer::Dropped => 0,
-        Answer::Refused(refusal) => refusals::number_of(refusal),
+        Answer::Refused(refusal) => u32::from(refusal),
     }
 }
 
@@ -334,7 +334,7 @@ fn opened(
 {
     if !has_room(n, &*o1, &*o2) {
         return Verdict {
-            refusal: refusals::number_of(Refusal::Room),
+            refusal: u32::from(Refusal::Room),
             less: 0,
         };
     }

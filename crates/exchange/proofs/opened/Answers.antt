@@ -44,7 +44,7 @@ has_room-requires c = width (goal.at.has_room-requires c).Start
 pub returns-then-not-has_room : goal.returns-then-not-has_room
 returns-then-not-has_room c =
     let short = sym c.has_room.ensures ∙ not-true _ c.if-not-has_room.true-raw in
-    (c.number_of.ensures ∙ rw short, rw short)
+    (c.from.ensures ∙ rw short, rw short)
 
 pub answers-last-requires : goal.answers-last-requires
 answers-last-requires c =
