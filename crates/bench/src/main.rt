@@ -31,12 +31,12 @@ fn sizes(n: u32)
     io::write_all(1, b" words\n");
 }
 
-// Both boxes' tapes. What the dealer answers is not looked at: by its contract it does not refuse.
+// Both boxes' tapes: the dealer refuses none of what is asked of it here.
 fn deal(n: u32, t1: &mut [u32], t2: &mut [u32])
     requires { (listed n ≡ true) × (length t1.old ≡ tape_length n) × (length t2.old ≡ tape_length n) }
     ensures { Dealt n 1 0 t1.new t2.new }
 {
-    deals::deal(SEED, n, work::PAIR, work::NUMBER, t1, t2);
+    deals::deal(SEED, n, work::PAIR, work::NUMBER, t1, t2).unwrap();
 }
 
 // On dealt tapes, as boxes get them: on plain ones, mostly zeros, a branch on a word would always go the same way.
@@ -76,7 +76,7 @@ fn argument(rt: &impl Env, place: usize, word: &mut [u8]) -> usize
 }
 
 // An argument as a number.
-fn number_at(rt: &impl Env, place: usize) -> lines::reading::Number {
+fn number_at(rt: &impl Env, place: usize) -> Option<u32> {
     let mut word = [0u8; 16];
     let len = argument(rt, place, &mut word);
     lines::reading::number_of(&word[..len])
@@ -84,14 +84,16 @@ fn number_at(rt: &impl Env, place: usize) -> lines::reading::Number {
 
 // The width and the count are arguments 2 and 3.
 fn asked(rt: &impl Env, jobs: bool) {
-    let width = number_at(rt, 2);
-    let count = number_at(rt, 3);
-    if !width.ok {
+    let Some(width) = number_at(rt, 2) else {
         io::write_all(1, b"bench: the width is no number\n");
-    } else if !count.ok {
+        return;
+    };
+    let Some(count) = number_at(rt, 3) else {
         io::write_all(1, b"bench: the count is no number\n");
-    } else if field::is_listed(width.value) {
-        often(width.value, count.value, jobs);
+        return;
+    };
+    if field::is_listed(width) {
+        often(width, count, jobs);
     } else {
         io::write_all(1, b"bench: the width is not listed\n");
     }

@@ -1,12 +1,15 @@
 -- The test dealer does what document 02's P1 and P7 ask of it.
 use Prim.Native.Nat.{ℕ, ◌+◌, ◌*◌, ◌%◌, ◌^◌, ◌<◌, ◌≤◌}
-use mathlib.Core.Path.{◌≡◌, refl, ap₂, ◌∙◌}
+use mathlib.Core.Path.{◌≡◌, refl, ap, ap₂, ◌∙◌}
 use mathlib.Core.Bool.{true}
 use mathlib.Core.List.{List}
 use native.Mathlib.Omega.{arith}
 use borrow.Author.Tests.{eq-eqb, ne_eqb}
 use lib.ListN.{length, get_or}
+use Rattle.std.specs.Prelude.{Result, IsOk, ⊤}
 use Rattle.field.specs.Width.{listed, modulus}
+use Rattle.refusals.specs.declared.Refusal.{Refusal}
+use Rattle.refusals.proofs.Checks.{goes_on}
 use Rattle.field.specs.Congruence.{Cong}
 use Rattle.field.proofs.Widths.{bounds}
 use Rattle.field.proofs.Congruences.{cong_eq, cong_sym, ◌⊙◌, cong_mul, cong_pow}
@@ -16,7 +19,7 @@ use Rattle.tape.specs.Order.{in_order}
 use Rattle.tape.specs.Dealt.{square_pair, inverse_pair, power_pair, triple_group, threefold_group, last_sum, Dealt}
 use Rattle.tape.proofs.Orders.{in_order_lem}
 use Rattle.deals.specs.Groups.{free_words, drawn_sum, exponent, total, group_word}
-use Rattle.deals.specs.Deals.{dealt_tape, deal_ground, deal_rule}
+use Rattle.deals.specs.Deals.{Deal, dealt_tape, deal_ground, deal_rule, outcome}
 use Rattle.deals.specs.Dealing.{Dealing}
 use Rattle.deals.proofs.Grounds.{seed_ground, no_ground}
 use Rattle.deals.proofs.Places.{body_kinds, each_place, section_of, Holds, before_group, tape_long, trailer_at, body_at, letter}
@@ -110,11 +113,18 @@ module _ (seed n pair number : ℕ) (width : listed n ≡ true) where
 -- ---- the call
 
 module _ (seed n pair number : ℕ) (t1 t2 : List ℕ) where
+  -- not refused
   pub deal_taken : 0 < seed → listed n ≡ true → length t1 ≡ tape_length n → length t2 ≡ tape_length n
       → deal_rule seed n pair number t1 t2
       ≡ record { refusal = 0; tape1 = dealt_tape seed n pair 1 number; tape2 = dealt_tape seed n pair 2 number }
   unfolding deal_rule
   deal_taken some width long1 long2 = rw (no_ground seed n t1 t2 (λ none. omega (arith, some, none)) width long1 long2)
+
+  -- nor is a call that asks for that
+  pub deal_ok : (answer : Result ⊤ Refusal) (new1 new2 : List ℕ) → outcome answer new1 new2 ≡ deal_rule seed n pair number t1 t2
+      → 0 < seed → listed n ≡ true → length t1 ≡ tape_length n → length t2 ≡ tape_length n → IsOk answer
+  deal_ok answer new1 new2 told some width long1 long2 =
+      goes_on answer (ap (λ (d : Deal). d.refusal) (told ∙ deal_taken some width long1 long2))
 
   pub deal_seedless : seed ≡ 0 → (deal_rule seed n pair number t1 t2).refusal ≡ 14
   unfolding deal_rule

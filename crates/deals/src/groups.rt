@@ -1,4 +1,5 @@
 // The groups of a body, by their kind: box 1's words and some of box 2's are drawn, and the others are what the equations leave.
+// Both boxes' words go side by side as two slices: in a struct of both each step would lend each of them anew, and every clause is of one box.
 ghost use Rattle.std.specs.Prelude.{◌≡◌, true, ℕ, ◌+◌, ◌-◌, ◌*◌, ◌^◌, ◌<◌, ◌≤◌, length, get_or};
 ghost use Rattle.std.proofs.lemmas.List.Edits.{sets};
 ghost use Rattle.lists.specs.Tabulate.{tabulate};
@@ -8,12 +9,9 @@ ghost use Rattle.draws.specs.Draws.{draw};
 ghost use Rattle.deals.specs.Groups.{groups_of, group_length, group_draws, group_word};
 ghost use Rattle.deals.specs.Steps.{product_left, drawn_words, product_words, power_at, threefold_left, threefold_words};
 ghost use Rattle.deals.specs.Deals.{kind_length, kind_word};
+ghost use Rattle.deals.specs.Kinds.{number_of};
 
-// The kinds 0, 1 and 2 are the groups of the tape's sections, and the last group, behind the triples, is a kind of its own.
-const LAST: usize = 3;
-
-// How many kinds there are.
-pub const KINDS: usize = 4;
+use crate::kinds::Kind;
 
 // Box 2's last word of a square (a, q) or a triple (a, b, c): what is left of the product of both boxes' first words and their last but one.
 fn product_left(n: u32, w1: &[u32], w2: &[u32]) -> u32
@@ -50,12 +48,10 @@ fn left_powers(n: u32, w: u32, r: u32, w1: &[u32], w2: &mut [u32])
 {
     let mut total = w;
     let mut power: u32 = 1;
-    let mut j = 0;
-    while j < w1.len() {
-        w2[j] = field::sub(n, total, w1[j]);
+    for (j, left) in w2.iter_mut().enumerate() {
+        *left = field::sub(n, total, w1[j]);
         power = field::mul(n, power, r);
         total = power;
-        j += 1;
     }
 }
 
@@ -113,71 +109,33 @@ fn threefold(n: u32, v: u32, w1: &mut [u32], w2: &mut [u32]) -> u32
     after
 }
 
-// How many words each box has of a group.
-fn group_words(n: u32, kind: usize) -> usize
-    requires { (listed n ≡ true) × (kind < 4) }
-    ensures { result ≡ group_length n kind }
-{
-    match kind {
-        0 => 2,
-        1 => n as usize + 1,
-        2 => 3,
-        _ => 7,
-    }
-}
-
-// How many groups of a kind a tape has.
-fn group_count(n: u32, kind: usize) -> usize
-    requires { (listed n ≡ true) × (kind < 4) }
-    ensures { result ≡ groups_of n kind }
-{
-    let m = n as usize;
-    match kind {
-        0 => 3 * (m * m),
-        1 => 3 * m,
-        2 => 3 * m + 6,
-        _ => 1,
-    }
-}
-
-// How many words each box has of all groups of a kind.
-pub fn kind_words(n: u32, kind: usize) -> usize
-    requires { (listed n ≡ true) × (kind < 4) }
-    ensures { result ≡ kind_length n kind }
-{
-    group_count(n, kind) * group_words(n, kind)
-}
-
 // One group. Answers its last draw.
-fn group(n: u32, kind: usize, v: u32, w1: &mut [u32], w2: &mut [u32]) -> u32
-    requires { (listed n ≡ true) × (kind < 4) × (length w1.old ≡ group_length n kind) × (length w2.old ≡ group_length n kind) }
-    ensures value { result ≡ draw v (group_draws n kind) }
-    ensures box1 { w1.new ≡ tabulate (group_length n kind) (group_word n 1 kind v) }
-    ensures box2 { w2.new ≡ tabulate (group_length n kind) (group_word n 2 kind v) }
+fn group(n: u32, kind: Kind, v: u32, w1: &mut [u32], w2: &mut [u32]) -> u32
+    requires { (listed n ≡ true) × (length w1.old ≡ group_length n (number_of kind)) × (length w2.old ≡ group_length n (number_of kind)) }
+    ensures value { result ≡ draw v (group_draws n (number_of kind)) }
+    ensures box1 { w1.new ≡ tabulate (group_length n (number_of kind)) (group_word n 1 (number_of kind) v) }
+    ensures box2 { w2.new ≡ tabulate (group_length n (number_of kind)) (group_word n 2 (number_of kind) v) }
 {
-    if kind == tape::POWERS {
-        return powers(n, v, w1, w2);
+    match kind {
+        Kind::Power => powers(n, v, w1, w2),
+        Kind::Last => threefold(n, v, w1, w2),
+        Kind::Square | Kind::Triple => product(n, v, w1, w2),
     }
-    if kind == LAST {
-        return threefold(n, v, w1, w2);
-    }
-    product(n, v, w1, w2)
 }
 
 // All groups of a kind. Answers their last draw.
-pub fn all_of(n: u32, kind: usize, v: u32, w1: &mut [u32], w2: &mut [u32]) -> u32
-    requires { (listed n ≡ true) × (kind < 4) × (length w1.old ≡ kind_length n kind) × (length w2.old ≡ kind_length n kind) }
-    ensures value { result ≡ draw v (groups_of n kind * group_draws n kind) }
-    ensures box1 { w1.new ≡ tabulate (kind_length n kind) (kind_word n 1 kind v) }
-    ensures box2 { w2.new ≡ tabulate (kind_length n kind) (kind_word n 2 kind v) }
+pub fn all_of(n: u32, kind: Kind, v: u32, w1: &mut [u32], w2: &mut [u32]) -> u32
+    requires { (listed n ≡ true) × (length w1.old ≡ kind_length n (number_of kind)) × (length w2.old ≡ kind_length n (number_of kind)) }
+    ensures value { result ≡ draw v (groups_of n (number_of kind) * group_draws n (number_of kind)) }
+    ensures box1 { w1.new ≡ tabulate (kind_length n (number_of kind)) (kind_word n 1 (number_of kind) v) }
+    ensures box2 { w2.new ≡ tabulate (kind_length n (number_of kind)) (kind_word n 2 (number_of kind) v) }
 {
-    let words = group_words(n, kind);
+    let words = kind.group_words(n);
     let mut last = v;
-    let mut at = 0;
-    while at < w1.len() {
+    for g in 0..kind.group_count(n) {
+        let at = g * words;
         let end = at + words;
         last = group(n, kind, last, &mut w1[at..end], &mut w2[at..end]);
-        at = end;
     }
     last
 }

@@ -8,9 +8,11 @@ ghost use Rattle.refusals.specs.Checks.{ground_of};
 ghost use Rattle.tape.specs.Layout.{tape_length};
 ghost use Rattle.deals.specs.Deals.{dealt_body, dealt_tape, deal_ground, deal_rule, outcome};
 
+use kinds::Kind;
 use refusals::Refusal;
 
 mod groups;
+mod kinds;
 
 // The grounds of refusal: 14, 2, 12.
 #[tactic(auto, unfolding(crate::specs::Deals::deal_ground))]
@@ -38,12 +40,10 @@ fn bodies(seed: u32, n: u32, t1: &mut [u32], t2: &mut [u32])
 {
     let mut last = seed;
     let mut at = 0;
-    let mut kind = 0;
-    while kind < groups::KINDS {
-        let end = at + groups::kind_words(n, kind);
+    for kind in Kind::ALL {
+        let end = at + kind.words(n);
         last = groups::all_of(n, kind, last, &mut t1[at..end], &mut t2[at..end]);
         at = end;
-        kind += 1;
     }
 }
 

@@ -4,8 +4,9 @@ use mathlib.Core.Path.{◌≡◌, ap, ◌∙◌}
 use mathlib.Core.Bool.{Bool, true, false}
 use mathlib.Core.List.{List}
 use lib.ListN.{length}
+use Rattle.std.specs.Prelude.{Result, ⊤}
 use Rattle.field.specs.Width.{listed}
-use Rattle.refusals.specs.declared.Check.{Check}
+use Rattle.refusals.specs.declared.Refusal.{Refusal}
 use Rattle.tape.specs.Layout.{tape_length}
 use Rattle.tape.specs.Dealt.{Dealt}
 use Rattle.tape.specs.Plain.{plain_tape}
@@ -33,7 +34,7 @@ module _ (plain : Bool) (n seed : ℕ) (width : listed n ≡ true) (t1 t2 : List
 
   -- a deal that the rule takes
   pub dealt_lent : plain ≡ false → 0 < seed → (old1 old2 : List ℕ) → length old1 ≡ tape_length n → length old2 ≡ tape_length n
-      → (check : Check) → outcome check t1 t2 ≡ deal_rule seed n 7 0 old1 old2 → Lent plain n seed t1 t2
+      → (check : Result ⊤ Refusal) → outcome check t1 t2 ≡ deal_rule seed n 7 0 old1 old2 → Lent plain n seed t1 t2
   unfolding tape_of
   dealt_lent e some old1 old2 long1 long2 check told =
       let all = told ∙ deal_taken seed n 7 0 old1 old2 some width long1 long2 in

@@ -17,7 +17,7 @@ pub fn seed_of(x1: u32, x2: u32) -> u32
     1 + 31 * x1 + x2
 }
 
-// Both boxes' tapes: the plain ones, or those dealt from the seed. What the dealer answers is not looked at: by its contract it does not refuse.
+// Both boxes' tapes: the plain ones, or those dealt from the seed. The dealer refuses none of what is asked of it here.
 pub fn pair(n: u32, plain: bool, seed: u32, t1: &mut [u32], t2: &mut [u32])
     requires { (0 < seed) × (listed n ≡ true) × (length t1.old ≡ tape_length n) × (length t2.old ≡ tape_length n) }
     ensures t1_after { (t1.new ≡ tape_of plain n seed 1) × (t2.new ≡ tape_of plain n seed 2) }
@@ -27,6 +27,6 @@ pub fn pair(n: u32, plain: bool, seed: u32, t1: &mut [u32], t2: &mut [u32])
         dealer::plain(n, PAIR, 1, NUMBER, t1);
         dealer::plain(n, PAIR, 2, NUMBER, t2);
     } else {
-        deals::deal(seed, n, PAIR, NUMBER, t1, t2);
+        deals::deal(seed, n, PAIR, NUMBER, t1, t2).unwrap();
     }
 }

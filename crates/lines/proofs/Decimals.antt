@@ -1,6 +1,6 @@
 -- The laws of the decimal spelling.
 use Prim.Native.Nat.{ℕ, zero, suc, ◌+◌, ◌/◌, ◌%◌, ◌^◌, ◌<◌, ◌≤◌}
-use mathlib.Core.Path.{◌≡◌, refl}
+use mathlib.Core.Path.{◌≡◌, refl, ap, ◌∙◌}
 use mathlib.Core.List.{[], ◌∷◌, ◌++◌}
 use mathlib.Core.Logic.{⊎_elim}
 use native.Mathlib.Nat.{not-suc-le-zero, pow-suc, div-lt_iff_lt-mul}
@@ -30,6 +30,9 @@ pub decimal_more : (v : ℕ) → 10 ≤ v → decimal v ≡ decimal (v / 10) ++ 
 unfolding digits_of
 decimal_more v h = rw (le-ltb v 10 h, digits_same v (suc (v / 10)) (v / 10) (omega arith) (omega arith))
 
+pub length-decimal : (v : ℕ) → 10 ≤ v → length (decimal v) ≡ length (decimal (v / 10)) + 1
+length-decimal v h = ap length (decimal_more v h) ∙ length-append (decimal (v / 10)) ((48 + v % 10) ∷ [])
+
 digits_most : (m d v : ℕ) → v < 10 ^ suc d → length (digits_of m v) ≤ suc d
 unfolding digits_of
 digits_most zero d v h = omega arith
@@ -51,3 +54,5 @@ decimal_some v =
     (λ t. rw (decimal_one v (ltb-true v 10 t)) (omega arith))
     (λ f. rw (decimal_more v (ltb-false v 10 f), length-append (decimal (v / 10)) ((48 + v % 10) ∷ [])) (omega arith))
     (cases (ltb v 10))
+
+pub ruleset spellings = (decimal_one, decimal_more, length-decimal, decimal_some)

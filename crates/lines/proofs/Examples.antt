@@ -2,7 +2,7 @@
 use mathlib.Core.Path.{◌≡◌, refl}
 use mathlib.Core.Bool.{true, false}
 use mathlib.Core.List.{[], ◌∷◌}
-use Rattle.lines.specs.Reading.{earliest_of, line_of, parts_of, all_digits, value_after, is_number, is_numbers, numbers_of, is_five, five_of, is_line, line_numbers}
+use Rattle.lines.specs.Reading.{earliest_of, line_of, parts_of, all_digits, value_after, is_number, is_numbers, numbers_of, is_line, line_numbers}
 use Rattle.lines.specs.Writing.{digits_of, decimal, spaced}
 
 -- "0"
@@ -36,37 +36,37 @@ unfolding is_number all_digits value_after
 sign_not = refl
 
 -- "1 20 0 4 7", a newline, "x"
-five_is : is_five (49 ∷ 32 ∷ 50 ∷ 48 ∷ 32 ∷ 48 ∷ 32 ∷ 52 ∷ 32 ∷ 55 ∷ 10 ∷ 120 ∷ []) ≡ true
+five_is : is_line 5 (49 ∷ 32 ∷ 50 ∷ 48 ∷ 32 ∷ 48 ∷ 32 ∷ 52 ∷ 32 ∷ 55 ∷ 10 ∷ 120 ∷ []) ≡ true
 unfolding earliest_of line_of parts_of all_digits value_after is_number is_numbers numbers_of
 five_is = refl
 
 -- its numbers
-five_values : five_of (49 ∷ 32 ∷ 50 ∷ 48 ∷ 32 ∷ 48 ∷ 32 ∷ 52 ∷ 32 ∷ 55 ∷ 10 ∷ 120 ∷ []) ≡ 1 ∷ 20 ∷ 0 ∷ 4 ∷ 7 ∷ []
+five_values : line_numbers (49 ∷ 32 ∷ 50 ∷ 48 ∷ 32 ∷ 48 ∷ 32 ∷ 52 ∷ 32 ∷ 55 ∷ 10 ∷ 120 ∷ []) ≡ 1 ∷ 20 ∷ 0 ∷ 4 ∷ 7 ∷ []
 unfolding earliest_of line_of parts_of all_digits value_after is_number is_numbers numbers_of
 five_values = refl
 
 -- "1 2 3 4 5" without a newline
-no_newline : is_five (49 ∷ 32 ∷ 50 ∷ 32 ∷ 51 ∷ 32 ∷ 52 ∷ 32 ∷ 53 ∷ []) ≡ true
+no_newline : is_line 5 (49 ∷ 32 ∷ 50 ∷ 32 ∷ 51 ∷ 32 ∷ 52 ∷ 32 ∷ 53 ∷ []) ≡ true
 unfolding earliest_of line_of parts_of all_digits value_after is_number is_numbers numbers_of
 no_newline = refl
 
 -- a carriage return
-return_not : is_five (49 ∷ 32 ∷ 50 ∷ 32 ∷ 51 ∷ 32 ∷ 52 ∷ 32 ∷ 53 ∷ 13 ∷ 10 ∷ []) ≡ false
+return_not : is_line 5 (49 ∷ 32 ∷ 50 ∷ 32 ∷ 51 ∷ 32 ∷ 52 ∷ 32 ∷ 53 ∷ 13 ∷ 10 ∷ []) ≡ false
 unfolding earliest_of line_of parts_of all_digits value_after is_number is_numbers numbers_of
 return_not = refl
 
 -- a trailing space
-trailing_not : is_five (49 ∷ 32 ∷ 50 ∷ 32 ∷ 51 ∷ 32 ∷ 52 ∷ 32 ∷ 53 ∷ 32 ∷ []) ≡ false
+trailing_not : is_line 5 (49 ∷ 32 ∷ 50 ∷ 32 ∷ 51 ∷ 32 ∷ 52 ∷ 32 ∷ 53 ∷ 32 ∷ []) ≡ false
 unfolding earliest_of line_of parts_of all_digits value_after is_number is_numbers numbers_of
 trailing_not = refl
 
 -- two spaces: five parts, one of them empty
-two_spaces_not : is_five (49 ∷ 32 ∷ 32 ∷ 50 ∷ 32 ∷ 51 ∷ 32 ∷ 52 ∷ []) ≡ false
+two_spaces_not : is_line 5 (49 ∷ 32 ∷ 32 ∷ 50 ∷ 32 ∷ 51 ∷ 32 ∷ 52 ∷ []) ≡ false
 unfolding earliest_of line_of parts_of all_digits value_after is_number is_numbers numbers_of
 two_spaces_not = refl
 
 -- six numbers
-six_not : is_five (49 ∷ 32 ∷ 50 ∷ 32 ∷ 51 ∷ 32 ∷ 52 ∷ 32 ∷ 53 ∷ 32 ∷ 54 ∷ []) ≡ false
+six_not : is_line 5 (49 ∷ 32 ∷ 50 ∷ 32 ∷ 51 ∷ 32 ∷ 52 ∷ 32 ∷ 53 ∷ 32 ∷ 54 ∷ []) ≡ false
 unfolding earliest_of line_of parts_of all_digits value_after is_number is_numbers numbers_of
 six_not = refl
 

@@ -1,15 +1,8 @@
 -- The laws of the first place of a byte.
-use Prim.Native.Nat.{ℕ, suc, ◌+◌, ◌<◌, ◌≤◌}
-use mathlib.Core.Path.{◌≡◌, refl}
-use mathlib.Core.Bool.{Bool, true, false}
-use mathlib.Core.List.{List, [], ◌∷◌}
-use mathlib.Core.Logic.{◌⊎◌, inl, inr, ⊎_elim}
-use native.Mathlib.Numerals.{add-one}
-use native.Mathlib.Omega.{arith}
-use borrow.Author.Tests.{eq-eqb, ne_eqb}
-use lib.Dec.{eqb}
-use lib.ListN.{length, get_or, drop, drop_of_length-le}
-use lib.Seq.{drop-cons}
+use Rattle.std.proofs.Common.{◌≡◌, ℕ, ◌≤◌, Bool, true, false, List, [], ◌∷◌, ◌⊎◌, inl, inr, ⊎_elim, refl, eqb, ltb, length, unwrap_or, cond, sym, ap, one-add, arith}
+use borrow.Author.Tests.{ltb-false}
+use Rattle.std.specs.List.{position, position_or_len}
+use Rattle.std.proofs.lemmas.List.Recursion.{is_position_or_len}
 use Rattle.lines.specs.Reading.{earliest_of}
 
 pub cases : (t : Bool) → (t ≡ true) ⊎ (t ≡ false)
@@ -22,17 +15,16 @@ first_most b [] = omega arith
 first_most b (x ∷ s) =
     ⊎_elim (λ t. rw t (omega arith)) (λ f. rw f (omega (arith, first_most b s))) (cases (eqb x b))
 
--- the byte stands here
-pub first_here : (b : ℕ) (s : List ℕ) (i : ℕ) → i < length s → get_or s i 0 ≡ b → earliest_of b (drop i s) ≡ 0
+-- as std has it
+first_place : (b : ℕ) (s : List ℕ) → earliest_of b s ≡ position_or_len (λ (x : ℕ). eqb x b) s
 unfolding earliest_of
-first_here b s i less e = rw (drop-cons s i 0 less, eq-eqb _ _ e)
+first_place b s = is_position_or_len (earliest_of b) (λ (x : ℕ). eqb x b) refl (λ x s. sym (ap (cond (eqb x b) 0) (one-add (earliest_of b s)))) s
 
--- another byte stands here
-pub first_later : (b : ℕ) (s : List ℕ) (i : ℕ) → i < length s → (get_or s i 0 ≡ b → ⊥)
-    → earliest_of b (drop i s) ≡ suc (earliest_of b (drop (i + 1) s))
-unfolding earliest_of
-first_later b s i less ne = rw (add-one i, drop-cons s i 0 less, ne_eqb _ _ ne)
-
-pub first_none : (b : ℕ) (s : List ℕ) (i : ℕ) → length s ≤ i → earliest_of b (drop i s) ≡ 0
-unfolding earliest_of
-first_none b s i le = rw (drop_of_length-le s le)
+-- or the length
+pub first_or_length : (b : ℕ) (s : List ℕ) → unwrap_or (position (λ (x : ℕ). eqb x b) s) (length s) ≡ earliest_of b s
+first_or_length b s =
+    let e = first_place b s in
+    ⊎_elim
+    (λ t. rw t (sym e))
+    (λ f. rw f (omega (arith, e, ltb-false (position_or_len (λ (x : ℕ). eqb x b) s) (length s) f, first_most b s)))
+    (cases (ltb (position_or_len (λ (x : ℕ). eqb x b) s) (length s)))

@@ -4,8 +4,6 @@ pub mod Numbers
 pub mod Parts
 pub mod Turns
 pub mod Runs
-pub mod Joins
 pub mod Spaced
 pub mod Decimals
-pub mod Gathered
 pub mod Examples

@@ -1,51 +1,45 @@
--- A turn of the loop that reads all numbers of a line but the last, of a line read up to a place.
-use Prim.Native.Nat.{ℕ, suc, ◌+◌, ◌-◌, ◌<◌}
-use mathlib.Core.Path.{◌≡◌, sym, ap, ◌∙◌}
-use mathlib.Core.Bool.{true, false}
-use mathlib.Core.List.{List, [], ◌∷◌, ◌++◌}
-use native.Mathlib.Numerals.{add-one}
-use native.Mathlib.Omega.{arith}
-use lib.ListN.{length, take, drop, set, length-drop, length-set}
-use lib.Seq.{drop-drop, take-suc-set, append_snoc, take_all}
-use Rattle.lines.specs.Reading.{earliest_of, value_of, is_number, is_numbers, numbers_of}
-use Rattle.lines.proofs.Parts.{Ended, numbers_next, numbers_short, numbers_last, values_next}
+-- A line's parts read one after another, each into its place.
+use Rattle.std.proofs.Common.{◌≡◌, ℕ, suc, ◌+◌, ◌<◌, true, false, ◌&&◌, eqb, List, [], ◌∷◌, ◌++◌, map, length, set, take, refl, sym, ap, ◌∙◌, add-zero, add-one, arith}
+use mathlib.Core.List.{append-nil}
+use borrow.Author.Tests.{eq-eqb, ne_eqb}
+use lib.Seq.{take-suc-set, append_snoc, take_all}
+use Rattle.lists.proofs.Tests.{and-false}
+use Rattle.lines.specs.Reading.{parts_of, value_of, is_number, all_numbers, is_numbers, numbers_of}
 
--- the rest of a line, as a part that ends with it
-pub rest_whole : (line : List ℕ) (at : ℕ) → take (length line - at) (drop at line) ≡ drop at line
-rest_whole line at = take_all (length line - at) (drop at line) (omega (arith, length-drop at line))
+-- k parts are read, and the parts that are left decide
+pub record Read (line : List ℕ) (count : ℕ) (left : List (List ℕ)) (numbers : List ℕ) (k : ℕ) : Type 0 where
+  pub some : is_numbers count line ≡ (eqb (length left + k) count && all_numbers left)
+  pub values : numbers_of line ≡ take k numbers ++ map value_of left
 
-pub turn_short : (count k : ℕ) (s : List ℕ) → k + 1 < count → earliest_of 32 s ≡ length s → is_numbers (count - k) s ≡ false
-turn_short count k s few e =
-    let more : count - k ≡ suc (suc (count - (k + 2))) = omega arith in
-    ap (λ (n : ℕ). is_numbers n s) more ∙ numbers_short (count - (k + 2)) s e
+pub begin : (line : List ℕ) (count : ℕ) (numbers : List ℕ) → Read line count (parts_of line) numbers 0
+unfolding is_numbers numbers_of
+begin line count numbers = record { some = rw (add-zero (length (parts_of line))) refl; values = refl }
 
-module _ (line : List ℕ) (at e : ℕ) (ended : Ended (drop at line) e) where
-  pub turn_numbers : (count k : ℕ) → k < count → is_number (take e (drop at line)) ≡ true
-      → is_numbers (count - k) (drop at line) ≡ is_numbers (count - (k + 1)) (drop (at + (e + 1)) line)
-  turn_numbers count k few fits =
-      let more : count - k ≡ suc (count - (k + 1)) = omega arith in
-      ap (λ (n : ℕ). is_numbers n (drop at line)) more
-      ∙ numbers_next (count - (k + 1)) (drop at line) e ended fits
-      ∙ ap (is_numbers (count - (k + 1))) (drop-drop (e + 1) at line)
+module _ (line : List ℕ) (count : ℕ) (part : List ℕ) (left : List (List ℕ)) (numbers : List ℕ) (k : ℕ) (was : Read line count (part ∷ left) numbers k) where
+  -- a part that is a number goes to its place
+  pub turn : is_number part ≡ true → k < length numbers → Read line count left (set numbers k (value_of part)) (k + 1)
+  turn fits room =
+      let long : suc (length left) + k ≡ length left + (k + 1) = omega arith in
+      record {
+        some = was.some ∙ rw (fits, long) refl;
+        values =
+            was.values
+            ∙ sym (append_snoc (take k numbers) (value_of part) (map value_of left))
+            ∙ ap (λ (l : List ℕ). l ++ map value_of left) (sym (take-suc-set numbers k (value_of part) room) ∙ ap (λ (m : ℕ). take m (set numbers k (value_of part))) (sym (add-one k)));
+      }
 
-  pub turn_values : (numbers : List ℕ) (k v : ℕ) → k < length numbers → v ≡ value_of (take e (drop at line))
-      → take k numbers ++ numbers_of (drop at line) ≡ take (k + 1) (set numbers k v) ++ numbers_of (drop (at + (e + 1)) line)
-  turn_values numbers k v room value =
-      let next = numbers_of (drop (at + (e + 1)) line) in
-      ap (λ (l : List ℕ). take k numbers ++ l)
-      (values_next (drop at line) e ended
-      ∙ ap (λ (l : List ℕ). value_of (take e (drop at line)) ∷ numbers_of l) (drop-drop (e + 1) at line)
-      ∙ ap (λ (x : ℕ). x ∷ next) (sym value))
-      ∙ sym (append_snoc (take k numbers) v next)
-      ∙ ap (λ (l : List ℕ). l ++ next) (sym (take-suc-set numbers k v room) ∙ ap (λ (m : ℕ). take m (set numbers k v)) (sym (add-one k)))
+  pub no_number : is_number part ≡ false → is_numbers count line ≡ false
+  no_number none = was.some ∙ and-false (eqb (suc (length left) + k) count) (rw none refl)
 
--- the rest of the line is the last number
-pub last_number : (count k : ℕ) (s : List ℕ) → count ≡ k + 1 → is_numbers (count - k) s ≡ is_number s
-last_number count k s one =
-    let left : count - k ≡ 1 = omega arith in
-    ap (λ (n : ℕ). is_numbers n s) left ∙ numbers_last s
+  pub too_many : count ≡ k → is_numbers count line ≡ false
+  too_many all = was.some ∙ rw (ne_eqb (suc (length left) + k) count (λ e. omega arith)) refl
 
--- it fills the last place
-pub last_value : (numbers : List ℕ) (k v : ℕ) → length numbers ≡ k + 1 → take k numbers ++ (v ∷ []) ≡ set numbers k v
-last_value numbers k v one =
-    sym (take-suc-set numbers k v (omega arith)) ∙ take_all (suc k) (set numbers k v) (omega (arith, length-set numbers k v))
+module _ (line : List ℕ) (count : ℕ) (numbers : List ℕ) (k : ℕ) (was : Read line count [] numbers k) where
+  pub too_few : k < count → is_numbers count line ≡ false
+  too_few less = was.some ∙ rw (ne_eqb (0 + k) count (λ e. omega arith)) refl
+
+  pub all_fit : count ≡ k → is_numbers count line ≡ true
+  all_fit all = was.some ∙ rw (eq-eqb (0 + k) count (omega arith)) refl
+
+  pub all_values : length numbers ≡ k → numbers ≡ numbers_of line
+  all_values all = sym (was.values ∙ append-nil (take k numbers) ∙ take_all k numbers (omega arith))

@@ -58,9 +58,3 @@ is_line count text = is_numbers count (line_of text)
 -- the numbers of its first line
 abbrev pub line_numbers : List ℕ → List ℕ
 line_numbers text = numbers_of (line_of text)
-
-abbrev pub is_five : List ℕ → Bool
-is_five text = is_numbers 5 (line_of text)
-
-abbrev pub five_of : List ℕ → List ℕ
-five_of text = numbers_of (line_of text)

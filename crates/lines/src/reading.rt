@@ -1,157 +1,66 @@
 // A text's first line as so many decimal numbers.
-ghost use Rattle.std.specs.Prelude.{◌≡◌, true, ◌&&◌, ◌<◌, ◌≤◌, ltb, length};
-ghost use Rattle.lines.specs.Reading.{earliest_of, all_digits, value_of, is_number, is_numbers, numbers_of, is_five, five_of, is_line, line_numbers};
-
-const NEWLINE: u8 = 10;
-
-const SPACE: u8 = 32;
+ghost use Rattle.std.specs.Prelude.{◌≡◌, true, ◌&&◌, ◌<◌, ◌≤◌, ltb, length, if◌then◌else◌, IsSome, ◌↔◌};
+ghost use Rattle.lines.specs.Reading.{earliest_of, all_digits, value_of, is_number, is_numbers, numbers_of, is_line, line_numbers};
 
 // A part of one byte may be the digit 0; in a longer one it would lead.
 const ONE_BYTE: usize = 1;
-
-// The least number that doesn't fit 32 bits.
-const TOO_LARGE: u64 = 4294967296;
-
-#[derive(Clone, Copy)]
-pub struct Number {
-    pub ok: bool,
-    pub value: u32,
-}
-
-// The numbers mean something only where `ok` is true.
-#[derive(Clone, Copy)]
-pub struct Five {
-    pub ok: bool,
-    pub numbers: [u32; 5],
-}
 
 // The place of the first byte b, and the text's length where there is none.
 fn first_of(text: &[u8], b: u8) -> usize
     ensures value { result ≡ earliest_of b text.now }
     ensures most { result ≤ length text.now }
 {
-    let mut i = 0;
-    while i < text.len() {
-        if text[i] == b {
-            return i;
-        }
-        i += 1;
-    }
-    i
+    text.iter().position(|&c| c == b).unwrap_or(text.len())
 }
 
-// The value of digits. Reading ends where it is too large for 32 bits, since more digits only make it larger.
-fn value_of(part: &[u8]) -> Number
-    ensures ok_value { result.ok ≡ (all_digits part.now && ltb (value_of part.now) 4294967296) }
-    ensures value { result.ok ≡ true → result.value ≡ value_of part.now }
+// The value of digits, where it fits 32 bits.
+#[tactic(auto, using(crate::proofs::Values::readings))]
+fn value_of(part: &[u8]) -> Option<u32>
+    ensures { result ≡ (if all_digits part.now && ltb (value_of part.now) 4294967296 then Some (value_of part.now) else None) }
 {
-    let mut value: u64 = 0;
-    let mut i = 0;
-    while i < part.len() {
-        let b = part[i];
-        if b < 48 {
-            return Number {
-                ok: false,
-                value: 0,
-            };
+    let mut value = 0u32;
+    for &b in part {
+        if !b.is_ascii_digit() {
+            return None;
         }
-        if 57 < b {
-            return Number {
-                ok: false,
-                value: 0,
-            };
-        }
-        value = value * 10 + (b - 48) as u64;
-        if TOO_LARGE <= value {
-            return Number {
-                ok: false,
-                value: 0,
-            };
-        }
-        i += 1;
+        value = value.checked_mul(10)?.checked_add(u32::from(b - b'0'))?;
     }
-    Number {
-        ok: true,
-        value: value as u32,
-    }
+    Some(value)
 }
 
 // A number has one digit or more, and no zero in front of others.
-pub fn number_of(part: &[u8]) -> Number
-    ensures ok_value { result.ok ≡ is_number part.now }
-    ensures value { result.ok ≡ true → result.value ≡ value_of part.now }
+#[tactic(auto, using(crate::proofs::Numbers::number_empty, crate::proofs::Numbers::number_led, crate::proofs::Numbers::number_else))]
+pub fn number_of(part: &[u8]) -> Option<u32>
+    ensures { result ≡ (if is_number part.now then Some (value_of part.now) else None) }
 {
-    if part.len() == 0 {
-        return Number {
-            ok: false,
-            value: 0,
-        };
-    }
-    if ONE_BYTE < part.len() {
-        if part[0] == 48 {
-            return Number {
-                ok: false,
-                value: 0,
-            };
-        }
+    if part.is_empty() || ONE_BYTE < part.len() && part[0] == b'0' {
+        return None;
     }
     value_of(part)
 }
 
-// All numbers but the last have a space after them; the rest of the line is the last, in which a space would be no digit.
-fn numbers_on(line: &[u8], numbers: &mut [u32]) -> bool
-    requires { 0 < length numbers.old }
-    ensures value { result ≡ is_numbers (length numbers.old) line.now }
-    ensures values { result ≡ true → numbers.new ≡ numbers_of line.now }
+// A line as one number for each place, with a space between two.
+fn numbers_on(line: &[u8], numbers: &mut [u32]) -> Option<()>
+    ensures some { IsSome result ↔ (is_numbers (length numbers.old) line.now ≡ true) }
+    ensures values { IsSome result → numbers.new ≡ numbers_of line.now }
 {
-    let last = numbers.len() - 1;
-    let mut at = 0;
-    let mut k = 0;
-    while k < last {
-        let rest = &line[at..];
-        let end = first_of(rest, SPACE);
-        if end == rest.len() {
-            return false;
-        }
-        let part = number_of(&rest[..end]);
-        if !part.ok {
-            return false;
-        }
-        numbers[k] = part.value;
-        at += end + 1;
-        k += 1;
+    let mut parts = line.split(|&b| b == b' ');
+    for number in numbers.iter_mut() {
+        *number = number_of(parts.next()?)?;
     }
-    let part = number_of(&line[at..]);
-    numbers[last] = part.value;
-    part.ok
+    match parts.next() {
+        None => Some(()),
+        Some(_) => None,
+    }
 }
 
-// A text's first line as so many numbers as there is room for. What stands after the first newline isn't looked at.
-// The numbers mean something only where the answer is true.
-pub fn numbers_of(text: &[u8], numbers: &mut [u32]) -> bool
-    requires { 0 < length numbers.old }
-    ensures value { result ≡ is_line (length numbers.old) text.now }
-    ensures values { result ≡ true → numbers.new ≡ line_numbers text.now }
+// A text's first line as so many numbers. What stands after the first newline isn't looked at.
+#[tactic(auto, unfolding(crate::specs::Reading::line_of))]
+pub fn numbers_of<const N: usize>(text: &[u8]) -> Option<[u32; N]>
+    ensures { result ≡ (if is_line N text.now then Some (line_numbers text.now) else None) }
 {
-    let line_end = first_of(text, NEWLINE);
-    numbers_on(&text[..line_end], numbers)
-}
-
-// Four numbers with a space after each; then the rest of the line is the fifth, in which a space would be no digit.
-fn five_on(line: &[u8]) -> Five
-    ensures ok_value { result.ok ≡ is_numbers 5 line.now }
-    ensures values { result.ok ≡ true → result.numbers ≡ numbers_of line.now }
-{
-    let mut numbers = [0u32; 5];
-    let ok = numbers_on(line, &mut numbers);
-    Five { ok, numbers }
-}
-
-// What stands after the first newline isn't looked at.
-pub fn five_of(text: &[u8]) -> Five
-    ensures ok_value { result.ok ≡ is_five text.now }
-    ensures values { is_five text.now ≡ true → result.numbers ≡ five_of text.now }
-{
-    let end = first_of(text, NEWLINE);
-    five_on(&text[..end])
+    let mut numbers = [0; N];
+    let end = first_of(text, b'\n');
+    numbers_on(&text[..end], &mut numbers)?;
+    Some(numbers)
 }

@@ -1,85 +1,99 @@
-// Text put at a place of a lent slice. Each function answers the place after it.
+// Text put into a lent slice, piece after piece.
 ghost use Rattle.std.specs.Prelude.{◌≡◌, ◌+◌, ◌*◌, ◌≤◌, length};
-ghost use Rattle.std.proofs.lemmas.List.Edits.{sets};
 ghost use Rattle.lines.specs.Writing.{decimal, named, refused_text, spaced, row};
+ghost use Rattle.lines.specs.Pages.{HasRoom, Puts};
 
-pub fn put_bytes(out: &mut [u8], at: usize, bytes: &[u8]) -> usize
-    requires { at + length bytes.now ≤ length out.old }
-    ensures { (out.new ≡ sets out.old at bytes.now) × (result ≡ at + length bytes.now) }
-{
-    let mut i = 0;
-    while i < bytes.len() {
-        out[at + i] = bytes[i];
-        i += 1;
+const NEWLINE: u8 = b'\n';
+
+// A lent slice whose front is written. std's writers may fail; here callers show that there is room, so nothing fails.
+#[derive(Drop)]
+pub struct Page<'a> {
+    pub out: &'a mut [u8],
+    pub len: usize,
+}
+
+impl<'a> Page<'a> {
+    pub fn new(out: &'a mut [u8]) -> Page<'a>
+        ensures same { result.out.ghost_name ≡ out.entry.ghost_name }
+        ensures lent { result.out.now ≡ out.old }
+        ensures blank { result.len ≡ 0 }
+    {
+        Page { out, len: 0 }
     }
-    at + i
-}
 
-// The digits are found from the last to the first, so they're gathered from the end of ten places.
-pub fn put_decimal(out: &mut [u8], at: usize, value: u32) -> usize
-    requires { at + 10 ≤ length out.old }
-    ensures out_after { (out.new ≡ sets out.old at (decimal value)) × (result ≡ at + length (decimal value)) }
-    ensures most { result ≤ at + 10 }
-{
-    let mut digits = [0u8; 10];
-    let mut start = 10;
-    let mut left = value;
-    while 10 <= left {
-        start -= 1;
-        digits[start] = 48 + (left % 10) as u8;
-        left = left / 10;
+    #[tactic(auto, using(crate::proofs::Runs::part_sets))]
+    pub fn put(&mut self, bytes: &[u8])
+        requires { HasRoom self.old (length bytes.now) }
+        ensures { Puts self.old self.new bytes.now }
+    {
+        let end = self.len + bytes.len();
+        self.out[self.len..end].copy_from_slice(bytes);
+        self.len = end;
     }
-    start -= 1;
-    digits[start] = 48 + left as u8;
-    put_bytes(out, at, &digits[start..])
-}
 
-// A name, a number and a newline.
-pub fn put_named(out: &mut [u8], from: usize, name: &[u8], number: u32) -> usize
-    requires { from + length name.now + 11 ≤ length out.old }
-    ensures out_after { (out.new ≡ sets out.old from (named name.now number))
-        × (result ≡ from + length (named name.now number)) }
-    ensures most { result ≤ from + length name.now + 11 }
-{
-    let digits = put_bytes(&mut *out, from, name);
-    let newline = put_decimal(&mut *out, digits, number);
-    put_bytes(out, newline, b"\n")
-}
-
-// The line of a refusal, at the front.
-pub fn put_refused(number: u32, out: &mut [u8]) -> usize
-    requires { 19 ≤ length out.old }
-    ensures out_after { (out.new ≡ sets out.old 0 (refused_text number)) × (result ≡ length (refused_text number)) }
-    ensures most { result ≤ 19 }
-{
-    put_named(out, 0, b"refused ", number)
-}
-
-// A space and a number, for each of them.
-fn put_spaced(out: &mut [u8], from: usize, numbers: &[u32]) -> usize
-    requires { from + 11 * length numbers.now ≤ length out.old }
-    ensures out_after { (out.new ≡ sets out.old from (spaced numbers.now))
-        × (result ≡ from + length (spaced numbers.now)) }
-    ensures most { result ≤ from + 11 * length numbers.now }
-{
-    let mut at = from;
-    let mut i = 0;
-    while i < numbers.len() {
-        let digits = put_bytes(&mut *out, at, b" ");
-        at = put_decimal(&mut *out, digits, numbers[i]);
-        i += 1;
+    // The digits of a number, the last of them after all others.
+    #[tactic(auto, using(crate::proofs::Runs::then, crate::proofs::Decimals::spellings))]
+    fn put_digits(&mut self, number: u32)
+        requires { HasRoom self.old (length (decimal number)) }
+        ensures { Puts self.old self.new (decimal number) }
+    {
+        if number < 10 {
+            return self.put(&[b'0' + number as u8]);
+        }
+        self.put_digits(number / 10);
+        self.put(&[b'0' + (number % 10) as u8]);
     }
-    at
-}
 
-// A name, the numbers, each after a space, and a newline.
-pub fn put_row(out: &mut [u8], from: usize, name: &[u8], numbers: &[u32]) -> usize
-    requires { from + length name.now + 11 * length numbers.now + 1 ≤ length out.old }
-    ensures out_after { (out.new ≡ sets out.old from (row name.now numbers.now))
-        × (result ≡ from + length (row name.now numbers.now)) }
-    ensures most { result ≤ from + length name.now + 11 * length numbers.now + 1 }
-{
-    let rest = put_bytes(&mut *out, from, name);
-    let end = put_spaced(&mut *out, rest, numbers);
-    put_bytes(out, end, b"\n")
+    #[tactic(auto, using(crate::proofs::Decimals::decimal_most))]
+    pub fn put_number(&mut self, number: u32)
+        requires { HasRoom self.old 10 }
+        ensures puts { Puts self.old self.new (decimal number) }
+        ensures most { self.new.len ≤ self.old.len + 10 }
+    {
+        self.put_digits(number);
+    }
+
+    // A name, a number and a newline.
+    pub fn put_named(&mut self, name: &[u8], number: u32)
+        requires { HasRoom self.old (length name.now + 11) }
+        ensures puts { Puts self.old self.new (named name.now number) }
+        ensures most { self.new.len ≤ self.old.len + length name.now + 11 }
+    {
+        self.put(name);
+        self.put_number(number);
+        self.put(&[NEWLINE]);
+    }
+
+    // The line of a refusal.
+    #[tactic(auto, unfolding(crate::specs::Writing::refused_text))]
+    pub fn put_refused(&mut self, number: u32)
+        requires { HasRoom self.old 19 }
+        ensures puts { Puts self.old self.new (refused_text number) }
+        ensures most { self.new.len ≤ self.old.len + 19 }
+    {
+        self.put_named(b"refused ", number);
+    }
+
+    // A space and a number, for each of them.
+    fn put_spaced(&mut self, numbers: &[u32])
+        requires { HasRoom self.old (11 * length numbers.now) }
+        ensures puts { Puts self.old self.new (spaced numbers.now) }
+        ensures most { self.new.len ≤ self.old.len + 11 * length numbers.now }
+    {
+        for &number in numbers {
+            self.put(b" ");
+            self.put_number(number);
+        }
+    }
+
+    // A name, the numbers, each after a space, and a newline.
+    pub fn put_row(&mut self, name: &[u8], numbers: &[u32])
+        requires { HasRoom self.old (length name.now + 11 * length numbers.now + 1) }
+        ensures puts { Puts self.old self.new (row name.now numbers.now) }
+        ensures most { self.new.len ≤ self.old.len + length name.now + 11 * length numbers.now + 1 }
+    {
+        self.put(name);
+        self.put_spaced(numbers);
+        self.put(&[NEWLINE]);
+    }
 }

@@ -1,3 +1,3 @@
-mod Joins
+mod Counts
 mod FirstRefusal
 mod Texts

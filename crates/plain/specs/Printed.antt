@@ -3,8 +3,8 @@ use Rattle.std.specs.Prelude.{ℕ, zero, suc, ◌+◌, ◌%◌, ◌&&◌, cond, 
 use Rattle.field.specs.Width.{listed, modulus}
 use Rattle.encoding.specs.Matching.{indicator}
 use Rattle.protocol.specs.Rounds.{last_round, round_words}
-use Rattle.lines.specs.Reading.{is_five, five_of}
-use Rattle.lines.specs.Writing.{decimal}
+use Rattle.lines.specs.Reading.{is_line, line_numbers}
+use Rattle.lines.specs.Writing.{decimal, refused_text}
 
 -- the number of the first refusal, 0 where there is none: 2 for a width that is not listed or is above 13, 9 for a share that is p or more
 unfoldable pub plain_refusal : ℕ → ℕ → ℕ → ℕ → ℕ → ℕ
@@ -20,10 +20,6 @@ plain_less n x1 x2 y1 y2 = indicator (ltb ((x1 + x2) % modulus n) ((y1 + y2) % m
 -- the answer, and 0 where there is a refusal
 unfoldable pub plain_answer : ℕ → ℕ → ℕ → ℕ → ℕ → ℕ
 plain_answer n x1 x2 y1 y2 = cond (eqb (plain_refusal n x1 x2 y1 y2) 0) (plain_less n x1 x2 y1 y2) 0
-
--- `refused `, the number, a newline
-unfoldable pub refused_text : ℕ → List ℕ
-refused_text k = (114 ∷ 101 ∷ 102 ∷ 117 ∷ 115 ∷ 101 ∷ 100 ∷ 32 ∷ []) ++ decimal k ++ (10 ∷ [])
 
 -- a space and the words of a round, for the first so many rounds
 unfoldable pub counts : ℕ → ℕ → List ℕ
@@ -47,5 +43,5 @@ text_for n x1 x2 y1 y2 =
 
 unfoldable pub printed : List ℕ → List ℕ
 printed text =
-    let five = five_of text in
-    cond (is_five text) (text_for (get_or five 0 0) (get_or five 1 0) (get_or five 2 0) (get_or five 3 0) (get_or five 4 0)) (refused_text 0)
+    let five = line_numbers text in
+    cond (is_line 5 text) (text_for (get_or five 0 0) (get_or five 1 0) (get_or five 2 0) (get_or five 3 0) (get_or five 4 0)) (refused_text 0)

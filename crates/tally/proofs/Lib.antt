@@ -1,3 +1,4 @@
 pub mod Around
 pub mod Marks
 pub mod Late
+pub mod Bytes

@@ -1,3 +1,4 @@
 pub mod Tally
 pub mod Cuts
 pub mod Highest
+pub mod Bytes

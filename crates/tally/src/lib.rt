@@ -1,8 +1,10 @@
 // The tally: bytes 4j to 4j + 3 are the mark of tape number j (document 02, P6).
 #![tactic(auto)]
 
-ghost use Rattle.std.specs.Prelude.{◌≡◌, true, [], ◌∷◌, ◌<◌, length};
+ghost use Rattle.std.specs.Prelude.{◌≡◌, true, not, [], ◌∷◌, ◌<◌, length, reverse};
+ghost use Rattle.std.specs.List.{list_any};
 ghost use Rattle.tally.specs.Tally.{mark_bytes, tally_fits, tapes_of, is_fresh, late, marked, fresh_count};
+ghost use Rattle.tally.specs.Bytes.{marks_of};
 
 // The bytes of a mark: the board's memory writes in groups of so many.
 pub const MARK_BYTES: usize = 4;
@@ -28,28 +30,43 @@ pub fn tapes_of(length: usize) -> usize
     length / MARK_BYTES
 }
 
+// The marks, tape by tape.
+fn marks_in(tally: &[u8]) -> &[[u8; MARK_BYTES]]
+    ensures value { result.now ≡ marks_of tally.now }
+    ensures long { length result.now ≡ tapes_of (length tally.now) }
+{
+    tally.as_chunks::<MARK_BYTES>().0
+}
+
 // Whether all four bytes are FF. They are looked at together, so that the compiler reads a mark as one word.
+fn all_ff(mark: [u8; MARK_BYTES]) -> bool
+    ensures { result ≡ is_fresh mark 0 }
+{
+    let [first, second, third, fourth] = mark;
+    first & second & third & fourth == FRESH
+}
+
+// Whether a tape can still be used.
 pub fn is_fresh(tally: &[u8], number: usize) -> bool
     requires { number < tapes_of (length tally.now) }
     ensures { result ≡ is_fresh tally.now number }
 {
-    let at = MARK_BYTES * number;
-    tally[at] & tally[at + 1] & tally[at + 2] & tally[at + 3] == FRESH
+    all_ff(marks_in(tally)[number])
 }
 
-// Whether a tape above it is spent: document 02's late (P4). The marks are read from the last one down, to the first that is spent.
+// Whether one of the marks is spent: they are read from the last one down, to the first that is.
+fn any_spent(marks: &[[u8; MARK_BYTES]]) -> bool
+    ensures { result ≡ list_any (λ mark. not (is_fresh mark 0)) (reverse marks.now) }
+{
+    marks.iter().rev().any(|mark| !all_ff(*mark))
+}
+
+// Whether a tape above it is spent: document 02's late (P4).
 pub fn is_late(tally: &[u8], number: usize) -> bool
     requires { number < tapes_of (length tally.now) }
     ensures { result ≡ late tally.now number }
 {
-    let mut above = tapes_of(tally.len()) - 1;
-    while number < above {
-        if !is_fresh(tally, above) {
-            return true;
-        }
-        above -= 1;
-    }
-    false
+    any_spent(&marks_in(tally)[number + 1..])
 }
 
 // How many tapes are fresh.
@@ -57,16 +74,7 @@ pub fn fresh_count(tally: &[u8]) -> u32
     requires { tally_fits (length tally.now) ≡ true }
     ensures { result ≡ fresh_count tally.now }
 {
-    let tapes = tapes_of(tally.len());
-    let mut count: u32 = 0;
-    let mut number = 0;
-    while number < tapes {
-        if is_fresh(tally, number) {
-            count += 1;
-        }
-        number += 1;
-    }
-    count
+    marks_in(tally).iter().filter(|mark| all_ff(**mark)).count() as u32
 }
 
 // Marks a tape as spent: its mark alone is lent on.
@@ -84,8 +92,5 @@ fn write(mark: &mut [u8])
     requires { length mark.old ≡ mark_bytes }
     ensures { mark.new ≡ 0 ∷ 0 ∷ 0 ∷ 0 ∷ [] }
 {
-    mark[0] = SPENT;
-    mark[1] = SPENT;
-    mark[2] = SPENT;
-    mark[3] = SPENT;
+    mark.copy_from_slice(&[SPENT; MARK_BYTES]);
 }

@@ -2,7 +2,6 @@
 ghost use Rattle.std.specs.Prelude.{◌≡◌, true, false};
 ghost use Rattle.vectors.specs.Deal.{deal_told, deal_agreed, headed, AgreeingDeal};
 
-use refusals::Check;
 use std::rt::Files;
 
 // What came of a deal's file: whether it agrees, and the numbers that its text names.
@@ -70,8 +69,7 @@ fn dealt_same(text: &[u8], from: usize, seed: u32, n: u32, pair: u32, number: u3
     let len = tape::tape_words(n);
     let mut t1 = exchange::memory::blank_tape();
     let mut t2 = exchange::memory::blank_tape();
-    let check = deals::deal(seed, n, pair, number, &mut t1[..len], &mut t2[..len]);
-    if let Check::Refused(_) = check {
+    if deals::deal(seed, n, pair, number, &mut t1[..len], &mut t2[..len]).is_err() {
         return false;
     }
     let c = crate::numbers::both_same(text, from, len, &t1, &t2);

@@ -52,12 +52,11 @@ pub fn next(text: &[u8], from: usize) -> Number
         return none;
     }
     let end = past(text, start, true);
-    let part = lines::reading::number_of(&text[start..end]);
-    if !part.ok {
+    let Some(value) = lines::reading::number_of(&text[start..end]) else {
         return none;
-    }
+    };
     Number {
-        value: part.value,
+        value,
         at: end,
         ok: true,
     }

@@ -1,5 +1,6 @@
 -- What is told of a deal is its rule's: both buffers are full of filler before it, so they are kept where they are full of it after.
 use Prim.Native.Nat.{ℕ, zero, suc, ◌≤◌}
+use Rattle.std.specs.Prelude.{Result, ⊤}
 use mathlib.Core.Path.{◌≡◌, refl, sym, ap, ◌∙◌}
 use mathlib.Core.Bool.{Bool, true, ◌&&◌}
 use mathlib.Core.List.{List, ◌∷◌}
@@ -8,7 +9,7 @@ use native.Mathlib.Omega.{arith}
 use lib.ListN.{length, take, length-replicate}
 use Rattle.lists.proofs.Tests.{and_left, and_right, and_both}
 use Rattle.refusals.specs.Checks.{ground_of}
-use Rattle.refusals.specs.declared.Check.{Check}
+use Rattle.refusals.specs.declared.Refusal.{Refusal}
 use Rattle.deals.specs.Deals.{Deal, outcome}
 use Rattle.walk.specs.Walk.{filler}
 use Rattle.walk.specs.declared.dealing.Attempt.{Attempt}
@@ -24,7 +25,7 @@ seen {old} {new} full long told =
     let same : filler (length old) ≡ filler (length new) = ap filler (sym long) in
     (λ t. full ∙ same ∙ sym (told.0 t), λ e. told.1 (sym e ∙ full ∙ same))
 
-pub told : (check : Check) (first second : Bool) {t1 t2 new1 new2 : List ℕ} {rule : Deal} (refusal : ℕ) (kept : Bool)
+pub told : (check : Result ⊤ Refusal) (first second : Bool) {t1 t2 new1 new2 : List ℕ} {rule : Deal} (refusal : ℕ) (kept : Bool)
     → outcome check new1 new2 ≡ rule → refusal ≡ ground_of check → kept ≡ (first && second)
     → t1 ≡ filler (length t1) → t2 ≡ filler (length t2) → length new1 ≡ length t1 → length new2 ≡ length t2
     → (first ≡ true → new1 ≡ filler (length new1)) × (new1 ≡ filler (length new1) → first ≡ true)

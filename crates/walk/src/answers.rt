@@ -31,7 +31,7 @@ fn number_in(answer: Answer) -> u32
         Answer::Heard => 0,
         Answer::Share(word) => word,
         Answer::Dropped => 0,
-        Answer::Refused(refusal) => refusals::number_of(refusal),
+        Answer::Refused(refusal) => u32::from(refusal),
     }
 }
 

@@ -6,7 +6,7 @@ ghost use Rattle.walk.specs.Deals.{dealt, Told};
 
 use crate::calls::{FILLER, untouched};
 use crate::say::{number, text};
-use refusals::Check;
+use refusals::Refusal;
 
 #[derive(Clone, Copy)]
 pub struct Attempt {
@@ -16,12 +16,12 @@ pub struct Attempt {
     pub kept: bool,
 }
 
-fn refusal_of(check: Check) -> u32
+fn refusal_of(check: Result<(), Refusal>) -> u32
     ensures { result ≡ ground_of check }
 {
     match check {
-        Check::Passed => 0,
-        Check::Refused(refusal) => refusals::number_of(refusal),
+        Ok(()) => 0,
+        Err(refusal) => u32::from(refusal),
     }
 }
 

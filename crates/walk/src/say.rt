@@ -29,7 +29,7 @@ pub fn answer(answer: Answer) {
         Answer::Heard => text(b"heard"),
         Answer::Share(_) => text(b"share"),
         Answer::Dropped => text(b"dropped"),
-        Answer::Refused(refusal) => number(b"refused ", refusals::number_of(refusal)),
+        Answer::Refused(refusal) => number(b"refused ", u32::from(refusal)),
     }
 }
 

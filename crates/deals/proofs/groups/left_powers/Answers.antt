@@ -1,6 +1,6 @@
 use Prim.Native.Nat.{ℕ, ◌+◌, ◌*◌, ◌%◌, ◌^◌, ◌<◌}
 use mathlib.Core.Path.{◌≡◌, refl, sym, ap, ◌∙◌}
-use native.Mathlib.Nat.{zero-add, le_of_lt, mod-eq_of_lt, pow-zero, pow-suc}
+use native.Mathlib.Nat.{zero-add, mod-eq_of_lt, pow-zero, pow-suc}
 use native.Mathlib.Numerals.{add-one}
 use native.Mathlib.Omega.{arith}
 use lib.ListN.{length, get_or}
@@ -33,14 +33,6 @@ loop-j-init c =
       stored = stored_none;
     }
 
-pub sub-requires : goal.sub-requires
-sub-requires c =
-    (c.requires.n_value.0, c.loop-j.invariant.total_below, le_of_lt (c.requires.below c.loop-j.j c.loop-j-test.true))
-
-pub mul-power-requires : goal.mul-power-requires
-mul-power-requires c =
-    (c.requires.n_value.0, c.loop-j.invariant.power_below, c.requires.n_value.2)
-
 pub loop-j-preserved : goal.loop-j-preserved
 loop-j-preserved c =
     let h = c.loop-j.invariant in
@@ -53,11 +45,11 @@ loop-j-preserved c =
       total_below = c.mul-power.ensures.below;
       power_is = power;
       power_below = c.mul-power.ensures.below;
-      stored = stored_more h.stored _ _ c.loop-j-test.true (sym (zero-add j))
+      stored = stored_more h.stored _ _ (omega (arith, c.loop-j-test.true, c.requires.n_value.3)) (sym (zero-add j))
           (c.sub.ensures.value ∙ ap (λ (total : ℕ). minus c.args.n total (get_or c.args.w1.now j 0)) h.total_is);
     }
 
 pub returns : goal.returns
 returns c =
     let all = length c.args.w1.now in
-    stored_all c.loop-j.invariant.stored c.loop-j-test.false ∙ sets_whole c.args.w2.now _ (length_tabulate all _ ∙ sym c.requires.n_value.3)
+    stored_all c.loop-j.invariant.stored (omega (arith, c.loop-j-test.false, c.requires.n_value.3)) ∙ sets_whole c.args.w2.now _ (length_tabulate all _ ∙ sym c.requires.n_value.3)

@@ -1,5 +1,5 @@
 -- `deals::groups::left_powers` meets its contract: each turn leaves box 1's word of one power.
-use Prim.Native.Nat.{ℕ, ◌-◌, ◌%◌, ◌^◌, ◌<◌}
+use Prim.Native.Nat.{ℕ, ◌%◌, ◌^◌, ◌<◌}
 use mathlib.Core.Path.{◌≡◌}
 use mathlib.Core.List.{List}
 use lib.ListN.{length, get_or}
@@ -19,6 +19,3 @@ pub record Turn (n w r : ℕ) (w1 w2₀ w2 : List ℕ) (total power j : ℕ) : T
 
 abbrev pub invariant-loop-j : goal.invariant-loop-j
 invariant-loop-j l = Turn l.n l.w l.r l.w1 l.initial.w2 l.w2 l.total l.power l.j
-
-abbrev pub decreases-loop-j : goal.decreases-loop-j
-decreases-loop-j l = length l.w1 - l.j

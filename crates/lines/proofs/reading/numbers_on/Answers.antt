@@ -1,87 +1,51 @@
-use Prim.Native.Nat.{ℕ, ◌+◌, ◌-◌}
-use mathlib.Core.Path.{◌≡◌, refl, sym, ap, ◌∙◌}
-use mathlib.Core.Bool.{false≢true}
-use mathlib.Core.List.{List, [], ◌∷◌, ◌++◌}
-use native.Mathlib.Nat.{sub-zero}
-use native.Mathlib.Omega.{arith}
-use borrow.Author.Tests.{not-true, not-false}
-use lib.ListN.{length, take, drop, length-drop, length-set}
-use lib.Seq.{length-take-le}
-use Rattle.lines.specs.Reading.{earliest_of, value_of, is_number, is_numbers, numbers_of}
-use Rattle.lines.proofs.Parts.{Ended, numbers_not, values_last}
-use Rattle.lines.proofs.Turns.{rest_whole, turn_short, turn_numbers, turn_values, last_number, last_value}
-use Rattle.lines.proofs.reading.numbers_on.Goals.{After-number_of-part, Else-end-rest}
+use Rattle.std.proofs.Common.{[], ◌∷◌, length, cond, refl, sym, rules, arith}
+use Rattle.std.proofs.lemmas.Fn.{always_returns_same}
+use Rattle.std.proofs.lemmas.Option.{cond_some}
+use Rattle.lines.specs.Reading.{parts_of, value_of, is_number}
+use Rattle.lines.proofs.Turns.{Read, begin, turn, no_number, too_many, too_few, all_fit, all_values}
+use Rattle.lines.proofs.Parts.{is_space, parts_next}
+use Rattle.lines.proofs.reading.numbers_on.Goals.{In_ok-next}
 use Rattle.lines.proofs.reading.numbers_on.Goals as goal
 
--- a space ends the next part: the code lends what is left of the line as a part that ends with it
-part_ends : (c : Else-end-rest) → Ended (drop c.loop-k.at c.args.line.now) c.first_of-end.result
-part_ends c =
-    let long = length-drop c.loop-k.at c.args.line.now in
-    record { first = c.first_of-end.ensures.value ∙ ap (earliest_of 32) (rest_whole c.args.line.now c.loop-k.at); less = omega (arith, long, c.first_of-end.ensures.most, c.if-end-rest.false) }
+-- with the part that was taken in front of those that are left
+next_read : (c : In_ok-next)
+    → let rest = c.next.new.self in
+    Read c.args.line.now (length c.args.numbers.now) (c.in_ok-next.field-0.now ∷ cond rest.done [] (parts_of rest.rest.now)) c.loop-number.numbers c.loop-number.number-index
+next_read c =
+    let took = c.in_ok-next.ensures.steps in
+    let parts = parts_next c.loop-number.parts.rest.now c.in_ok-next.field-0.now c.next.new.self.rest.now c.next.new.self.done took.1 (took.2 is_space (always_returns_same _ _ _ (λ a r q k. search rules))).1 in
+    rw (took.0, parts) at c.loop-number.invariant
 
--- whether that part is a number
-part_fits : (c : After-number_of-part) → is_number (take c.first_of-end.result (drop c.loop-k.at c.args.line.now)) ≡ c.number_of-part.result.ok
-part_fits c =
-    ap (λ (s : List ℕ). is_number (take c.first_of-end.result s)) (sym (rest_whole c.args.line.now c.loop-k.at)) ∙ sym c.number_of-part.ensures.ok_value
+pub loop-number-init : goal.loop-number-init
+loop-number-init c = rw (c.split-parts.ensures.done, c.split-parts.ensures.rest) (begin c.args.line.now (length c.args.numbers.now) c.args.numbers.now)
 
-pub loop-k-init : goal.loop-k-init
-loop-k-init c =
-    let a = c.args in
-    (omega arith, omega arith, refl, ap (λ (n : ℕ). is_numbers n a.line.now) (sym (sub-zero (length a.numbers.now))), refl)
+pub returns-in_err-next-clause-some : goal.returns-in_err-next-clause-some
+returns-in_err-next-clause-some c =
+    let none = too_few _ _ _ _ (rw (c.in_err-next.ensures.steps.0) at c.loop-number.invariant) c.loop-number-test.true in
+    rw (none, c.from_residual.ensures) (λ h. h, λ h. h)
 
-pub returns-then-end-rest : goal.returns-then-end-rest
-returns-then-end-rest c =
-    let a = c.args in
-    let rest = drop c.loop-k.at c.args.line.now in
-    let all : earliest_of 32 rest ≡ length rest =
-    omega (arith, ap (earliest_of 32) (rest_whole c.args.line.now c.loop-k.at), length-drop c.loop-k.at a.line.now, c.first_of-end.ensures.value, c.if-end-rest.true) in
-    let short = turn_short (length a.numbers.now) c.loop-k.k rest (omega arith) all in
-    record { value = sym (c.loop-k.invariant.3 ∙ short); values = λ e. absurd (false≢true e) }
+pub returns-in_err-number-clause-some : goal.returns-in_err-number-clause-some
+returns-in_err-number-clause-some c =
+    let none = no_number _ _ _ _ _ _ (next_read (goal.at.returns-in_err-number-clause-some c).In_ok-next) (grind arith) in
+    rw (none, c.from_residual-in_err-number.ensures) (λ h. h, λ h. h)
 
-pub slice_bounds-number_of-end : goal.slice_bounds-number_of-end
-slice_bounds-number_of-end c = sym (length-take-le _ _ c.first_of-end.ensures.most)
+pub loop-number-preserved : goal.loop-number-preserved
+loop-number-preserved c =
+    let fits = cond_some (is_number c.in_ok-next.field-0.now) (value_of c.in_ok-next.field-0.now) c.in_ok-number.field-0 (sym c.in_ok-number.ensures) in
+    let was = next_read (goal.at.loop-number-preserved c).In_ok-next in
+    rw (← fits.1) (turn _ _ _ _ _ _ was fits.0 (omega arith))
 
-pub returns-then-not-part : goal.returns-then-not-part
-returns-then-not-part c =
-    let ended = part_ends (goal.at.returns-then-not-part c).Else-end-rest in
-    let left = length c.args.numbers.now - c.loop-k.k in
-    let not = numbers_not left (drop c.loop-k.at c.args.line.now) c.first_of-end.result ended (part_fits (goal.at.returns-then-not-part c).After-number_of-part ∙ not-true _ c.if-not-part.true) in
-    record { value = sym (c.loop-k.invariant.3 ∙ not); values = λ e. absurd (false≢true e) }
+pub returns-in-None-clause-some : goal.returns-in-None-clause-some
+returns-in-None-clause-some c =
+    let fit = all_fit _ _ _ _ (rw (c.in-None.ensures.steps.0) at c.loop-number.invariant) (omega arith) in
+    (λ h. fit, λ h. refl)
 
-pub loop-k-preserved : goal.loop-k-preserved
-loop-k-preserved c =
-    let ended = part_ends (goal.at.loop-k-preserved c).Else-end-rest in
-    let a = c.args in
-    let line = a.line.now in
-    let at = c.loop-k.at in
-    let k = c.loop-k.k in
-    let e = c.first_of-end.result in
-    let v = c.number_of-part.result.value in
-    let ok = not-false _ c.if-not-part.false in
-    let value : v ≡ value_of (take e (drop at line)) = c.number_of-part.ensures.value ok ∙ ap (λ (s : List ℕ). value_of (take e s)) (rest_whole c.args.line.now c.loop-k.at) in (
-      omega arith,
-      omega (arith, length-drop at line, ended.less),
-      simp length-set c.loop-k.invariant.2,
-      c.loop-k.invariant.3 ∙ turn_numbers line at e ended (length a.numbers.now) k (omega arith) (part_fits (goal.at.loop-k-preserved c).After-number_of-part ∙ ok),
-      c.loop-k.invariant.4 ∙ turn_values line at e ended c.loop-k.numbers k v (omega arith) value,
-    )
+pub returns-in-None-clause-values : goal.returns-in-None-clause-values
+returns-in-None-clause-values c some = all_values _ _ _ _ (rw (c.in-None.ensures.steps.0) at c.loop-number.invariant) (omega arith)
 
-pub returns : goal.returns
-returns c =
-    let a = c.args in
-    let rest = drop c.loop-k.at c.args.line.now in
-    let last = length a.numbers.now - 1 in
-    let n = c.number_of-part-2 in
-    let end : c.loop-k.k ≡ last = omega arith in
-    let one : length a.numbers.now ≡ c.loop-k.k + 1 = omega arith in
-    let full : length c.loop-k.numbers ≡ last + 1 = omega arith in
-    let fits : is_number rest ≡ n.result.ok = ap is_number (sym (rest_whole c.args.line.now c.loop-k.at)) ∙ sym n.ensures.ok_value in record {
-      value = sym (c.loop-k.invariant.3 ∙ last_number (length a.numbers.now) c.loop-k.k rest one ∙ fits);
-      values = λ ok.
-          let value : value_of rest ≡ n.result.value = ap value_of (sym (rest_whole c.args.line.now c.loop-k.at)) ∙ sym (n.ensures.value ok) in
-          sym
-          (c.loop-k.invariant.4
-          ∙ ap (λ (k : ℕ). take k c.loop-k.numbers ++ numbers_of rest) end
-          ∙ ap (λ (s : List ℕ). take last c.loop-k.numbers ++ s) (values_last rest (fits ∙ ok) ∙ ap (λ (v : ℕ). v ∷ []) value)
-          ∙ last_value c.loop-k.numbers last n.result.value full);
-    }
+pub returns-in-Some-clause-some : goal.returns-in-Some-clause-some
+returns-in-Some-clause-some c =
+    let took = c.in-Some.ensures.steps in
+    let parts = parts_next c.loop-number.parts.rest.now c.in-Some.field-0.now c.next-2.new.self.rest.now c.next-2.new.self.done took.1 (took.2 is_space (always_returns_same _ _ _ (λ a r q k. search rules))).1 in
+    let none = too_many _ _ _ _ _ _ (rw (took.0, parts) at c.loop-number.invariant) (omega arith) in
+    rw none (λ h. h, λ h. h)

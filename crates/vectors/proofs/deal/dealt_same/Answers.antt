@@ -10,7 +10,7 @@ use Rattle.field.specs.Width.{listed}
 use Rattle.exchange.proofs.Cut.{Cut, cut}
 use Rattle.vectors.specs.Numbers.{spelled}
 use Rattle.vectors.proofs.Deals.{deal_unlisted, deal_refused, deal_told_lem}
-use Rattle.vectors.proofs.deal.dealt_same.Goals.{After-blank_tape-t2, After-deal-check}
+use Rattle.vectors.proofs.deal.dealt_same.Goals.{After-blank_tape-t2, After-deal}
 use Rattle.vectors.proofs.deal.dealt_same.Goals as goal
 
 -- both tapes are cut to their length
@@ -24,7 +24,7 @@ module _ (b : After-blank_tape-t2) where
   cut2 : Cut b.args.n b.tape_words-len.result b.blank_tape-t2.result
   cut2 = cut _ _ _ width b.tape_words-len.ensures b.blank_tape-t2.ensures
 
-module _ (d : After-deal-check) where
+module _ (d : After-deal) where
   abbrev words : ℕ
   words = d.tape_words-len.result
 
@@ -36,33 +36,33 @@ module _ (d : After-deal-check) where
   old2 = d.blank_tape-t2.result
 
   abbrev new1 : List ℕ
-  new1 = d.deal-check.new.t1
+  new1 = d.deal.new.t1
 
   abbrev new2 : List ℕ
-  new2 = d.deal-check.new.t2
+  new2 = d.deal.new.t2
 
   -- which stands there
   front1 : Cut d.args.n words old1 → take words (new1 ++ drop words old1) ≡ new1
-  front1 cut1 = take_at new1 (drop words old1) words (d.deal-check.auto.t1 ∙ sym cut1.long)
+  front1 cut1 = take_at new1 (drop words old1) words (d.deal.auto.t1 ∙ sym cut1.long)
 
   front2 : Cut d.args.n words old2 → take words (new2 ++ drop words old2) ≡ new2
-  front2 cut2 = take_at new2 (drop words old2) words (d.deal-check.auto.t2 ∙ sym cut2.long)
+  front2 cut2 = take_at new2 (drop words old2) words (d.deal.auto.t2 ∙ sym cut2.long)
 
   -- both buffers are as long as they were
   whole1 : length (new1 ++ drop words old1) ≡ 9053
-  whole1 = length_front old1 new1 words d.deal-check.auto.t1 ∙ d.blank_tape-t1.ensures
+  whole1 = length_front old1 new1 words d.deal.auto.t1 ∙ d.blank_tape-t1.ensures
 
   whole2 : length (new2 ++ drop words old2) ≡ 9053
-  whole2 = length_front old2 new2 words d.deal-check.auto.t2 ∙ d.blank_tape-t2.ensures
+  whole2 = length_front old2 new2 words d.deal.auto.t2 ∙ d.blank_tape-t2.ensures
 
 -- first the comparison itself
 pub returns : goal.returns
 returns c =
     let v = c.args in
     let b = (goal.at.returns c).After-blank_tape-t2 in
-    let d = (goal.at.returns c).After-deal-check in
+    let d = (goal.at.returns c).After-deal in
     deal_told_lem v.seed v.n v.pair v.number _ _ (width b) (cut1 b).whole (cut2 b).whole
-    c.deal-check.result (new1 d) (new2 d) c.deal-check.ensures v.text.now v.from c.both_same-c.result c.in_default.is
+    c.deal.result (new1 d) (new2 d) c.deal.ensures v.text.now v.from c.both_same-c.result (sym c.is_err.ensures.value ∙ c.if-is_err.false)
     (c.both_same-c.ensures ∙ ap₂ (λ (x y : List ℕ). spelled v.text.now v.from (x ++ y)) (front1 d (cut1 b)) (front2 d (cut2 b)))
 
 pub returns-then-not-is_listed : goal.returns-then-not-is_listed
@@ -70,13 +70,13 @@ returns-then-not-is_listed c =
     let v = c.args in
     deal_unlisted v.text.now v.from v.seed v.n v.pair v.number (sym c.is_listed.ensures ∙ c.if-not-is_listed.true)
 
-pub returns-in-Refused : goal.returns-in-Refused
-returns-in-Refused c =
+pub returns-then-is_err : goal.returns-then-is_err
+returns-then-is_err c =
     let v = c.args in
-    let b = (goal.at.returns-in-Refused c).After-blank_tape-t2 in
-    let d = (goal.at.returns-in-Refused c).After-deal-check in
+    let b = (goal.at.returns-then-is_err c).After-blank_tape-t2 in
+    let d = (goal.at.returns-then-is_err c).After-deal in
     deal_refused v.seed v.n v.pair v.number _ _ (width b) (cut1 b).whole (cut2 b).whole
-    c.deal-check.result (new1 d) (new2 d) c.deal-check.ensures v.text.now v.from _ c.in-Refused.is
+    c.deal.result (new1 d) (new2 d) c.deal.ensures v.text.now v.from (sym c.is_err.ensures.value ∙ c.if-is_err.true)
 
 pub tape_words-len-requires : goal.tape_words-len-requires
 tape_words-len-requires c = sym c.is_listed.ensures ∙ c.if-not-is_listed.false
@@ -94,15 +94,15 @@ pub slice_bounds-deal-end-2 : goal.slice_bounds-deal-end-2
 slice_bounds-deal-end-2 c = (cut2 (goal.at.slice_bounds-deal-end-2 c).After-blank_tape-t2).long
 
 pub slice_bounds-both_same-end : goal.slice_bounds-both_same-end
-slice_bounds-both_same-end c = sym (whole1 (goal.at.slice_bounds-both_same-end c).After-deal-check)
+slice_bounds-both_same-end c = sym (whole1 (goal.at.slice_bounds-both_same-end c).After-deal)
 
 pub slice_bounds-both_same-end-2 : goal.slice_bounds-both_same-end-2
-slice_bounds-both_same-end-2 c = sym (whole2 (goal.at.slice_bounds-both_same-end-2 c).After-deal-check)
+slice_bounds-both_same-end-2 c = sym (whole2 (goal.at.slice_bounds-both_same-end-2 c).After-deal)
 
 pub both_same-c-requires : goal.both_same-c-requires
 both_same-c-requires c =
     let b = (goal.at.both_same-c-requires c).After-blank_tape-t2 in
-    let d = (goal.at.both_same-c-requires c).After-deal-check in
+    let d = (goal.at.both_same-c-requires c).After-deal in
     let fits1 = (cut1 b).fits in
     let fits2 = (cut2 b).fits in
     (omega (arith, fits1, whole1 d, c.blank_tape-t1.ensures), omega (arith, fits2, whole2 d, c.blank_tape-t2.ensures))

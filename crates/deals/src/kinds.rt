@@ -1,0 +1,55 @@
+// The kinds of groups in a body, and how many groups and words a tape has of each.
+ghost use Rattle.std.specs.Prelude.{◌≡◌, true};
+ghost use Rattle.field.specs.Width.{listed};
+ghost use Rattle.deals.specs.Groups.{groups_of, group_length};
+ghost use Rattle.deals.specs.Deals.{kind_length};
+ghost use Rattle.deals.specs.Kinds.{number_of};
+
+// The groups of the tape's three sections, and the last group, which stands behind the triples.
+#[derive(Clone, Copy)]
+pub enum Kind {
+    Square,
+    Power,
+    Triple,
+    Last,
+}
+
+impl Kind {
+    // All kinds, in the order of the body.
+    pub const ALL: [Kind; 4] = [Kind::Square, Kind::Power, Kind::Triple, Kind::Last];
+
+    // How many words each box has of a group.
+    pub fn group_words(self, n: u32) -> usize
+        requires { listed n ≡ true }
+        ensures { result ≡ group_length n (number_of self) }
+    {
+        match self {
+            Kind::Square => 2,
+            Kind::Power => n as usize + 1,
+            Kind::Triple => 3,
+            Kind::Last => 7,
+        }
+    }
+
+    // How many groups a tape has.
+    pub fn group_count(self, n: u32) -> usize
+        requires { listed n ≡ true }
+        ensures { result ≡ groups_of n (number_of self) }
+    {
+        let m = n as usize;
+        match self {
+            Kind::Square => 3 * (m * m),
+            Kind::Power => 3 * m,
+            Kind::Triple => 3 * m + 6,
+            Kind::Last => 1,
+        }
+    }
+
+    // How many words each box has of all groups.
+    pub fn words(self, n: u32) -> usize
+        requires { listed n ≡ true }
+        ensures { result ≡ kind_length n (number_of self) }
+    {
+        self.group_count(n) * self.group_words(n)
+    }
+}
