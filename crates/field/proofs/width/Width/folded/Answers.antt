@@ -1,12 +1,12 @@
--- `field::folded` meets its contract: the mask keeps the bits below n, the shift those above.
+-- `field::width::Width::folded` meets its contract: the mask keeps the bits below n, the shift those above.
 use Rattle.std.proofs.Common.{ℕ, ◌+◌, ◌/◌, ◌^◌, ◌<◌, ◌≤◌, ap, lt_of_lt_of_le, arith, pow_mono, shr_lt}
 use lib.Bits.{and_mask, and_le_r}
 use Rattle.field.specs.Width.{modulus}
 use Rattle.field.proofs.Widths.{Bounds, bounds}
-use Rattle.field.proofs.folded.Goals as goal
+use Rattle.field.proofs.width.Width.folded.Goals as goal
 
 pub overflow_shr-result : goal.overflow_shr-result
-overflow_shr-result c = omega (arith, bounds c.requires)
+overflow_shr-result c = omega (arith, bounds c.args.self.listed)
 
 -- what is above bit n has at most 61 bits
 high : (n x : ℕ) → Bounds n → x < 2 ^ 64 → x / 2 ^ n < 2 ^ 61
@@ -18,13 +18,13 @@ high n x b l =
 pub returns : goal.returns
 unfolding modulus
 returns c =
-    let n = c.args.n in
+    let n = c.args.self.bits in
     let x = c.args.x in
-    rw c.modulus_of-p.ensures (ap (λ (y : ℕ). y + x / 2 ^ n) (and_mask x n))
+    rw c.modulus-p.ensures (ap (λ (y : ℕ). y + x / 2 ^ n) (and_mask x n))
 
 pub overflow_add-result : goal.overflow_add-result
 overflow_add-result c =
-    let n = c.args.n in
+    let n = c.args.self.bits in
     let x = c.args.x in
-    let b = bounds {n = n} c.requires in
-    omega (arith, and_le_r x c.modulus_of-p.result, high n x b c.ranges.x.fits)
+    let b = bounds {n = n} c.args.self.listed in
+    omega (arith, and_le_r x c.modulus-p.result, high n x b c.ranges.x.fits)
