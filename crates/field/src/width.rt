@@ -1,5 +1,6 @@
 // A width, and the arithmetic modulo its p. A width is tested once, where it comes in as a number: from then on its type says that it is listed.
-ghost use Rattle.std.specs.Prelude.{◌≡◌, ◌↔◌, true, ◌+◌, ◌-◌, ◌*◌, ◌/◌, ◌%◌, ◌^◌, ◌<◌, ◌≤◌, ltb, length, nat_lt, slice_index, IsSome, IfSome};
+ghost use Rattle.std.specs.Prelude.{◌≡◌, true, ◌+◌, ◌-◌, ◌*◌, ◌/◌, ◌%◌, ◌^◌, ◌<◌, ◌≤◌, ltb, length, nat_lt, slice_index, IfSome};
+ghost use Rattle.std.specs.Option.{is_some};
 ghost use Rattle.lists.specs.Every.{every};
 ghost use Rattle.field.specs.Width.{listed, modulus};
 ghost use Rattle.field.specs.Subtraction.{minus};
@@ -15,7 +16,7 @@ impl Width {
     // The width of that number, if it is a listed one.
     #[tactic(auto, unfolding(crate::specs::Width::listed))]
     pub fn new(n: u32) -> Option<Width>
-        ensures some { IsSome result ↔ (listed n ≡ true) }
+        ensures listed { is_some result ≡ listed n }
         ensures bits { IfSome result (λ width. width.bits ≡ n) }
     {
         match n {
