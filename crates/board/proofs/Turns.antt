@@ -1,6 +1,6 @@
 -- A loop that respells a message one word a turn, and counts the zeros.
 use Prim.Native.Nat.{ℕ, ◌+◌, ◌<◌, ◌≤◌}
-use mathlib.Core.Path.{◌≡◌, refl, sym, ap, subst, ◌∙◌}
+use mathlib.Core.Path.{◌≡◌, refl, sym, ap, ◌∙◌}
 use mathlib.Core.Bool.{true}
 use mathlib.Core.List.{List}
 use mathlib.Core.Logic.{inr}
@@ -8,9 +8,8 @@ use native.Mathlib.Nat.{zero-add, add-zero}
 use native.Mathlib.Omega.{arith}
 use borrow.Author.Tests.{eq-eqb, ne_eqb}
 use lib.ListN.{length, get_or, set}
-use lib.Seq.{set-get_or}
 use Rattle.lists.specs.Tabulate.{sum}
-use Rattle.lists.proofs.Stores.{Stored, stored_none, stored_more, stored_all, stored_beside}
+use Rattle.lists.proofs.Stores.{Stored, stored_more, stored_all, stored_beside}
 use Rattle.lists.proofs.Sums.{sum_more}
 use Rattle.lists.proofs.Sets.{sets_whole}
 use Rattle.lists.proofs.Tabulate.{length_tabulate}
@@ -27,9 +26,6 @@ spelling n old i = respelled n true (get_or old i 0)
 pub record Respelled (n : ℕ) (old l : List ℕ) (zeros k : ℕ) : Type 0 where
   pub stored : Stored old 0 (length old) (spelling n old) l k
   pub counted : zeros ≡ sum k (zero_at old)
-
-pub respelled_none : (n : ℕ) (old : List ℕ) → Respelled n old old 0 0
-respelled_none n old = record { stored = stored_none; counted = refl }
 
 module _ {n : ℕ} {old l : List ℕ} {zeros k : ℕ} (h : Respelled n old l zeros k) where
   -- the word of the turn is as it was
@@ -48,13 +44,12 @@ module _ {n : ℕ} {old l : List ℕ} {zeros k : ℕ} (h : Respelled n old l zer
         counted = sym (sum_more k (zero_at old) ∙ rw (word, ← h.counted) refl);
       }
 
-  -- and at any other word
-  pub respelled_other : k < length old → (get_or l k 0 ≡ 0 → ⊥) → Respelled n old l zeros (k + 1)
+  -- and at any other word, which is written as it is
+  pub respelled_other : k < length old → (get_or l k 0 ≡ 0 → ⊥) → Respelled n old (set l k (get_or l k 0)) zeros (k + 1)
   respelled_other less other =
       let word = ne_eqb (get_or old k 0) 0 (λ e. other (unreached ∙ e)) in
-      let stays = stored_more h.stored k (get_or l k 0) less (sym (zero-add k)) (rw word unreached) in
       record {
-        stored = subst (λ (m : List ℕ). Stored old 0 (length old) (spelling n old) m (k + 1)) (set-get_or l k 0) stays;
+        stored = stored_more h.stored k (get_or l k 0) less (sym (zero-add k)) (rw word unreached);
         counted = sym (sum_more k (zero_at old) ∙ rw (word, ← h.counted) (add-zero zeros));
       }
 

@@ -17,13 +17,11 @@ pub fn respell(n: u32, words: &mut [u32]) -> usize
 {
     let p = field::modulus_of(n);
     let mut zeros = 0;
-    let mut i = 0;
-    while i < words.len() {
-        if words[i] == ZERO {
-            words[i] = p;
+    for word in words.iter_mut() {
+        if *word == ZERO {
+            *word = p;
             zeros += 1;
         }
-        i += 1;
     }
     zeros
 }

@@ -8,31 +8,17 @@ ghost use Rattle.lists.specs.Tabulate.{tabulate};
 ghost use Rattle.tape.specs.Layout.{body_length, tape_length, trailer as tail};
 ghost use Rattle.tape.specs.Plain.{plain_word, plain_tape};
 
+// The box whose power words are 1 on a plain tape.
+const ONES_AT: u32 = 1;
+
 // The seven words after the body.
 pub fn trailer(n: u32, pair: u32, side: u32, number: u32, tape: &mut [u32])
     requires { (listed n ≡ true) × (tape_length n ≤ length tape.old) }
     ensures { tape.new ≡ sets tape.old (body_length n) (tail n pair side number) }
 {
-    let words = tape::trailer_of(n, pair, side, number);
     let body = tape::tape_words(n) - tape::TRAILER;
-    let mut k = 0;
-    while k < tape::TRAILER {
-        tape[body + k] = words[k];
-        k += 1;
-    }
-}
-
-// 1 at box 1's places from one to another, and 0 elsewhere.
-fn word(side: u32, from: usize, to: usize, at: usize) -> u32
-    ensures { result ≡ cond (eqb side 1 && leb from at && ltb at to) 1 0 }
-{
-    if side != 1 {
-        return 0;
-    }
-    if at < from {
-        return 0;
-    }
-    if at < to { 1 } else { 0 }
+    let words = tape::trailer_of(n, pair, side, number);
+    tape[body..body + tape::TRAILER].copy_from_slice(&words);
 }
 
 // The body of a plain tape: box 1's power words are 1, all others 0.
@@ -43,10 +29,9 @@ fn plain_body(n: u32, side: u32, tape: &mut [u32])
     let from = tape::section_start(n, tape::POWERS);
     let to = tape::section_start(n, tape::TRIPLES);
     let body = tape::tape_words(n) - tape::TRAILER;
-    let mut at = 0;
-    while at < body {
-        tape[at] = word(side, from, to, at);
-        at += 1;
+    tape[..body].fill(0);
+    if side == ONES_AT {
+        tape[from..to].fill(1);
     }
 }
 

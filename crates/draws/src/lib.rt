@@ -22,11 +22,9 @@ pub fn fill(n: u32, v: u32, words: &mut [u32]) -> u32
     ensures filled { words.new ≡ tabulate (length words.old) (λ j. word n v (suc j)) }
 {
     let mut last = v;
-    let mut i = 0;
-    while i < words.len() {
+    for word in words.iter_mut() {
         last = next(last);
-        words[i] = field::reduce(n, last);
-        i += 1;
+        *word = field::reduce(n, last);
     }
     last
 }

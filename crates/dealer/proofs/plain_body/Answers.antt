@@ -1,30 +1,63 @@
-use Prim.Native.Nat.{ℕ, ◌-◌}
-use mathlib.Core.Path.{◌≡◌, sym, ap, ap₂, ◌∙◌}
-use mathlib.Core.Bool.{◌&&◌, cond}
-use native.Mathlib.Nat.{zero-add}
+-- `dealer::plain_body` meets its contract: zeros in all of the body, then box 1's ones.
+use Prim.Native.Nat.{ℕ, ◌-◌, ◌≤◌}
+use mathlib.Core.Path.{◌≡◌, refl, sym, ap, ap₂, ◌∙◌}
+use mathlib.Core.List.{List, ◌++◌}
 use native.Mathlib.Omega.{arith}
-use lib.Dec.{eqb, leb, ltb}
-use lib.Seq.{sets}
+use borrow.Author.Tests.{eq-eqb, ne_eqb}
+use borrow.Rule.Slice.PartMut.{mid_len}
+use lib.ListN.{length, take, drop, replicate, length-take}
+use lib.Seq.{sets, length-sets}
 use Rattle.lists.specs.Tabulate.{tabulate}
-use Rattle.lists.proofs.Stores.{stored_none, stored_more, stored_all}
+use Rattle.lists.proofs.Tabulate.{length_tabulate, tabulate_same}
+use Rattle.lists.proofs.Sets.{sets_front}
+use Rattle.lists.proofs.Parts.{put_whole}
 use Rattle.tape.specs.Layout.{body_length}
 use Rattle.tape.specs.Plain.{plain_word}
+use Rattle.dealer.proofs.Stores.{repeated, ones_stored, one_between}
+use Rattle.dealer.proofs.plain_body.Goals.{After-fill}
 use Rattle.dealer.proofs.plain_body.Goals as goal
 
-pub loop-at-init : goal.loop-at-init
-loop-at-init c = stored_none
+-- the zeros
+module _ (s : After-fill) where
+  abbrev count : ℕ
+  count = body_length s.args.n
 
-pub loop-at-preserved : goal.loop-at-preserved
-loop-at-preserved c =
-    let a = c.args in
-    let word =
-    c.word.ensures
-    ∙ ap₂ (λ (from to : ℕ). cond (eqb a.side 1 && leb from c.loop-at.at && ltb c.loop-at.at to) 1 0)
-    c.section_start-from.ensures c.section_start-to.ensures in
-    stored_more c.loop-at.invariant _ _ c.loop-at-test.true (sym (zero-add c.loop-at.at)) word
+  body_is : s.tape_words-body.result - 7 ≡ count
+  body_is = omega (arith, s.tape_words-body.ensures)
 
-pub returns : goal.returns
-returns c =
+  zeros_stored : s.fill.new.self ++ drop (s.tape_words-body.result - 7) s.args.tape.now ≡ sets s.args.tape.now 0 (tabulate count (λ j. 0))
+  zeros_stored =
+      let tape = s.args.tape.now in
+      let zeros : List ℕ = tabulate count (λ j. 0) in
+      let long : length zeros ≡ count = length_tabulate count (λ j. 0) in
+      let filled : length (take (s.tape_words-body.result - 7) tape) ≡ count = length-take (s.tape_words-body.result - 7) tape ∙ omega (arith, body_is, s.requires.1) in
+      ap₂ (λ (words : List ℕ) (k : ℕ). words ++ drop k tape)
+      (s.fill.ensures.after (λ y same. same) ∙ ap (λ (k : ℕ). replicate k 0) filled ∙ repeated count 0)
+      (body_is ∙ sym long)
+      ∙ sym (sets_front tape zeros (omega (arith, long, s.requires.1)))
+
+pub returns-then-side-eq-ONES_AT : goal.returns-then-side-eq-ONES_AT
+returns-then-side-eq-ONES_AT c =
     let a = c.args in
-    let body : c.tape_words-body.result - 7 ≡ body_length a.n = omega (arith, c.tape_words-body.ensures) in
-    stored_all c.loop-at.invariant c.loop-at-test.false ∙ ap (λ (m : ℕ). sets a.tape.now 0 (tabulate m (plain_word a.n a.side))) body
+    let tape = a.tape.now in
+    let from = c.section_start-from.result in
+    let to = c.section_start-to.result in
+    let body : ℕ = body_length a.n in
+    let zeros = zeros_stored (goal.at.returns-then-side-eq-ONES_AT c).After-fill in
+    let order : from ≤ to = omega (arith, c.section_start-from.ensures, c.section_start-to.ensures) in
+    let within : to ≤ body = omega (arith, c.section_start-to.ensures) in
+    let room : body ≤ length tape = omega (arith, c.requires.1) in
+    let long = ap length zeros ∙ length-sets tape 0 (tabulate body (λ j. 0)) in
+    let lent = mid_len from to (c.fill.new.self ++ drop (c.tape_words-body.result - 7) tape) (omega (arith, within, room, long)) in
+    let ones = c.fill-then-side-eq-ONES_AT.ensures in
+    put_whole from (to - from) _ _ ones.len (omega (arith, ones.len, lent))
+    ∙ ap₂ (λ (l words : List ℕ). sets l from words) zeros (ones.after (λ y same. same) ∙ ap (λ (k : ℕ). replicate k 1) lent ∙ repeated (to - from) 1)
+    ∙ ones_stored tape body from to room order within
+    ∙ ap (sets tape 0) (ap₂ (λ (i j : ℕ). tabulate body (one_between i j)) c.section_start-from.ensures c.section_start-to.ensures)
+    ∙ ap (sets tape 0) (tabulate_same body _ (plain_word a.n a.side) (λ j less. rw (eq-eqb a.side 1 c.if-side-eq-ONES_AT.true) refl))
+
+pub returns-else-side-eq-ONES_AT : goal.returns-else-side-eq-ONES_AT
+returns-else-side-eq-ONES_AT c =
+    let a = c.args in
+    zeros_stored (goal.at.returns-else-side-eq-ONES_AT c).After-fill
+    ∙ ap (sets a.tape.now 0) (tabulate_same (body_length a.n) (λ j. 0) (plain_word a.n a.side) (λ j less. rw (ne_eqb a.side 1 c.if-side-eq-ONES_AT.false) refl))

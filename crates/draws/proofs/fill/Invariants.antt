@@ -1,13 +1,11 @@
 -- `draws::fill` meets its contract: each turn draws and stores one word.
-use Prim.Native.Nat.{suc, ◌-◌}
+use Prim.Native.Nat.{suc}
 use mathlib.Core.Path.{◌≡◌}
 use lib.ListN.{length}
 use Rattle.lists.proofs.Stores.{Stored}
 use Rattle.draws.specs.Draws.{draw, word}
 use Rattle.draws.proofs.fill.Given as goal
 
-abbrev pub invariant-loop-i : goal.invariant-loop-i
-invariant-loop-i l = (l.last ≡ draw l.v l.i) × Stored l.initial.words 0 (length l.initial.words) (λ j. word l.n l.v (suc j)) l.words l.i
-
-abbrev pub decreases-loop-i : goal.decreases-loop-i
-decreases-loop-i l = length l.initial.words - l.i
+abbrev pub invariant-loop-word : goal.invariant-loop-word
+invariant-loop-word l =
+    (l.last ≡ draw l.v l.word-index) × Stored l.initial.words 0 (length l.initial.words) (λ j. word l.n l.v (suc j)) l.words l.word-index
