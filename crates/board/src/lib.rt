@@ -6,16 +6,17 @@ ghost use Rattle.field.specs.Width.{listed};
 ghost use Rattle.shares.specs.Reading.{delivered};
 ghost use Rattle.board.specs.Zeros.{zeros_in};
 
+use field::Width;
+
 // The word that has a second spelling.
 const ZERO: u32 = 0;
 
 // Respells a message, and answers how many zeros it had.
-pub fn respell(n: u32, words: &mut [u32]) -> usize
-    requires { listed n ≡ true }
+pub fn respell(n: Width, words: &mut [u32]) -> usize
     ensures value { result ≡ zeros_in words.old }
-    ensures respelled { words.new ≡ delivered n (λ i. true) words.old }
+    ensures respelled { words.new ≡ delivered n.bits (λ i. true) words.old }
 {
-    let p = field::modulus_of(n);
+    let p = n.modulus();
     let mut zeros = 0;
     for word in words.iter_mut() {
         if *word == ZERO {

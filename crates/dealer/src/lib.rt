@@ -8,27 +8,30 @@ ghost use Rattle.lists.specs.Tabulate.{tabulate};
 ghost use Rattle.tape.specs.Layout.{body_length, tape_length, trailer as tail};
 ghost use Rattle.tape.specs.Plain.{plain_word, plain_tape};
 
+use field::Width;
+use tape::Section;
+
 // The box whose power words are 1 on a plain tape.
 const ONES_AT: u32 = 1;
 
 // The seven words after the body.
-pub fn trailer(n: u32, pair: u32, side: u32, number: u32, tape: &mut [u32])
-    requires { (listed n ≡ true) × (tape_length n ≤ length tape.old) }
-    ensures { tape.new ≡ sets tape.old (body_length n) (tail n pair side number) }
+pub fn trailer(n: Width, pair: u32, side: u32, number: u32, tape: &mut [u32])
+    requires { tape_length n.bits ≤ length tape.old }
+    ensures { tape.new ≡ sets tape.old (body_length n.bits) (tail n.bits pair side number) }
 {
-    let body = tape::tape_words(n) - tape::TRAILER;
+    let body = tape::body_words(n);
     let words = tape::trailer_of(n, pair, side, number);
     tape[body..body + tape::TRAILER].copy_from_slice(&words);
 }
 
 // The body of a plain tape: box 1's power words are 1, all others 0.
-fn plain_body(n: u32, side: u32, tape: &mut [u32])
-    requires { (listed n ≡ true) × (tape_length n ≤ length tape.old) }
-    ensures { tape.new ≡ sets tape.old 0 (tabulate (body_length n) (plain_word n side)) }
+fn plain_body(n: Width, side: u32, tape: &mut [u32])
+    requires { tape_length n.bits ≤ length tape.old }
+    ensures { tape.new ≡ sets tape.old 0 (tabulate (body_length n.bits) (plain_word n.bits side)) }
 {
-    let from = tape::section_start(n, tape::POWERS);
-    let to = tape::section_start(n, tape::TRIPLES);
-    let body = tape::tape_words(n) - tape::TRAILER;
+    let from = tape::section_start(n, Section::Powers);
+    let to = tape::section_start(n, Section::Triples);
+    let body = tape::body_words(n);
     tape[..body].fill(0);
     if side == ONES_AT {
         tape[from..to].fill(1);
@@ -36,9 +39,9 @@ fn plain_body(n: u32, side: u32, tape: &mut [u32])
 }
 
 // The plain tape of a box.
-pub fn plain(n: u32, pair: u32, side: u32, number: u32, tape: &mut [u32])
-    requires { (listed n ≡ true) × (length tape.old ≡ tape_length n) }
-    ensures { tape.new ≡ plain_tape n pair side number }
+pub fn plain(n: Width, pair: u32, side: u32, number: u32, tape: &mut [u32])
+    requires { length tape.old ≡ tape_length n.bits }
+    ensures { tape.new ≡ plain_tape n.bits pair side number }
 {
     plain_body(n, side, &mut *tape);
     trailer(n, pair, side, number, tape);

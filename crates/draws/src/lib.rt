@@ -6,6 +6,8 @@ ghost use Rattle.lists.specs.Tabulate.{tabulate};
 ghost use Rattle.field.specs.Width.{listed};
 ghost use Rattle.draws.specs.Draws.{next, draw, word};
 
+use field::Width;
+
 // The next draw.
 pub fn next(v: u32) -> u32
     ensures { result ≡ next v }
@@ -16,15 +18,14 @@ pub fn next(v: u32) -> u32
 }
 
 // Fills a slice with the next draws, each modulo p. Answers the last draw.
-pub fn fill(n: u32, v: u32, words: &mut [u32]) -> u32
-    requires { listed n ≡ true }
+pub fn fill(n: Width, v: u32, words: &mut [u32]) -> u32
     ensures value { result ≡ draw v (length words.old) }
-    ensures filled { words.new ≡ tabulate (length words.old) (λ j. word n v (suc j)) }
+    ensures filled { words.new ≡ tabulate (length words.old) (λ j. word n.bits v (suc j)) }
 {
     let mut last = v;
     for word in words.iter_mut() {
         last = next(last);
-        *word = field::reduce(n, last);
+        *word = n.reduce(last);
     }
     last
 }

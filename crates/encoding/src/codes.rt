@@ -3,6 +3,8 @@ ghost use Rattle.std.specs.Prelude.{◌≡◌, true, ◌<◌};
 ghost use Rattle.field.specs.Width.{listed, modulus};
 ghost use Rattle.encoding.specs.Codes.{bit_of, range_code, level_code};
 
+use field::Width;
+
 pub fn bit(v: u32, k: u32) -> u32
     requires { k < 32 }
     ensures { result ≡ bit_of v k }
@@ -11,21 +13,21 @@ pub fn bit(v: u32, k: u32) -> u32
 }
 
 // The choice is made by a product, so that the time does not tell the bit.
-fn range_code(n: u32, x: u32, level: u32) -> u32
-    requires { (listed n ≡ true) × (x < modulus n) × (level < n) }
-    ensures { result ≡ range_code n x level }
+fn range_code(n: Width, x: u32, level: u32) -> u32
+    requires { (x < modulus n.bits) × (level < n.bits) }
+    ensures { result ≡ range_code n.bits x level }
 {
     let code = (x >> level) + 1;
-    code + bit(x, level) * (field::modulus_of(n) - code)
+    code + bit(x, level) * (n.modulus() - code)
 }
 
 // The box's code of its share v at a level.
-pub fn level_code(n: u32, side: u32, v: u32, level: u32) -> u32
-    requires { (listed n ≡ true) × (v < modulus n) × (level < n) }
-    ensures { result ≡ level_code n side v level }
+pub fn level_code(n: Width, side: u32, v: u32, level: u32) -> u32
+    requires { (v < modulus n.bits) × (level < n.bits) }
+    ensures { result ≡ level_code n.bits side v level }
 {
     if side == 1 {
-        range_code(n, field::modulus_of(n) - 1 - v, level)
+        range_code(n, n.modulus() - 1 - v, level)
     } else {
         v >> level
     }

@@ -3,6 +3,8 @@ ghost use Rattle.std.specs.Prelude.{◌≡◌, true, ℕ, ◌≤◌, length, get
 ghost use Rattle.field.specs.Width.{listed, widths};
 ghost use Rattle.encoding.specs.Polynomial.{coefficient, place_of};
 
+use field::Width;
+
 // One row for each listed width, filled up with 0.
 const COEFFICIENTS: [[u32; 32]; 7] = [
     [
@@ -39,11 +41,10 @@ const COEFFICIENTS: [[u32; 32]; 7] = [
     ],
 ];
 
-fn row_of(n: u32) -> usize
-    requires { listed n ≡ true }
-    ensures { result ≡ place_of n widths }
+fn row_of(n: Width) -> usize
+    ensures { result ≡ place_of n.bits widths }
 {
-    match n {
+    match n.bits {
         3 => 0,
         5 => 1,
         7 => 2,
@@ -55,9 +56,8 @@ fn row_of(n: u32) -> usize
 }
 
 // g_0 to g_n of a width, filled up with 0: a row by value, to be fetched once and not once a coefficient.
-pub fn coefficients_of(n: u32) -> [u32; 32]
-    requires { listed n ≡ true }
-    ensures { ((k : ℕ) → k ≤ n → get_or result k 0 ≡ coefficient n k) × (length result ≡ 32) }
+pub fn coefficients_of(n: Width) -> [u32; 32]
+    ensures { ((k : ℕ) → k ≤ n.bits → get_or result k 0 ≡ coefficient n.bits k) × (length result ≡ 32) }
 {
     let row = row_of(n);
     COEFFICIENTS[row]

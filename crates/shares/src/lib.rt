@@ -8,6 +8,8 @@ ghost use Rattle.shares.specs.Side.{is_side};
 ghost use Rattle.shares.specs.Reading.{legible};
 ghost use Rattle.shares.specs.Share.{constant_share, masked, opened, square_share, product_share, threefold_share};
 
+use field::Width;
+
 // Whether the number is a box's side.
 pub fn is_side(side: u32) -> bool
     ensures { result ≡ is_side side }
@@ -24,57 +26,56 @@ pub fn constant(side: u32, c: u32) -> u32
 }
 
 // The word that opens a share v under the mask's word a.
-pub fn mask(n: u32, v: u32, a: u32) -> u32
-    requires { (listed n ≡ true) × (v < modulus n) × (a < modulus n) }
-    ensures value { result ≡ masked n v a }
-    ensures below { result < modulus n }
+pub fn mask(n: Width, v: u32, a: u32) -> u32
+    requires { (v < modulus n.bits) × (a < modulus n.bits) }
+    ensures value { result ≡ masked n.bits v a }
+    ensures below { result < modulus n.bits }
 {
-    field::sub(n, v, a)
+    n.sub(v, a)
 }
 
 // Whether all of the words can be read from the line: none is above p.
-pub fn all_legible(n: u32, words: &[u32]) -> bool
-    requires { listed n ≡ true }
-    ensures { result ≡ every (length words.now) (λ i. legible n (get_or words.now i 0)) }
+pub fn all_legible(n: Width, words: &[u32]) -> bool
+    ensures { result ≡ every (length words.now) (λ i. legible n.bits (get_or words.now i 0)) }
 {
-    field::all_below(field::modulus_of(n) + 1, words)
+    field::all_below(n.modulus() + 1, words)
 }
 
 // The opened value. Every word from the line is read here: p counts as 0 without a branch, since the sum is reduced.
-pub fn open(n: u32, sent: u32, heard: u32) -> u32
-    requires { (listed n ≡ true) × (sent < modulus n) × (heard ≤ modulus n) }
-    ensures value { result ≡ opened n sent heard }
-    ensures below { result < modulus n }
+pub fn open(n: Width, sent: u32, heard: u32) -> u32
+    requires { (sent < modulus n.bits) × (heard ≤ modulus n.bits) }
+    ensures value { result ≡ opened n.bits sent heard }
+    ensures below { result < modulus n.bits }
 {
-    field::add(n, sent, heard)
+    n.add(sent, heard)
 }
 
 // The share of a square, not reduced yet: the squares of a level are summed first.
-pub fn square(n: u32, side: u32, e: u32, a: u32, q: u32) -> u64
-    requires { (listed n ≡ true) × (e < modulus n) × (a < modulus n) × (q < modulus n) }
-    ensures n_value { result % modulus n ≡ square_share n side e a q }
-    ensures below { result < 4 * (modulus n * modulus n) }
+pub fn square(n: Width, side: u32, e: u32, a: u32, q: u32) -> u64
+    requires { (e < modulus n.bits) × (a < modulus n.bits) × (q < modulus n.bits) }
+    ensures same_value { result % modulus n.bits ≡ square_share n.bits side e a q }
+    ensures below { result < 4 * (modulus n.bits * modulus n.bits) }
 {
     let own = (q as u64) + 2 * field::wide_mul(e, a);
     own + field::wide_mul(e, constant(side, e))
 }
 
 // A word and three products, with one reduction for the whole sum.
-fn summed(n: u32, c: u32, e: u32, b: u32, f: u32, a: u32, g: u32, d: u32) -> u32
-    requires n_value { (listed n ≡ true) × (c < modulus n) × (e < modulus n) × (b < modulus n) }
-    requires f_bound { (f < modulus n) × (a < modulus n) × (g < modulus n) × (d < modulus n) }
-    ensures value { result ≡ (c + e * b + f * a + g * d) % modulus n }
-    ensures below { result < modulus n }
+fn summed(n: Width, c: u32, e: u32, b: u32, f: u32, a: u32, g: u32, d: u32) -> u32
+    requires operands { (c < modulus n.bits) × (e < modulus n.bits) × (b < modulus n.bits) }
+    requires f_bound { (f < modulus n.bits) × (a < modulus n.bits) × (g < modulus n.bits) × (d < modulus n.bits) }
+    ensures value { result ≡ (c + e * b + f * a + g * d) % modulus n.bits }
+    ensures below { result < modulus n.bits }
 {
     let own = (c as u64) + field::wide_mul(e, b) + field::wide_mul(f, a);
-    field::reduce_wide(n, own + field::wide_mul(g, d))
+    n.reduce_wide(own + field::wide_mul(g, d))
 }
 
 // The share of a product.
-pub fn product(n: u32, side: u32, e: u32, f: u32, a: u32, b: u32, c: u32) -> u32
-    requires { (listed n ≡ true) × (e < modulus n) × (f < modulus n) × (a < modulus n) × (b < modulus n) × (c < modulus n) }
-    ensures value { result ≡ product_share n side e f a b c }
-    ensures below { result < modulus n }
+pub fn product(n: Width, side: u32, e: u32, f: u32, a: u32, b: u32, c: u32) -> u32
+    requires { (e < modulus n.bits) × (f < modulus n.bits) × (a < modulus n.bits) × (b < modulus n.bits) × (c < modulus n.bits) }
+    ensures value { result ≡ product_share n.bits side e f a b c }
+    ensures below { result < modulus n.bits }
 {
     summed(n, c, e, b, f, a, e, constant(side, f))
 }
@@ -92,17 +93,17 @@ pub struct Masks {
 }
 
 // The share of a product of three: e, f and g are opened. Each term has one dealt factor but for efg, which box 1 adds.
-pub fn threefold(n: u32, side: u32, e: u32, f: u32, g: u32, m: Masks) -> u32
-    requires n_value { (listed n ≡ true) × (e < modulus n) × (f < modulus n) × (g < modulus n) }
-    requires a_bound { (m.a < modulus n) × (m.b < modulus n) × (m.c < modulus n) × (m.ab < modulus n) × (m.ac < modulus n) × (m.bc < modulus n) × (m.abc < modulus n) }
-    ensures value { result ≡ threefold_share n side e f g m.a m.b m.c m.ab m.ac m.bc m.abc }
-    ensures below { result < modulus n }
+pub fn threefold(n: Width, side: u32, e: u32, f: u32, g: u32, m: Masks) -> u32
+    requires operands { (e < modulus n.bits) × (f < modulus n.bits) × (g < modulus n.bits) }
+    requires a_bound { (m.a < modulus n.bits) × (m.b < modulus n.bits) × (m.c < modulus n.bits) × (m.ab < modulus n.bits) × (m.ac < modulus n.bits) × (m.bc < modulus n.bits) × (m.abc < modulus n.bits) }
+    ensures value { result ≡ threefold_share n.bits side e f g m.a m.b m.c m.ab m.ac m.bc m.abc }
+    ensures below { result < modulus n.bits }
 {
-    let ef = field::mul(n, e, f);
-    let eg = field::mul(n, e, g);
-    let fg = field::mul(n, f, g);
-    let efg = constant(side, field::mul(n, ef, g));
+    let ef = n.mul(e, f);
+    let eg = n.mul(e, g);
+    let fg = n.mul(f, g);
+    let efg = constant(side, n.mul(ef, g));
     let by_pairs = summed(n, m.abc, e, m.bc, f, m.ac, g, m.ab);
     let by_masks = summed(n, efg, ef, m.c, eg, m.b, fg, m.a);
-    field::add(n, by_pairs, by_masks)
+    n.add(by_pairs, by_masks)
 }

@@ -1,10 +1,7 @@
 -- The groups of squares: the test of a group and of a square, and a stretch of stores that grows down by a whole group.
-use Prim.Native.Nat.{ℕ, ◌+◌, ◌*◌, ◌/◌, ◌<◌, ◌≤◌}
-use mathlib.Core.Path.{◌≡◌, ◌∙◌}
-use mathlib.Core.List.{List}
-use native.Mathlib.Nat.{div-lt_iff_lt-mul, div-eq_of_lt-le, div-div-eq-div-mul}
-use native.Mathlib.Omega.{arith}
-use lib.Seq.{sets}
+use Rattle.std.proofs.Common.{ℕ, ◌≡◌, ◌+◌, ◌*◌, ◌/◌, ◌<◌, ◌≤◌, List, ◌∙◌, arith}
+use Rattle.std.proofs.Math.Nat.{div-lt_iff_lt-mul, div-eq_of_lt-le, div-div-eq-div-mul}
+use Rattle.std.proofs.lemmas.List.Edits.{sets}
 use Rattle.lists.specs.Span.{span, later}
 use Rattle.lists.proofs.Span.{sets_later}
 use Rattle.tape.specs.Layout.{group_count}

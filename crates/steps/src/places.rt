@@ -1,9 +1,11 @@
 // Places in work and on the tape, by the names that the definitions give them.
-ghost use Rattle.std.specs.Prelude.{◌≡◌, true, ◌-◌, ◌*◌, ◌<◌};
-ghost use Rattle.field.specs.Width.{listed};
+// One function a name, alike as they are: one for all kinds would need an enum, a match in the code and a definition by its cases.
+ghost use Rattle.std.specs.Prelude.{◌≡◌, ◌-◌, ◌*◌, ◌<◌};
 ghost use Rattle.tape.specs.Layout.{square_count, group_count, triple_count};
 ghost use Rattle.protocol.specs.Work.{sum_slot, wrap_slot, half_slot};
 ghost use Rattle.protocol.specs.Products.{low_triple, wrap_triple};
+
+use field::Width;
 
 pub fn sum_slot(n: u32, test: usize) -> usize
     requires { test < 3 }
@@ -53,11 +55,10 @@ pub fn group_count(n: u32) -> usize
 }
 
 // How many squares round 1 opens, which is where its products' words begin.
-pub fn square_count(n: u32) -> usize
-    requires { listed n ≡ true }
-    ensures { result ≡ square_count n }
+pub fn square_count(n: Width) -> usize
+    ensures { result ≡ square_count n.bits }
 {
-    let m = n as usize;
+    let m = n.bits as usize;
     3 * (m * m)
 }
 

@@ -1,9 +1,9 @@
 // Round 1's squares: the bit differences of every test, level and bit.
-ghost use Rattle.std.specs.Prelude.{◌≡◌, true, ◌+◌, ◌*◌, ◌/◌, ◌%◌, ◌<◌, ◌≤◌, length, get_or};
+ghost use Rattle.std.specs.Prelude.{◌≡◌, ◌+◌, ◌*◌, ◌/◌, ◌%◌, ◌<◌, ◌≤◌, length, get_or};
 ghost use Rattle.std.proofs.lemmas.List.Edits.{sets};
 ghost use Rattle.lists.specs.Tabulate.{tabulate, sum};
 ghost use Rattle.lists.specs.Span.{span, later};
-ghost use Rattle.field.specs.Width.{listed, modulus};
+ghost use Rattle.field.specs.Width.{modulus};
 ghost use Rattle.shares.specs.Share.{constant_share, opened, square_share};
 ghost use Rattle.tape.specs.Layout.{square_count, group_count};
 ghost use Rattle.tape.specs.Letters.{square_mask, square_value};
@@ -12,151 +12,143 @@ ghost use Rattle.protocol.specs.Words.{Below, FromLine};
 ghost use Rattle.protocol.specs.Squares.{code_difference, bit_difference, square_opening, square_closing, match_count};
 
 use crate::tests::Tests;
+use field::Width;
 
-// The word that opens bit k of a group's code by square j: 1 - bit - a at box 1, - bit - a at box 2, in one subtraction.
-fn opening(n: u32, side: u32, code: u32, k: u32, squares: &[u32], j: usize) -> u32
-    requires { (listed n ≡ true) × (k < n) × Below (modulus n) squares.now × (j * 2 + 1 < length squares.now) }
-    ensures value { result ≡ square_opening n (code_difference n side code k) squares.now j }
-    ensures below { result < modulus n }
-{
-    let taken = encoding::codes::bit(code, k) + squares[j * 2];
-    field::sub(n, shares::constant(side, 1), taken)
+// The dealt squares of a width, one for each test, level and bit.
+#[derive(Clone, Copy)]
+pub struct Squares<'a> {
+    pub n: Width,
+    pub words: &'a [u32],
+    pub ghost below: { Below (modulus n.bits) words.now },
+    pub ghost long: { square_count n.bits * 2 ≤ length words.now },
 }
 
-// Opens the bits of a code from bit `low` up, from the last one down. The squares and out are lent from the code's first one on.
-fn open_bits(n: u32, side: u32, code: u32, squares: &[u32], low: usize, out: &mut [u32])
-    requires n_value { (listed n ≡ true) × (low ≤ n) }
-    requires below { Below (modulus n) squares.now × (n * 2 ≤ length squares.now) × (n ≤ length out.old) }
-    ensures { out.new
-        ≡ sets out.old low (span low n (λ k. square_opening n (code_difference n side code k) squares.now k)) }
-{
-    let mut k = n as usize;
-    while low < k {
-        k -= 1;
-        out[k] = opening(n, side, code, k as u32, squares, k);
+impl Squares<'_> {
+    // The word that opens bit k of a group's code by square j: 1 - bit - a at box 1, - bit - a at box 2, in one subtraction.
+    fn opening(self, side: u32, code: u32, k: u32, j: usize) -> u32
+        requires { (k < self.n.bits) × (j < square_count self.n.bits) }
+        ensures value { result ≡ square_opening self.entry.n.bits (code_difference self.entry.n.bits side code k) self.entry.words.now j }
+        ensures below { result < modulus self.entry.n.bits }
+    {
+        let taken = encoding::codes::bit(code, k) + self.words[j * 2];
+        self.n.sub(shares::constant(side, 1), taken)
     }
-}
 
-// The words of group g from place `from` on. The code of its level is worked out once.
-fn open_group(
-    n: u32,
-    side: u32,
-    doubled: u32,
-    squares: &[u32],
-    g: usize,
-    level: usize,
-    from: usize,
-    out: &mut [u32],
-)
-    requires n_value { (listed n ≡ true) × (doubled < modulus n) × (g < group_count n) × (level ≡ g % n) × (from ≤ (g + 1) * n) }
-    requires below { Below (modulus n) squares.now × (square_count n * 2 ≤ length squares.now) × (square_count n ≤ length out.old) }
-    ensures { out.new
-        ≡ sets out.old (later (g * n) from)
-        (span (later (g * n) from) ((g + 1) * n)
-        (λ j. square_opening n (bit_difference n side (λ t. doubled) j) squares.now j)) }
-{
-    let m = n as usize;
-    let at = g * m;
-    let code = encoding::codes::level_code(n, side, doubled, level as u32);
-    let low = crate::places::beyond(from, at);
-    open_bits(n, side, code, &squares[at * 2..], low, &mut out[at..]);
-}
-
-// The words of a test from place `from` on, from the last level down.
-fn open_test(
-    n: u32,
-    side: u32,
-    doubled: u32,
-    squares: &[u32],
-    test: usize,
-    from: usize,
-    out: &mut [u32],
-)
-    requires n_value { (listed n ≡ true) × (doubled < modulus n) × (test < 3) }
-    requires below { Below (modulus n) squares.now × (square_count n * 2 ≤ length squares.now) × (square_count n ≤ length out.old) }
-    ensures { out.new
-        ≡ sets out.old (later (test * (n * n)) from)
-        (span (later (test * (n * n)) from) ((test + 1) * (n * n))
-        (λ j. square_opening n (bit_difference n side (λ t. doubled) j) squares.now j)) }
-{
-    let m = n as usize;
-    let first = test * m;
-    let stop = first * m + crate::places::beyond(from, first * m);
-    let mut level = m;
-    while stop < (first + level) * m {
-        level -= 1;
-        open_group(
-            n,
-            side,
-            doubled,
-            squares,
-            first + level,
-            level,
-            from,
-            &mut *out,
-        );
-    }
-}
-
-// The words of all squares from place `from` on, from the last test down.
-pub fn open_squares(n: u32, side: u32, tests: Tests, squares: &[u32], from: usize, out: &mut [u32])
-    requires n_value { (listed n ≡ true) × Below (modulus n) tests.doubled }
-    requires below { Below (modulus n) squares.now × (square_count n * 2 ≤ length squares.now) × (square_count n ≤ length out.old) }
-    ensures { out.new
-        ≡ sets out.old from
-        (span from (square_count n)
-        (λ j. square_opening n (bit_difference n side (λ t. get_or tests.doubled t 0) j) squares.now j)) }
-{
-    let mut test = 3;
-    while 0 < test {
-        test -= 1;
-        open_test(n, side, tests.doubled[test], squares, test, from, &mut *out);
-    }
-}
-
-// The share of a square by square j, below 5p, from the word that this box sent and the other box's at j of incoming.
-fn close_square(n: u32, side: u32, sent: u32, squares: &[u32], incoming: &[u32], j: usize) -> u64
-    requires n_value { (listed n ≡ true) × (sent < modulus n) × Below (modulus n) squares.now × (j * 2 + 1 < length squares.now) }
-    requires from_line { FromLine n (j + 1) incoming.now }
-    ensures n_value_2 { result % modulus n
-        ≡ square_share n side (opened n sent (get_or incoming.now j 0)) (square_mask squares.now j) (square_value squares.now j) }
-    ensures below { result < 5 * modulus n }
-{
-    let e = shares::open(n, sent, incoming[j]);
-    field::fold_once(
-        n,
-        shares::square(n, side, e, squares[j * 2], squares[j * 2 + 1]),
+    // The words of group g from place `from` on, from the last bit down. The code of its level is worked out once.
+    fn open_group(
+        self,
+        side: u32,
+        doubled: u32,
+        g: usize,
+        level: usize,
+        from: usize,
+        out: &mut [u32],
     )
-}
-
-// The share of 1 + the n squares of group g, whose code is given: summed, and reduced once.
-fn close_group(n: u32, side: u32, code: u32, squares: &[u32], g: usize, incoming: &[u32]) -> u32
-    requires n_value { (listed n ≡ true) × (g < group_count n) }
-    requires below_2 { Below (modulus n) squares.now × (square_count n * 2 ≤ length squares.now) × FromLine n (square_count n) incoming.now }
-    ensures value { result
-        ≡ (constant_share side 1
-        + sum n (λ k. square_closing n side (code_difference n side code k) squares.now incoming.now (g * n + k)))
-        % modulus n }
-    ensures below { result < modulus n }
-{
-    let base = g * (n as usize);
-    let mut total = shares::constant(side, 1) as u64;
-    let mut k: u32 = 0;
-    while k < n {
-        let j = base + k as usize;
-        let sent = opening(n, side, code, k, squares, j);
-        total += close_square(n, side, sent, squares, incoming, j);
-        k += 1;
+        requires operands { (doubled < modulus self.n.bits) × (g < group_count self.n.bits) × (level ≡ g % self.n.bits) × (from ≤ (g + 1) * self.n.bits) }
+        requires room { square_count self.n.bits ≤ length out.old }
+        ensures { let n = self.entry.n.bits in out.new
+            ≡ sets out.old (later (g * n) from)
+            (span (later (g * n) from) ((g + 1) * n)
+            (λ j. square_opening n (bit_difference n side (λ t. doubled) j) self.entry.words.now j)) }
+    {
+        let m = self.n.bits as usize;
+        let at = g * m;
+        let code = encoding::codes::level_code(self.n, side, doubled, level as u32);
+        let low = crate::places::beyond(from, at);
+        for k in (low..m).rev() {
+            out[at + k] = self.opening(side, code, k as u32, at + k);
+        }
     }
-    field::reduce_wide(n, total)
+
+    // The words of a test from place `from` on, from the last level down.
+    fn open_test(self, side: u32, doubled: u32, test: usize, from: usize, out: &mut [u32])
+        requires operands { (doubled < modulus self.n.bits) × (test < 3) }
+        requires room { square_count self.n.bits ≤ length out.old }
+        ensures { let n = self.entry.n.bits in out.new
+            ≡ sets out.old (later (test * (n * n)) from)
+            (span (later (test * (n * n)) from) ((test + 1) * (n * n))
+            (λ j. square_opening n (bit_difference n side (λ t. doubled) j) self.entry.words.now j)) }
+    {
+        let m = self.n.bits as usize;
+        let first = test * m;
+        for level in (0..m).rev() {
+            let g = first + level;
+            if (g + 1) * m <= from {
+                break;
+            }
+            self.open_group(side, doubled, g, level, from, &mut *out);
+        }
+    }
+
+    // The words of all squares from place `from` on, from the last test down.
+    pub fn open(self, side: u32, tests: Tests, from: usize, out: &mut [u32])
+        requires below { Below (modulus self.n.bits) tests.doubled }
+        requires room { square_count self.n.bits ≤ length out.old }
+        ensures { let n = self.entry.n.bits in out.new
+            ≡ sets out.old from
+            (span from (square_count n)
+            (λ j. square_opening n (bit_difference n side (λ t. get_or tests.doubled t 0) j) self.entry.words.now j)) }
+    {
+        for test in (0..3).rev() {
+            self.open_test(side, tests.doubled[test], test, from, &mut *out);
+        }
+    }
+
+    // The share of a square by square j, below 5p, from the word that this box sent and the other box's at j of incoming.
+    fn close_square(self, side: u32, sent: u32, incoming: &[u32], j: usize) -> u64
+        requires operands { (sent < modulus self.n.bits) × (j < square_count self.n.bits) }
+        requires from_line { FromLine self.n.bits (j + 1) incoming.now }
+        ensures same_value { let n = self.entry.n.bits in result % modulus n
+            ≡ square_share n side (opened n sent (get_or incoming.now j 0)) (square_mask self.entry.words.now j) (square_value self.entry.words.now j) }
+        ensures below { result < 5 * modulus self.entry.n.bits }
+    {
+        let e = shares::open(self.n, sent, incoming[j]);
+        let share = shares::square(self.n, side, e, self.words[j * 2], self.words[j * 2 + 1]);
+        self.n.fold_once(share)
+    }
+
+    // The share of 1 + the n squares of group g, whose code is given: summed, and reduced once.
+    fn close_group(self, side: u32, code: u32, g: usize, incoming: &[u32]) -> u32
+        requires operands { g < group_count self.n.bits }
+        requires from_line { FromLine self.n.bits (square_count self.n.bits) incoming.now }
+        ensures value { let n = self.entry.n.bits in result
+            ≡ (constant_share side 1
+            + sum n (λ k. square_closing n side (code_difference n side code k) self.entry.words.now incoming.now (g * n + k)))
+            % modulus n }
+        ensures below { result < modulus self.entry.n.bits }
+    {
+        let base = g * (self.n.bits as usize);
+        let mut total = shares::constant(side, 1) as u64;
+        for k in 0..self.n.bits {
+            let j = base + k as usize;
+            let sent = self.opening(side, code, k, j);
+            total += self.close_square(side, sent, incoming, j);
+        }
+        self.n.reduce_wide(total)
+    }
+
+    // The counts of all groups, at the front of work.
+    pub fn close(self, side: u32, tests: Tests, incoming: &[u32], work: &mut [u32])
+        requires operands { Below (modulus self.n.bits) tests.doubled × (group_count self.n.bits ≤ length work.old) }
+        requires from_line { FromLine self.n.bits (square_count self.n.bits) incoming.now }
+        ensures { let n = self.entry.n.bits in work.new
+            ≡ sets work.old 0
+            (tabulate (group_count n)
+            (match_count n side (λ t. get_or tests.doubled t 0) self.entry.words.now incoming.now)) }
+    {
+        for g in 0..crate::places::group_count(self.n.bits) {
+            let code = code_of(self.n, side, tests, g);
+            work[g] = self.close_group(side, code, g, incoming);
+        }
+    }
 }
 
 // The test of group g. Groups stand in the order test, level; two comparisons take less time than a division.
-fn test_of(n: u32, g: usize) -> usize
-    requires { (listed n ≡ true) × (g < group_count n) }
-    ensures { result ≡ g / n }
+fn test_of(n: Width, g: usize) -> usize
+    requires { g < group_count n.bits }
+    ensures { result ≡ g / n.bits }
 {
-    let m = n as usize;
+    let m = n.bits as usize;
     if g < m {
         return 0;
     }
@@ -167,36 +159,11 @@ fn test_of(n: u32, g: usize) -> usize
 }
 
 // The code of group g: level g % n of test g / n.
-fn code_of(n: u32, side: u32, tests: Tests, g: usize) -> u32
-    requires { (listed n ≡ true) × Below (modulus n) tests.doubled × (g < group_count n) }
-    ensures { result ≡ level_code n side (get_or tests.doubled (g / n) 0) (g % n) }
+fn code_of(n: Width, side: u32, tests: Tests, g: usize) -> u32
+    requires { Below (modulus n.bits) tests.doubled × (g < group_count n.bits) }
+    ensures { result ≡ level_code n.bits side (get_or tests.doubled (g / n.bits) 0) (g % n.bits) }
 {
     let t = test_of(n, g);
-    let level = g - t * (n as usize);
+    let level = g - t * (n.bits as usize);
     encoding::codes::level_code(n, side, tests.doubled[t], level as u32)
-}
-
-// The counts of all groups, at the front of work.
-pub fn close_squares(
-    n: u32,
-    side: u32,
-    tests: Tests,
-    squares: &[u32],
-    incoming: &[u32],
-    work: &mut [u32],
-)
-    requires n_value { (listed n ≡ true) × Below (modulus n) tests.doubled × (group_count n ≤ length work.old) }
-    requires below { Below (modulus n) squares.now × (square_count n * 2 ≤ length squares.now) }
-    requires from_line { FromLine n (square_count n) incoming.now }
-    ensures { work.new
-        ≡ sets work.old 0
-        (tabulate (group_count n)
-        (match_count n side (λ t. get_or tests.doubled t 0) squares.now incoming.now)) }
-{
-    let groups = crate::places::group_count(n);
-    let mut g: usize = 0;
-    while g < groups {
-        work[g] = close_group(n, side, code_of(n, side, tests, g), squares, g, incoming);
-        g += 1;
-    }
 }

@@ -1,8 +1,10 @@
 // The three half tests side by side: of x, of y and of x - y.
-ghost use Rattle.std.specs.Prelude.{◌≡◌, true, ◌<◌};
+ghost use Rattle.std.specs.Prelude.{◌≡◌, ◌<◌};
 ghost use Rattle.lists.specs.Tabulate.{tabulate};
-ghost use Rattle.field.specs.Width.{listed, modulus};
+ghost use Rattle.field.specs.Width.{modulus};
 ghost use Rattle.protocol.specs.Tests.{doubled, low_bit, complement, exclusive};
+
+use field::Width;
 
 // One box's part of the tests: the doubled shares, their low bits, and the shares of the wraps once they are known.
 #[derive(Clone, Copy)]
@@ -13,14 +15,14 @@ pub struct Tests {
 }
 
 // At first no wrap is known, and their places hold 0.
-pub fn tests_of(n: u32, x: u32, y: u32) -> Tests
-    requires { (listed n ≡ true) × (x < modulus n) × (y < modulus n) }
-    ensures { (result.doubled ≡ tabulate 3 (doubled n x y)) × (result.low ≡ tabulate 3 (low_bit n x y)) × (result.wraps ≡ tabulate 3 (λ _. 0)) }
+pub fn tests_of(n: Width, x: u32, y: u32) -> Tests
+    requires { (x < modulus n.bits) × (y < modulus n.bits) }
+    ensures { (result.doubled ≡ tabulate 3 (doubled n.bits x y)) × (result.low ≡ tabulate 3 (low_bit n.bits x y)) × (result.wraps ≡ tabulate 3 (λ _. 0)) }
 {
-    let difference = field::sub(n, x, y);
-    let a = field::add(n, x, x);
-    let b = field::add(n, y, y);
-    let c = field::add(n, difference, difference);
+    let difference = n.sub(x, y);
+    let a = n.add(x, x);
+    let b = n.add(y, y);
+    let c = n.add(difference, difference);
     Tests {
         doubled: [a, b, c],
         low: [a % 2, b % 2, c % 2],
@@ -29,19 +31,19 @@ pub fn tests_of(n: u32, x: u32, y: u32) -> Tests
 }
 
 // A share of 1 - v.
-pub fn complement_of(n: u32, side: u32, v: u32) -> u32
-    requires { (listed n ≡ true) × (v < modulus n) }
-    ensures value { result ≡ complement n side v }
-    ensures below { result < modulus n }
+pub fn complement_of(n: Width, side: u32, v: u32) -> u32
+    requires { v < modulus n.bits }
+    ensures value { result ≡ complement n.bits side v }
+    ensures below { result < modulus n.bits }
 {
-    field::sub(n, shares::constant(side, 1), v)
+    n.sub(shares::constant(side, 1), v)
 }
 
 // A share of u + v - 2uv, from the shares of u + v and of uv.
-pub fn exclusive_of(n: u32, total: u32, product: u32) -> u32
-    requires { (listed n ≡ true) × (total < modulus n) × (product < modulus n) }
-    ensures value { result ≡ exclusive n total product }
-    ensures below { result < modulus n }
+pub fn exclusive_of(n: Width, total: u32, product: u32) -> u32
+    requires { (total < modulus n.bits) × (product < modulus n.bits) }
+    ensures value { result ≡ exclusive n.bits total product }
+    ensures below { result < modulus n.bits }
 {
-    field::sub(n, total, field::add(n, product, product))
+    n.sub(total, n.add(product, product))
 }

@@ -1,13 +1,28 @@
 -- The sections of a tape, for every section at once: they fill the body, the trailer's distances lead back to them, and their words are the tape's.
 use Prim.Native.Nat.{ℕ, zero, suc, ◌+◌, ◌<◌, ◌≤◌}
-use mathlib.Core.Path.{◌≡◌}
-use mathlib.Core.List.{List}
+use mathlib.Core.Path.{◌≡◌, refl}
+use mathlib.Core.List.{List, [], ◌∷◌}
 use native.Mathlib.Omega.{arith}
 use lib.ListN.{length, get_or, drop, length-drop}
 use lib.Seq.{length-take-le, get_or-take, get_or-drop}
 use Rattle.field.specs.Width.{modulus}
 use Rattle.tape.specs.Layout.{section_length, section_start, section, body_length, trailer}
 use Rattle.tape.specs.Order.{Readable}
+use Rattle.tape.specs.Sections.{place}
+use Rattle.tape.specs.declared.Section.{Section}
+use Rattle.tape.specs.declared.Section.TheVariants.{Squares, Powers, Triples}
+
+pub place_below : (s : Section) → place s < 3
+place_below Squares = omega arith
+place_below Powers = omega arith
+place_below Triples = omega arith
+
+-- in the order in which they stand
+pub placed : (k : ℕ) (other : Section) → k < 3 → place (get_or (Squares ∷ Powers ∷ Triples ∷ []) k other) ≡ k
+placed zero other l = refl
+placed (suc zero) other l = refl
+placed (suc (suc zero)) other l = refl
+placed (suc (suc (suc k))) other l = absurd (omega arith)
 
 -- the three sections are the body
 pub body_whole : (n : ℕ) → section_start n 3 ≡ body_length n

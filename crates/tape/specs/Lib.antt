@@ -1,4 +1,5 @@
 pub mod Layout
+pub mod Sections
 pub mod Order
 pub mod Letters
 pub mod Dealt

@@ -10,7 +10,7 @@ pub loop-word-preserved : goal.loop-word-preserved
 loop-word-preserved c =
     let inv = c.loop-word.invariant in
     elim c.if-word-eq-ZERO.branch [
-      | then-word-eq-ZERO w ↦ rw (w.words-is, w.zeros-is) (respelled_zero inv (omega arith) w.if-word-eq-ZERO.true _ c.modulus_of-p.ensures)
+      | then-word-eq-ZERO w ↦ rw (w.words-is, w.zeros-is) (respelled_zero inv (omega arith) w.if-word-eq-ZERO.true _ c.modulus-p.ensures)
       | else-word-eq-ZERO w ↦ rw (w.words-is, w.zeros-is) (respelled_other inv (omega arith) w.if-word-eq-ZERO.false)
     ]
 

@@ -21,7 +21,7 @@ loop-word-preserved c =
     let last : c.next-last.result ≡ draw c.args.v (i + 1) = c.next-last.ensures ∙ ap next c.loop-word.invariant.0 ∙ sym (draw_next c.args.v i) in (
       last,
       stored_more c.loop-word.invariant.1 _ _ (omega arith) (sym (zero-add i))
-          (c.reduce.ensures.value ∙ ap (λ (w : ℕ). w % modulus c.args.n) (last ∙ ap (draw c.args.v) (add-one i))),
+          (c.reduce.ensures.value ∙ ap (λ (w : ℕ). w % modulus c.args.n.bits) (last ∙ ap (draw c.args.v) (add-one i))),
     )
 
 pub returns-clause-filled : goal.returns-clause-filled

@@ -8,4 +8,4 @@ use Rattle.draws.proofs.fill.Given as goal
 
 abbrev pub invariant-loop-word : goal.invariant-loop-word
 invariant-loop-word l =
-    (l.last ≡ draw l.v l.word-index) × Stored l.initial.words 0 (length l.initial.words) (λ j. word l.n l.v (suc j)) l.words l.word-index
+    (l.last ≡ draw l.v l.word-index) × Stored l.initial.words 0 (length l.initial.words) (λ j. word l.n.bits l.v (suc j)) l.words l.word-index

@@ -17,11 +17,11 @@ pub returns : goal.returns
 returns c =
     let a = c.args in
     let words = a.words.now in
-    let below : c.all_below.result ≡ every (length words) (λ i. ltb (get_or words i 0) (c.modulus_of.result + 1)) = c.all_below.ensures in
+    let below : c.all_below.result ≡ every (length words) (λ i. ltb (get_or words i 0) (c.modulus.result + 1)) = c.all_below.ensures in
     below
-    ∙ ap (λ (p : ℕ). every (length words) (λ i. ltb (get_or words i 0) (p + 1))) c.modulus_of.ensures
-    ∙ every_same (length words) (λ i. ltb (get_or words i 0) (modulus a.n + 1)) (λ i. legible a.n (get_or words i 0))
-    (λ i less. legible_below a.n (get_or words i 0))
+    ∙ ap (λ (p : ℕ). every (length words) (λ i. ltb (get_or words i 0) (p + 1))) c.modulus.ensures
+    ∙ every_same (length words) (λ i. ltb (get_or words i 0) (modulus a.n.bits + 1)) (λ i. legible a.n.bits (get_or words i 0))
+    (λ i less. legible_below a.n.bits (get_or words i 0))
 
-pub overflow_add-modulus_of : goal.overflow_add-modulus_of
-overflow_add-modulus_of c = omega (arith, bounds c.requires, c.modulus_of.ensures)
+pub overflow_add-modulus : goal.overflow_add-modulus
+overflow_add-modulus c = omega (arith, bounds c.args.n.listed, c.modulus.ensures)

@@ -6,4 +6,4 @@ use Rattle.shares.proofs.open.Goals as goal
 pub returns : goal.returns
 returns c =
     let a = c.args in
-    record { value = c.add.ensures.value ∙ sym (opened_sum a.n a.sent a.heard); below = c.add.ensures.below }
+    record { value = c.add.ensures.value ∙ sym (opened_sum a.n.bits a.sent a.heard); below = c.add.ensures.below }

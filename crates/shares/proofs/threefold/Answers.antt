@@ -49,10 +49,10 @@ returns c =
             c.mul-eg.ensures.value,
             c.mul-ef.ensures.value,
           )
-          (reduced (modulus a.n) a.side a.e a.f a.g m.a m.b m.c m.ab m.ac m.bc m.abc);
+          (reduced (modulus a.n.bits) a.side a.e a.f a.g m.a m.b m.c m.ab m.ac m.bc m.abc);
       below = c.add.ensures.below;
     }
 
 pub summed-by_masks-requires : goal.summed-by_masks-requires
 summed-by_masks-requires c =
-    let m = c.requires.a_bound in record { n_value = (c.requires.n_value.0, omega (arith, c.constant-efg.ensures.most, c.mul.ensures.below), c.mul-ef.ensures.below, m.2); f_bound = (c.mul-eg.ensures.below, m.1, c.mul-fg.ensures.below, m.0) }
+    let m = c.requires.a_bound in record { operands = (omega (arith, c.constant-efg.ensures.most, c.mul.ensures.below), c.mul-ef.ensures.below, m.2); f_bound = (c.mul-eg.ensures.below, m.1, c.mul-fg.ensures.below, m.0) }

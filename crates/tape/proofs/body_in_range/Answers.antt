@@ -1,115 +1,82 @@
-use Prim.Native.Nat.{ℕ, ◌+◌, ◌<◌, ◌≤◌}
-use mathlib.Core.Path.{◌≡◌, refl, sym, ◌∙◌}
-use mathlib.Core.Bool.{Bool}
-use native.Mathlib.Numerals.{add-one}
-use native.Mathlib.Omega.{arith}
-use borrow.Author.Rules.{rules}
-use borrow.Author.Tests.{ne_eqb, eq-eqb, lt-ltb, ltb-true, not-false}
-use lib.Dec.{ltb}
-use lib.ListN.{length, get_or}
+use Rattle.std.proofs.Common.{◌≡◌, ◌+◌, ◌≤◌, ◌<◌, length, get_or, ltb, refl, sym, ap, ◌∙◌, arith, add-one, lt-ltb, ltb-true, below_more}
 use Rattle.lists.proofs.Every.{every_intro, every_fails}
 use Rattle.field.specs.Width.{modulus}
-use Rattle.tape.specs.Layout.{section_start, body_length}
+use Rattle.tape.specs.Layout.{section_length, body_length}
 use Rattle.tape.specs.Order.{body_in_range}
-use Rattle.tape.proofs.Sections.{section_within, body_whole}
-use Rattle.tape.proofs.Passing.{none_between, between_join, between_one}
-use Rattle.tape.proofs.body_in_range.Goals.{After-section_words, In-loop-i, else-sections-test, then-sections-test+then-loop-i-test+then-not-in_range}
+use Rattle.tape.proofs.Sections.{placed, section_within}
+use Rattle.tape.proofs.Passing.{none_between, between_join, part, length_part, length_later, later_word, part_passed}
+use Rattle.tape.proofs.body_in_range.Goals.{After-section_words}
 use Rattle.tape.proofs.body_in_range.Goals as goal
 
 pub sections-init : goal.sections-init
-sections-init c = (omega arith, (refl, none_between c.args.tape.now c.args.n 0))
-
-pub section_words-requires : goal.section_words-requires
-section_words-requires c = (c.requires.0, omega arith)
+sections-init c = record { all = refl; start = refl; below = none_between c.args.tape.now c.args.n.bits 0 }
 
 -- a section ends within the body
-end_within : (c : After-section_words)
-    → c.sections.i + c.section_words.result ≤ body_length c.args.n
+words_of : (c : After-section_words) → c.section_words.result ≡ section_length c.args.n.bits c.sections.section-index
+words_of c =
+    c.section_words.ensures ∙ ap (section_length c.args.n.bits) (placed c.sections.section-index _ c.sections-test.true)
+
+end_within : (c : After-section_words) → c.sections.from + c.section_words.result ≤ length c.args.tape.now
 end_within c =
-    omega (
-      arith,
-      c.sections.invariant.1.0,
-      c.section_words.ensures,
-      section_within c.args.n c.sections.which c.sections-test.true,
-    )
+    omega (arith, words_of c, c.sections.invariant.start, section_within c.args.n.bits c.sections.section-index c.sections-test.true, c.requires)
 
 pub overflow_add-end : goal.overflow_add-end
-overflow_add-end c = omega (arith, end_within (goal.at.overflow_add-end c).After-section_words)
+overflow_add-end c = omega (arith, end_within c, c.well_formed)
 
-pub passed-i-requires : goal.passed-i-requires
-passed-i-requires c =
-    (c.requires.0, omega arith, omega (arith, end_within (goal.at.passed-i-requires c).After-section_words, c.requires.1))
+pub offset_bounds-tape-from : goal.offset_bounds-tape-from
+offset_bounds-tape-from c = omega (arith, end_within c, c.well_formed)
 
-pub loop-i-init : goal.loop-i-init
-loop-i-init c =
-    let a = c.args in
-    let e = c.passed-i.ensures in
-    (e.within.1, between_join a.tape.now a.n 0 c.sections.i c.passed-i.result c.sections.invariant.1.1 e.below)
+pub slice_bounds-words-end : goal.slice_bounds-words-end
+slice_bounds-words-end c = let within = end_within c in omega arith
 
--- a word that is read stands on the tape
-inside : (c : In-loop-i)
-    → c.loop-i.i < length c.args.tape.now
-inside c =
-    omega (
-      arith,
-      c.loop-i-test.true,
-      c.sections.invariant.1.0,
-      c.section_words.ensures,
-      section_within c.args.n c.sections.which c.sections-test.true,
-      c.requires.1,
-    )
-
-pub offset_bounds-tape-i : goal.offset_bounds-tape-i
-offset_bounds-tape-i c = let here = inside (goal.at.offset_bounds-tape-i c).In-loop-i in search rules
-
-pub bounds-tape-i : goal.bounds-tape-i
-bounds-tape-i c = inside (goal.at.bounds-tape-i c).In-loop-i
-
-pub in_range-requires : goal.in_range-requires
-in_range-requires c = c.requires.0
-
-pub overflow_add-i : goal.overflow_add-i
-overflow_add-i c = omega (arith, inside (goal.at.overflow_add-i c).In-loop-i)
-
-pub loop-i-smaller : goal.loop-i-smaller
-loop-i-smaller c = omega arith
-
-pub loop-i-preserved : goal.loop-i-preserved
-loop-i-preserved c =
-    let l = c.loop-i in
-    let a = c.args in
-    let small = ltb-true (get_or a.tape.now l.i 0) (modulus a.n) (sym c.in_range.ensures ∙ not-false _ c.if-not-in_range.false-raw) in
-    (omega arith, between_one a.tape.now a.n 0 l.i l.invariant.1 small)
-
-pub overflow_add-which : goal.overflow_add-which
-overflow_add-which c = omega arith
-
-pub sections-smaller : goal.sections-smaller
-sections-smaller c = omega arith
+pub loop-word-preserved : goal.loop-word-preserved
+loop-word-preserved c =
+    record {
+      all = c.loop-word.invariant.all;
+      below = below_more _ _ c.loop-word.invariant.below (ltb-true _ _ (sym c.contains.ensures ∙ c.if-not-contains.false));
+    }
 
 pub sections-preserved : goal.sections-preserved
 sections-preserved c =
-    (omega arith, (rw add-one (omega (arith, c.section_words.ensures, c.sections.invariant.1.0)), c.loop-i.invariant.1))
+    let s = c.sections in
+    let a = c.args in
+    let to = s.from + c.section_words.result in
+    let here = (goal.at.sections-preserved c).After-section_words in
+    let inside = end_within here in
+    record {
+      all = c.loop-word.invariant.all;
+      start = rw add-one (omega (arith, words_of here, s.invariant.start));
+      below = between_join a.tape.now a.n.bits 0 s.from to s.invariant.below
+          (part_passed a.tape.now s.from to c.passed.result (omega arith) inside a.n.bits c.passed.ensures.within c.passed.ensures.below
+          (λ k l. c.loop-word.invariant.below k (omega (arith, l, length_later a.tape.now s.from to c.passed.result (omega arith) inside))));
+    }
 
--- the way out at the third section's end, and the way out at a word that is p or more
-pub returns : goal.returns
+pub returns-after-sections : goal.returns-after-sections
 unfolding body_in_range
-returns c =
-    let n = c.args.n in
+returns-after-sections c =
+    let n = c.args.n.bits in
     let tape = c.args.tape.now in
-    let small : ℕ → Bool = λ i. ltb (get_or tape i 0) (modulus n) in
-    elim c.sections-test.branch [
-      | else-sections-test w ↦
-          let three : c.sections.which ≡ 3 = omega (arith, w.sections-test.false, c.sections.invariant.0) in
-          let all : c.sections.i ≡ section_start n 3 = rw three at c.sections.invariant.1.0 in
-          eq-eqb c.sections.which 3 three
-          ∙ sym
-          (every_intro (body_length n) small
-          (λ k l. lt-ltb (get_or tape k 0) (modulus n) (c.sections.invariant.1.1 k (omega arith) (omega (arith, body_whole n, all)))))
-      | then-sections-test+then-loop-i-test+then-not-in_range w ↦
-          let less : c.sections.which < 3 = w.sections-test.true in
-          let within : w.loop-i.i < body_length n =
-          omega (arith, w.loop-i-test.true, c.sections.invariant.1.0, w.section_words.ensures, section_within n c.sections.which less) in
-          ne_eqb c.sections.which 3 (λ e. omega arith)
-          ∙ sym (every_fails (body_length n) small w.loop-i.i within (sym w.in_range.ensures ∙ w.if-not-in_range.true))
-    ]
+    let three : c.sections.section-index ≡ 3 = omega arith in
+    c.sections.invariant.all
+    ∙ sym
+    (every_intro (body_length n) (λ i. ltb (get_or tape i 0) (modulus n))
+    (λ k l. lt-ltb (get_or tape k 0) (modulus n) (c.sections.invariant.below k (omega arith) (rw (c.sections.invariant.start, three) l))))
+
+pub returns-then-not-contains : goal.returns-then-not-contains
+unfolding body_in_range
+returns-then-not-contains c =
+    let n = c.args.n.bits in
+    let tape = c.args.tape.now in
+    let s = c.sections in
+    let to = s.from + c.section_words.result in
+    let skipped = c.passed.result in
+    let here = (goal.at.returns-then-not-contains c).After-section_words in
+    let inside = end_within here in
+    let up : s.from ≤ to = omega arith in
+    let read : skipped + c.loop-word.word-index < length (part tape s.from to skipped up inside) =
+    omega (arith, c.loop-word-test.true, length_later tape s.from to skipped up inside) in
+    let within : s.from + (skipped + c.loop-word.word-index) < body_length n =
+    omega (arith, read, length_part tape s.from to skipped up inside, words_of here, s.invariant.start, section_within n s.section-index c.sections-test.true) in
+    sym
+    (every_fails (body_length n) (λ i. ltb (get_or tape i 0) (modulus n)) (s.from + (skipped + c.loop-word.word-index)) within
+    (rw (← later_word tape s.from to skipped up inside c.loop-word.word-index read) (sym c.contains.ensures ∙ c.if-not-contains.true)))

@@ -8,7 +8,8 @@ use lib.ListN.{length, get_or}
 use Rattle.tape.specs.Layout.{section_start, section, body_length}
 use Rattle.tape.specs.Order.{Readable}
 use Rattle.tape.proofs.Sizes.{body_end}
-use Rattle.tape.proofs.Sections.{section_back, section_within}
+use Rattle.tape.specs.Sections.{place}
+use Rattle.tape.proofs.Sections.{section_back, section_within, place_below}
 use Rattle.tape.proofs.section_of.Goals as goal
 
 module _ {n : ℕ} {tape : List ℕ} (r : Readable n tape) (which : ℕ) (l : which < 3) where
@@ -19,33 +20,33 @@ module _ {n : ℕ} {tape : List ℕ} (r : Readable n tape) (which : ℕ) (l : wh
   start = omega (arith, distance, body_end n (length tape) r.long)
 
 pub overflow_cast-start : goal.overflow_cast-start
-overflow_cast-start c = omega (arith, distance c.requires.0 c.args.which c.requires.1, c.requires.0.long, c.well_formed)
+overflow_cast-start c = omega (arith, distance c.requires (place c.args.which) (place_below c.args.which), c.requires.long, c.well_formed)
 
 pub overflow_sub-start : goal.overflow_sub-start
-overflow_sub-start c = omega (arith, distance c.requires.0 c.args.which c.requires.1, c.requires.0.long)
+overflow_sub-start c = rw c.place_of.ensures (omega (arith, distance c.requires (place c.args.which) (place_below c.args.which), c.requires.long))
 
 pub overflow_add-end : goal.overflow_add-end
 overflow_add-end c =
     omega (
       arith,
-      start c.requires.0 c.args.which c.requires.1,
-      section_within c.args.n c.args.which c.requires.1,
+      start c.requires (place c.args.which) (place_below c.args.which),
+      section_within c.args.n.bits (place c.args.which) (place_below c.args.which),
       c.section_words.ensures,
-      c.requires.0.long,
+      c.requires.long,
       c.well_formed,
     )
 
 pub slice_bounds-result-end : goal.slice_bounds-result-end
 slice_bounds-result-end c =
-    omega (
+    rw c.place_of.ensures (omega (
       arith,
-      start c.requires.0 c.args.which c.requires.1,
-      section_within c.args.n c.args.which c.requires.1,
+      start c.requires (place c.args.which) (place_below c.args.which),
+      section_within c.args.n.bits (place c.args.which) (place_below c.args.which),
       c.section_words.ensures,
-      c.requires.0.long,
-    )
+      c.requires.long,
+    ))
 
 pub returns : goal.returns
 unfolding section
 returns c =
-    rw (c.section_words.ensures, add-sub_cancel_left, ← start c.requires.0 c.args.which c.requires.1) refl
+    rw (c.place_of.ensures, c.section_words.ensures, add-sub_cancel_left, ← start c.requires (place c.args.which) (place_below c.args.which)) refl

@@ -13,10 +13,10 @@ unfolding level_code
 returns-then-side-eq1 c =
     let a = c.args in
     rw (eq-eqb a.side 1 c.if-side-eq1.true)
-    (c.range_code.ensures ∙ ap (λ (p : ℕ). range_code a.n (p - 1 - a.v) a.level) c.modulus_of.ensures)
+    (c.range_code.ensures ∙ ap (λ (p : ℕ). range_code a.n.bits (p - 1 - a.v) a.level) c.modulus.ensures)
 
 pub overflow_shr-result : goal.overflow_shr-result
-overflow_shr-result c = omega (arith, bounds c.requires.0)
+overflow_shr-result c = omega (arith, bounds c.args.n.listed)
 
 pub returns-else-side-eq1 : goal.returns-else-side-eq1
 unfolding level_code point_code

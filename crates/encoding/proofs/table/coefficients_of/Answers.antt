@@ -4,12 +4,12 @@ use Rattle.encoding.proofs.Rows.{entry_right, row_length, place_below}
 use Rattle.encoding.proofs.table.coefficients_of.Goals as goal
 
 pub offset_bounds-row : goal.offset_bounds-row
-offset_bounds-row c = omega (arith, place_below c.args.n c.requires)
+offset_bounds-row c = omega (arith, place_below c.args.n.bits c.args.n.listed)
 
 pub bounds-row-row : goal.bounds-row-row
-bounds-row-row c = omega (arith, place_below c.args.n c.requires)
+bounds-row-row c = omega (arith, place_below c.args.n.bits c.args.n.listed)
 
 pub returns : goal.returns
 returns c =
     let e = c.row_of-row.ensures in
-    (λ k most. rw e (entry_right c.args.n k c.requires most), rw e (row_length c.args.n c.requires))
+    (λ k most. rw e (entry_right c.args.n.bits k c.args.n.listed most), rw e (row_length c.args.n.bits c.args.n.listed))

@@ -28,7 +28,7 @@ returns-in-19 c = rw c.in-19.is
 pub returns-in_default : goal.returns-in_default
 unfolding listed
 returns-in_default c =
-    let n = c.args.n in
+    let n = c.args.n.bits in
     let none = c.in_default.in_default-own.rest in
     let left =
     simp (
@@ -38,5 +38,5 @@ returns-in_default c =
       ne_eqb n 13 none.0.0.1,
       ne_eqb n 17 none.0.1,
       ne_eqb n 19 none.1,
-    ) at c.requires in
+    ) at c.args.n.listed in
     rw (⊎_elim (λ e. eqb-true n 31 e) (λ e. absurd (false≢true e)) (or_cases (eqb n 31) false left))

@@ -1,8 +1,4 @@
--- `steps::tests::complement_of` meets its contract.
-use native.Mathlib.Nat.{le_of_lt}
-use native.Mathlib.Omega.{arith}
-use mathlib.Core.Path.{ap, ◌∙◌}
-use Prim.Native.Nat.{ℕ}
+use Rattle.std.proofs.Common.{ℕ, ap, ◌∙◌, le_of_lt, arith}
 use Rattle.field.proofs.Widths.{bounds}
 use Rattle.field.specs.Subtraction.{minus}
 use Rattle.protocol.specs.Tests.{complement}
@@ -10,10 +6,9 @@ use Rattle.steps.proofs.tests.complement_of.Goals as goal
 
 pub sub-requires : goal.sub-requires
 sub-requires c =
-    (c.requires.0, omega (arith, bounds c.requires.0), le_of_lt c.requires.1)
+    (omega (arith, bounds c.args.n.listed), le_of_lt c.requires)
 
-pub returns : goal.returns
+pub returns-clause-value : goal.returns-clause-value
 unfolding complement
-returns c =
-    let a = c.args in
-    record { value = c.sub.ensures.value ∙ ap (λ (v : ℕ). minus a.n v a.v) c.constant.ensures.value; below = c.sub.ensures.below }
+returns-clause-value c =
+    c.sub.ensures.value ∙ ap (λ (v : ℕ). minus c.args.n.bits v c.args.v) c.constant.ensures.value

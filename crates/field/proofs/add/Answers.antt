@@ -1,5 +1,0 @@
--- `field::add` meets its contract: the sum of two words below p is below 2p.
-use Rattle.field.proofs.add.Goals as goal
-
-pub returns : goal.returns
-returns c = record { value = c.reduce_once.ensures.value; below = c.reduce_once.ensures.below }
