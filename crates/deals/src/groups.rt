@@ -12,26 +12,27 @@ ghost use Rattle.deals.specs.Deals.{kind_length, kind_word};
 ghost use Rattle.deals.specs.Kinds.{number_of};
 
 use crate::kinds::Kind;
+use field::Width;
 
 // Box 2's last word of a square (a, q) or a triple (a, b, c): what is left of the product of both boxes' first words and their last but one.
-fn product_left(n: u32, w1: &[u32], w2: &[u32]) -> u32
-    requires n_value { (listed n ≡ true) × (2 ≤ length w1.now) × (length w2.now ≡ length w1.now) }
-    requires below { ((j : ℕ) → j < length w1.now → get_or w1.now j 0 < modulus n)
-        × ((j : ℕ) → j < length w1.now - 1 → get_or w2.now j 0 < modulus n) }
-    ensures { result ≡ product_left n w1.now w2.now }
+fn product_left(n: Width, w1: &[u32], w2: &[u32]) -> u32
+    requires operands { (2 ≤ length w1.now) × (length w2.now ≡ length w1.now) }
+    requires below { ((j : ℕ) → j < length w1.now → get_or w1.now j 0 < modulus n.bits)
+        × ((j : ℕ) → j < length w1.now - 1 → get_or w2.now j 0 < modulus n.bits) }
+    ensures { result ≡ product_left n.bits w1.now w2.now }
 {
     let last = w1.len() - 1;
-    let a = field::add(n, w1[0], w2[0]);
-    let b = field::add(n, w1[last - 1], w2[last - 1]);
-    field::sub(n, field::mul(n, a, b), w1[last])
+    let a = n.add(w1[0], w2[0]);
+    let b = n.add(w1[last - 1], w2[last - 1]);
+    n.sub(n.mul(a, b), w1[last])
 }
 
 // A square or a triple: box 1's words are drawn, then box 2's but for its last.
-fn product(n: u32, v: u32, w1: &mut [u32], w2: &mut [u32]) -> u32
-    requires { (listed n ≡ true) × (2 ≤ length w1.old) × (length w2.old ≡ length w1.old) }
+fn product(n: Width, v: u32, w1: &mut [u32], w2: &mut [u32]) -> u32
+    requires { (2 ≤ length w1.old) × (length w2.old ≡ length w1.old) }
     ensures value { result ≡ draw v (length w1.old + (length w1.old - 1)) }
-    ensures box1 { w1.new ≡ drawn_words n v (length w1.old) }
-    ensures box2 { w2.new ≡ product_words n v (length w1.old) }
+    ensures box1 { w1.new ≡ drawn_words n.bits v (length w1.old) }
+    ensures box2 { w2.new ≡ product_words n.bits v (length w1.old) }
 {
     let last = w1.len() - 1;
     let own = draws::fill(n, v, &mut *w1);
@@ -41,39 +42,39 @@ fn product(n: u32, v: u32, w1: &mut [u32], w2: &mut [u32]) -> u32
 }
 
 // Box 2's words of a power group, given box 1's: what is left of w, r, r^2, .., r^n.
-fn left_powers(n: u32, w: u32, r: u32, w1: &[u32], w2: &mut [u32])
-    requires n_value { (listed n ≡ true) × (w < modulus n) × (r < modulus n) × (length w2.old ≡ length w1.now) }
-    requires below { (j : ℕ) → j < length w1.now → get_or w1.now j 0 < modulus n }
-    ensures { w2.new ≡ tabulate (length w1.now) (λ j. minus n (power_at n w r j) (get_or w1.now j 0)) }
+fn left_powers(n: Width, w: u32, r: u32, w1: &[u32], w2: &mut [u32])
+    requires operands { (w < modulus n.bits) × (r < modulus n.bits) × (length w2.old ≡ length w1.now) }
+    requires below { (j : ℕ) → j < length w1.now → get_or w1.now j 0 < modulus n.bits }
+    ensures { w2.new ≡ tabulate (length w1.now) (λ j. minus n.bits (power_at n.bits w r j) (get_or w1.now j 0)) }
 {
     let mut total = w;
     let mut power: u32 = 1;
     for (j, left) in w2.iter_mut().enumerate() {
-        *left = field::sub(n, total, w1[j]);
-        power = field::mul(n, power, r);
+        *left = n.sub(total, w1[j]);
+        power = n.mul(power, r);
         total = power;
     }
 }
 
 // 2^k, for k below n.
-fn power_of_two(n: u32, k: u32) -> u32
-    requires { (listed n ≡ true) × (k < n) }
+fn power_of_two(n: Width, k: u32) -> u32
+    requires { k < n.bits }
     ensures value { result ≡ 2 ^ k }
-    ensures below { result < modulus n }
+    ensures below { result < modulus n.bits }
 {
     1u32 << k
 }
 
 // A power group: the first draw gives k, and so r = 2^k and w = 2^((n - k) mod n). Then box 1's words are drawn.
-fn powers(n: u32, v: u32, w1: &mut [u32], w2: &mut [u32]) -> u32
-    requires { (listed n ≡ true) × (length w1.old ≡ n + 1) × (length w2.old ≡ n + 1) }
-    ensures value { result ≡ draw v (n + 2) }
-    ensures box1 { w1.new ≡ tabulate (n + 1) (group_word n 1 1 v) }
-    ensures box2 { w2.new ≡ tabulate (n + 1) (group_word n 2 1 v) }
+fn powers(n: Width, v: u32, w1: &mut [u32], w2: &mut [u32]) -> u32
+    requires { (length w1.old ≡ n.bits + 1) × (length w2.old ≡ n.bits + 1) }
+    ensures value { result ≡ draw v (n.bits + 2) }
+    ensures box1 { w1.new ≡ tabulate (n.bits + 1) (group_word n.bits 1 1 v) }
+    ensures box2 { w2.new ≡ tabulate (n.bits + 1) (group_word n.bits 2 1 v) }
 {
     let first = draws::next(v);
-    let k = first % n;
-    let w = power_of_two(n, (n - k) % n);
+    let k = first % n.bits;
+    let w = power_of_two(n, (n.bits - k) % n.bits);
     let r = power_of_two(n, k);
     let last = draws::fill(n, first, &mut *w1);
     left_powers(n, w, r, &*w1, w2);
@@ -81,27 +82,27 @@ fn powers(n: u32, v: u32, w1: &mut [u32], w2: &mut [u32]) -> u32
 }
 
 // Box 2's ab, ac, bc and abc of the last group, given box 1's words and box 2's a, b and c: what is left of the products of the summed masks.
-fn threefold_left(n: u32, w1: &[u32], w2: &mut [u32])
-    requires n_value { (listed n ≡ true) × (length w1.now ≡ 7) × (length w2.old ≡ 7) }
-    requires below { ((j : ℕ) → j < 7 → get_or w1.now j 0 < modulus n) × ((j : ℕ) → j < 3 → get_or w2.old j 0 < modulus n) }
-    ensures { w2.new ≡ sets w2.old 3 (threefold_left n w1.now w2.old) }
+fn threefold_left(n: Width, w1: &[u32], w2: &mut [u32])
+    requires operands { (length w1.now ≡ 7) × (length w2.old ≡ 7) }
+    requires below { ((j : ℕ) → j < 7 → get_or w1.now j 0 < modulus n.bits) × ((j : ℕ) → j < 3 → get_or w2.old j 0 < modulus n.bits) }
+    ensures { w2.new ≡ sets w2.old 3 (threefold_left n.bits w1.now w2.old) }
 {
-    let a = field::add(n, w1[0], w2[0]);
-    let b = field::add(n, w1[1], w2[1]);
-    let c = field::add(n, w1[2], w2[2]);
-    let ab = field::mul(n, a, b);
-    w2[3] = field::sub(n, ab, w1[3]);
-    w2[4] = field::sub(n, field::mul(n, a, c), w1[4]);
-    w2[5] = field::sub(n, field::mul(n, b, c), w1[5]);
-    w2[6] = field::sub(n, field::mul(n, ab, c), w1[6]);
+    let a = n.add(w1[0], w2[0]);
+    let b = n.add(w1[1], w2[1]);
+    let c = n.add(w1[2], w2[2]);
+    let ab = n.mul(a, b);
+    w2[3] = n.sub(ab, w1[3]);
+    w2[4] = n.sub(n.mul(a, c), w1[4]);
+    w2[5] = n.sub(n.mul(b, c), w1[5]);
+    w2[6] = n.sub(n.mul(ab, c), w1[6]);
 }
 
 // The last group, (a, b, c, ab, ac, bc, abc): box 1's words are drawn, then box 2's a, b and c.
-fn threefold(n: u32, v: u32, w1: &mut [u32], w2: &mut [u32]) -> u32
-    requires { (listed n ≡ true) × (length w1.old ≡ 7) × (length w2.old ≡ 7) }
+fn threefold(n: Width, v: u32, w1: &mut [u32], w2: &mut [u32]) -> u32
+    requires { (length w1.old ≡ 7) × (length w2.old ≡ 7) }
     ensures value { result ≡ draw v 10 }
-    ensures box1 { w1.new ≡ drawn_words n v 7 }
-    ensures box2 { w2.new ≡ threefold_words n v }
+    ensures box1 { w1.new ≡ drawn_words n.bits v 7 }
+    ensures box2 { w2.new ≡ threefold_words n.bits v }
 {
     let own = draws::fill(n, v, &mut *w1);
     let after = draws::fill(n, own, &mut w2[..3]);
@@ -110,11 +111,11 @@ fn threefold(n: u32, v: u32, w1: &mut [u32], w2: &mut [u32]) -> u32
 }
 
 // One group. Answers its last draw.
-fn group(n: u32, kind: Kind, v: u32, w1: &mut [u32], w2: &mut [u32]) -> u32
-    requires { (listed n ≡ true) × (length w1.old ≡ group_length n (number_of kind)) × (length w2.old ≡ group_length n (number_of kind)) }
-    ensures value { result ≡ draw v (group_draws n (number_of kind)) }
-    ensures box1 { w1.new ≡ tabulate (group_length n (number_of kind)) (group_word n 1 (number_of kind) v) }
-    ensures box2 { w2.new ≡ tabulate (group_length n (number_of kind)) (group_word n 2 (number_of kind) v) }
+fn group(n: Width, kind: Kind, v: u32, w1: &mut [u32], w2: &mut [u32]) -> u32
+    requires { (length w1.old ≡ group_length n.bits (number_of kind)) × (length w2.old ≡ group_length n.bits (number_of kind)) }
+    ensures value { result ≡ draw v (group_draws n.bits (number_of kind)) }
+    ensures box1 { w1.new ≡ tabulate (group_length n.bits (number_of kind)) (group_word n.bits 1 (number_of kind) v) }
+    ensures box2 { w2.new ≡ tabulate (group_length n.bits (number_of kind)) (group_word n.bits 2 (number_of kind) v) }
 {
     match kind {
         Kind::Power => powers(n, v, w1, w2),
@@ -124,11 +125,11 @@ fn group(n: u32, kind: Kind, v: u32, w1: &mut [u32], w2: &mut [u32]) -> u32
 }
 
 // All groups of a kind. Answers their last draw.
-pub fn all_of(n: u32, kind: Kind, v: u32, w1: &mut [u32], w2: &mut [u32]) -> u32
-    requires { (listed n ≡ true) × (length w1.old ≡ kind_length n (number_of kind)) × (length w2.old ≡ kind_length n (number_of kind)) }
-    ensures value { result ≡ draw v (groups_of n (number_of kind) * group_draws n (number_of kind)) }
-    ensures box1 { w1.new ≡ tabulate (kind_length n (number_of kind)) (kind_word n 1 (number_of kind) v) }
-    ensures box2 { w2.new ≡ tabulate (kind_length n (number_of kind)) (kind_word n 2 (number_of kind) v) }
+pub fn all_of(n: Width, kind: Kind, v: u32, w1: &mut [u32], w2: &mut [u32]) -> u32
+    requires { (length w1.old ≡ kind_length n.bits (number_of kind)) × (length w2.old ≡ kind_length n.bits (number_of kind)) }
+    ensures value { result ≡ draw v (groups_of n.bits (number_of kind) * group_draws n.bits (number_of kind)) }
+    ensures box1 { w1.new ≡ tabulate (kind_length n.bits (number_of kind)) (kind_word n.bits 1 (number_of kind) v) }
+    ensures box2 { w2.new ≡ tabulate (kind_length n.bits (number_of kind)) (kind_word n.bits 2 (number_of kind) v) }
 {
     let words = kind.group_words(n);
     let mut last = v;

@@ -5,6 +5,8 @@ ghost use Rattle.deals.specs.Groups.{groups_of, group_length};
 ghost use Rattle.deals.specs.Deals.{kind_length};
 ghost use Rattle.deals.specs.Kinds.{number_of};
 
+use field::Width;
+
 // The groups of the tape's three sections, and the last group, which stands behind the triples.
 #[derive(Clone, Copy)]
 pub enum Kind {
@@ -19,24 +21,22 @@ impl Kind {
     pub const ALL: [Kind; 4] = [Kind::Square, Kind::Power, Kind::Triple, Kind::Last];
 
     // How many words each box has of a group.
-    pub fn group_words(self, n: u32) -> usize
-        requires { listed n ≡ true }
-        ensures { result ≡ group_length n (number_of self) }
+    pub fn group_words(self, n: Width) -> usize
+        ensures { result ≡ group_length n.bits (number_of self) }
     {
         match self {
             Kind::Square => 2,
-            Kind::Power => n as usize + 1,
+            Kind::Power => n.bits as usize + 1,
             Kind::Triple => 3,
             Kind::Last => 7,
         }
     }
 
     // How many groups a tape has.
-    pub fn group_count(self, n: u32) -> usize
-        requires { listed n ≡ true }
-        ensures { result ≡ groups_of n (number_of self) }
+    pub fn group_count(self, n: Width) -> usize
+        ensures { result ≡ groups_of n.bits (number_of self) }
     {
-        let m = n as usize;
+        let m = n.bits as usize;
         match self {
             Kind::Square => 3 * (m * m),
             Kind::Power => 3 * m,
@@ -46,9 +46,8 @@ impl Kind {
     }
 
     // How many words each box has of all groups.
-    pub fn words(self, n: u32) -> usize
-        requires { listed n ≡ true }
-        ensures { result ≡ kind_length n (number_of self) }
+    pub fn words(self, n: Width) -> usize
+        ensures { result ≡ kind_length n.bits (number_of self) }
     {
         self.group_count(n) * self.group_words(n)
     }

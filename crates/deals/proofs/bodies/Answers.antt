@@ -43,7 +43,7 @@ loop-kind-init c = record { there = refl; drawn = sym (draw_none _); box1 = fron
 pub loop-kind-preserved : goal.loop-kind-preserved
 loop-kind-preserved c =
     let seed = c.args.seed in
-    let n = c.args.n in
+    let n = c.args.n.bits in
     let i = c.loop-kind.kind-index in
     let before = c.loop-kind.last in
     let h = c.loop-kind.invariant in
@@ -62,14 +62,14 @@ loop-kind-preserved c =
           ∙ ap (λ (last : ℕ). draw last taken) h.drawn
           ∙ draw_after seed (draws_before n i) taken
           ∙ ap (λ (k : ℕ). draw seed (draws_before n k)) (sym (add-one i));
-      box1 = one_more seed n 1 i _ _ _ _ _ _ few c.requires.1 h.there size h.drawn box1 h.box1;
-      box2 = one_more seed n 2 i _ _ _ _ _ _ few c.requires.2 h.there size h.drawn box2 h.box2;
+      box1 = one_more seed n 1 i _ _ _ _ _ _ few c.requires.0 h.there size h.drawn box1 h.box1;
+      box2 = one_more seed n 2 i _ _ _ _ _ _ few c.requires.1 h.there size h.drawn box2 h.box2;
     }
 
 pub returns : goal.returns
 returns c =
     let seed = c.args.seed in
-    let n = c.args.n in
+    let n = c.args.n.bits in
     let h = c.loop-kind.invariant in
     let done : c.loop-kind.kind-index ≡ 4 = omega (arith, c.loop-kind-test.false) in
     record { box1 = whole_body seed n 1 _ _ _ done h.box1; box2 = whole_body seed n 2 _ _ _ done h.box2 }

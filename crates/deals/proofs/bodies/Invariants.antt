@@ -16,4 +16,4 @@ pub record Written (seed n : ℕ) (t1₀ t2₀ t1 t2 : List ℕ) (last at kind :
   pub box2 : Front (first_kinds seed n 2 kind) t2₀ t2
 
 abbrev pub invariant-loop-kind : goal.invariant-loop-kind
-invariant-loop-kind l = Written l.seed l.n l.initial.t1 l.initial.t2 l.t1 l.t2 l.last l.at l.kind-index
+invariant-loop-kind l = Written l.seed l.n.bits l.initial.t1 l.initial.t2 l.t1 l.t2 l.last l.at l.kind-index

@@ -6,4 +6,5 @@ use Rattle.deals.proofs.deal.Goals as goal
 pub write-requires : goal.write-requires
 write-requires c =
     let a = c.args in
-    passed a.seed a.n a.t1.now a.t2.now (sym c.in_ok-deal_check.ensures)
+    let p = passed a.seed a.n a.t1.now a.t2.now (sym c.in_ok-n.ensures.ground) in
+    rw c.in_ok-n.ensures.width (p.1, p.2)

@@ -52,13 +52,13 @@ loop-g-init c =
     let kind = number_of a.kind in
     record {
       drawn = sym (draw_none a.v) ∙ ap (draw a.v) (omega arith);
-      box1 = none_yet a.n 1 kind a.v a.w1.now;
-      box2 = none_yet a.n 2 kind a.v a.w2.now;
+      box1 = none_yet a.n.bits 1 kind a.v a.w1.now;
+      box2 = none_yet a.n.bits 2 kind a.v a.w2.now;
     }
 
 pub loop-g-preserved : goal.loop-g-preserved
 loop-g-preserved c =
-    let n = c.args.n in
+    let n = c.args.n.bits in
     let kind = number_of c.args.kind in
     let v = c.args.v in
     let g = c.loop-g.g in
@@ -72,16 +72,16 @@ loop-g-preserved c =
           ∙ ap (λ (last : ℕ). draw last once) h.drawn
           ∙ draw_after v (g * once) once
           ∙ ap (draw v) (omega (arith, suc-mul g once));
-      box1 = one_more n 1 kind v g _ _ _ _ less c.requires.1 h.drawn c.group-last.ensures.box1 h.box1;
-      box2 = one_more n 2 kind v g _ _ _ _ less c.requires.2 h.drawn c.group-last.ensures.box2 h.box2;
+      box1 = one_more n 1 kind v g _ _ _ _ less c.requires.0 h.drawn c.group-last.ensures.box1 h.box1;
+      box2 = one_more n 2 kind v g _ _ _ _ less c.requires.1 h.drawn c.group-last.ensures.box2 h.box2;
     })
 
 pub returns-clause-box1 : goal.returns-clause-box1
 returns-clause-box1 c =
     let a = c.args in
-    all_there a.n 1 (number_of a.kind) a.v c.loop-g.g _ _ (omega (arith, c.loop-g-test.false, c.group_count-g-end.ensures)) c.requires.1 c.loop-g.invariant.box1
+    all_there a.n.bits 1 (number_of a.kind) a.v c.loop-g.g _ _ (omega (arith, c.loop-g-test.false, c.group_count-g-end.ensures)) c.requires.0 c.loop-g.invariant.box1
 
 pub returns-clause-box2 : goal.returns-clause-box2
 returns-clause-box2 c =
     let a = c.args in
-    all_there a.n 2 (number_of a.kind) a.v c.loop-g.g _ _ (omega (arith, c.loop-g-test.false, c.group_count-g-end.ensures)) c.requires.2 c.loop-g.invariant.box2
+    all_there a.n.bits 2 (number_of a.kind) a.v c.loop-g.g _ _ (omega (arith, c.loop-g-test.false, c.group_count-g-end.ensures)) c.requires.1 c.loop-g.invariant.box2

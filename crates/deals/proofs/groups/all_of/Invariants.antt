@@ -17,4 +17,4 @@ pub record Filled (n kind v : ℕ) (w1₀ w2₀ w1 w2 : List ℕ) (last g : ℕ)
   pub box2 : Front (tabulate (g * group_length n kind) (kind_word n 2 kind v)) w2₀ w2
 
 abbrev pub invariant-loop-g : goal.invariant-loop-g
-invariant-loop-g l = Filled l.n (number_of l.kind) l.v l.initial.w1 l.initial.w2 l.w1 l.w2 l.last l.g
+invariant-loop-g l = Filled l.n.bits (number_of l.kind) l.v l.initial.w1 l.initial.w2 l.w1 l.w2 l.last l.g

@@ -18,4 +18,4 @@ pub record Turn (n w r : ℕ) (w1 w2₀ w2 : List ℕ) (total power j : ℕ) : T
   pub stored : Stored w2₀ 0 (length w1) (λ i. minus n (power_at n w r i) (get_or w1 i 0)) w2 j
 
 abbrev pub invariant-loop-j : goal.invariant-loop-j
-invariant-loop-j l = Turn l.n l.w l.r l.w1 l.initial.w2 l.w2 l.total l.power l.j
+invariant-loop-j l = Turn l.n.bits l.w l.r l.w1 l.initial.w2 l.w2 l.total l.power l.j

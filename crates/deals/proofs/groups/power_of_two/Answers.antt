@@ -17,12 +17,12 @@ power_below n k width l =
     omega (arith, twice, four, pow-suc 2 k, b.power)
 
 pub overflow_shl-result : goal.overflow_shl-result
-overflow_shl-result c = omega (arith, bounds c.requires.0, c.requires.1)
+overflow_shl-result c = omega (arith, bounds c.args.n.listed, c.requires)
 
 pub returns : goal.returns
 returns c =
     let k = c.args.k in
-    let below = power_below c.args.n k c.requires.0 c.requires.1 in
-    let fits : 2 ^ k < 2 ^ 32 = omega (arith, below, bounds c.requires.0) in
+    let below = power_below c.args.n.bits k c.args.n.listed c.requires in
+    let fits : 2 ^ k < 2 ^ 32 = omega (arith, below, bounds c.args.n.listed) in
     let exact : (1 * 2 ^ k) % 2 ^ 32 ≡ 2 ^ k = ap (λ (x : ℕ). x % 2 ^ 32) (one-mul (2 ^ k)) ∙ mod-eq_of_lt fits in
     record { value = exact; below = rw exact below }

@@ -16,12 +16,12 @@ use Rattle.deals.proofs.Powers.{first_powers, last_power, second_powers}
 use Rattle.deals.proofs.groups.powers.Goals.{After-fill-last, After-next-first}
 use Rattle.deals.proofs.groups.powers.Goals as goal
 
-some_width : (c : After-next-first) → 0 < c.args.n
-some_width c = omega (arith, bounds c.requires.0)
+some_width : (c : After-next-first) → 0 < c.args.n.bits
+some_width c = omega (arith, bounds c.args.n.listed)
 
 module _ (f : After-fill-last) where
   abbrev n : ℕ
-  n = f.args.n
+  n = f.args.n.bits
 
   abbrev v : ℕ
   v = f.args.v
@@ -37,19 +37,19 @@ module _ (f : After-fill-last) where
   root_is = f.power_of_two-r.ensures.value ∙ ap (λ (k : ℕ). 2 ^ k) choice
 
   own_drawn : f.fill-last.new.words ≡ drawn_words n (next v) (n + 1)
-  own_drawn = f.fill-last.ensures.filled ∙ ap₂ (drawn_words n) f.next-first.ensures f.requires.1
+  own_drawn = f.fill-last.ensures.filled ∙ ap₂ (drawn_words n) f.next-first.ensures f.requires.0
 
   own_below : (words : List ℕ) → words ≡ drawn_words n (next v) (n + 1) → (j : ℕ) → j < length words → get_or words j 0 < modulus n
   own_below words e j l =
-      rw e (drawn_below n (next v) (n + 1) j f.requires.0 (omega (arith, ap length e ∙ length_drawn n (next v) (n + 1), l)))
+      rw e (drawn_below n (next v) (n + 1) j f.args.n.listed (omega (arith, ap length e ∙ length_drawn n (next v) (n + 1), l)))
 
 pub returns : goal.returns
 returns c =
     let f = (goal.at.returns c).After-fill-last in
     record {
-      value = c.fill-last.ensures.value ∙ ap₂ draw c.next-first.ensures c.requires.1 ∙ last_power c.args.n c.args.v;
-      box1 = own_drawn f ∙ first_powers c.args.n c.args.v;
-      box2 = c.left_powers.ensures ∙ second_powers c.args.n c.args.v _ _ (inverse_is f) (root_is f) c.power_of_two-w.ensures.below _ (own_drawn f);
+      value = c.fill-last.ensures.value ∙ ap₂ draw c.next-first.ensures c.requires.0 ∙ last_power c.args.n.bits c.args.v;
+      box1 = own_drawn f ∙ first_powers c.args.n.bits c.args.v;
+      box2 = c.left_powers.ensures ∙ second_powers c.args.n.bits c.args.v _ _ (inverse_is f) (root_is f) c.power_of_two-w.ensures.below _ (own_drawn f);
     }
 
 pub nonzero_rem-k : goal.nonzero_rem-k
@@ -62,19 +62,14 @@ pub nonzero_rem-n : goal.nonzero_rem-n
 nonzero_rem-n c = some_width (goal.at.nonzero_rem-n c).After-next-first
 
 pub power_of_two-w-requires : goal.power_of_two-w-requires
-power_of_two-w-requires c = (c.requires.0, mod-lt _ (some_width (goal.at.power_of_two-w-requires c).After-next-first))
+power_of_two-w-requires c = mod-lt _ (some_width (goal.at.power_of_two-w-requires c).After-next-first)
 
 pub power_of_two-r-requires : goal.power_of_two-r-requires
-power_of_two-r-requires c = (c.requires.0, mod-lt _ (some_width (goal.at.power_of_two-r-requires c).After-next-first))
+power_of_two-r-requires c = mod-lt _ (some_width (goal.at.power_of_two-r-requires c).After-next-first)
 
 pub left_powers-requires : goal.left_powers-requires
 left_powers-requires c =
     let long : length c.fill-last.new.words ≡ n (goal.at.left_powers-requires c).After-fill-last + 1 = ap length (own_drawn (goal.at.left_powers-requires c).After-fill-last) ∙ length_drawn (n (goal.at.left_powers-requires c).After-fill-last) (next (v (goal.at.left_powers-requires c).After-fill-last)) (n (goal.at.left_powers-requires c).After-fill-last + 1) in record {
-      n_value = (
-        c.requires.0,
-        c.power_of_two-w.ensures.below,
-        c.power_of_two-r.ensures.below,
-        c.requires.2 ∙ sym long,
-      );
+      operands = (c.power_of_two-w.ensures.below, c.power_of_two-r.ensures.below, c.requires.1 ∙ sym long);
       below = own_below (goal.at.left_powers-requires c).After-fill-last _ (own_drawn (goal.at.left_powers-requires c).After-fill-last);
     }

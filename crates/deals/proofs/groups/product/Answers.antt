@@ -21,33 +21,33 @@ module _ (f : After-fill-after) where
   rest = drop (count - 1) f.args.w2.now
 
   one_left : length rest ≡ 1
-  one_left = length-drop (count - 1) f.args.w2.now ∙ omega (arith, f.requires.1, f.requires.2)
+  one_left = length-drop (count - 1) f.args.w2.now ∙ omega (arith, f.requires.0, f.requires.1)
 
-  own_drawn : f.fill-own.new.words ≡ drawn_words f.args.n f.args.v count
+  own_drawn : f.fill-own.new.words ≡ drawn_words f.args.n.bits f.args.v count
   own_drawn = f.fill-own.ensures.filled
 
   cut : length (take (count - 1) f.args.w2.now) ≡ count - 1
-  cut = length-take-le (count - 1) f.args.w2.now (omega (arith, f.requires.2))
+  cut = length-take-le (count - 1) f.args.w2.now (omega (arith, f.requires.1))
 
-  others_drawn : f.fill-after.new.words ≡ drawn_words f.args.n (draw f.args.v count) (count - 1)
+  others_drawn : f.fill-after.new.words ≡ drawn_words f.args.n.bits (draw f.args.v count) (count - 1)
   others_drawn =
       f.fill-after.ensures.filled
-      ∙ ap₂ (drawn_words f.args.n) f.fill-own.ensures.value cut
+      ∙ ap₂ (drawn_words f.args.n.bits) f.fill-own.ensures.value cut
 
-  both : Drawn f.args.n count (count - 1) f.fill-own.new.words (f.fill-after.new.words ++ rest)
+  both : Drawn f.args.n.bits count (count - 1) f.fill-own.new.words (f.fill-after.new.words ++ rest)
   both =
-      drawn f.args.n f.args.v count (count - 1) rest f.requires.0 (omega (arith, one_left, f.requires.1)) own_drawn others_drawn
+      drawn f.args.n.bits f.args.v count (count - 1) rest f.args.n.listed (omega (arith, one_left, f.requires.0)) own_drawn others_drawn
 
 pub returns : goal.returns
 returns c =
     let f = (goal.at.returns c).After-fill-after in
-    let n = c.args.n in
+    let n = c.args.n.bits in
     let v = c.args.v in
     let k = count f in
     let front = drawn_words n (draw v k) (k - 1) in
     let last : c.product_left.result ≡ product_left n (drawn_words n v k) front =
     c.product_left.ensures ∙ ap₂ (product_left n) (own_drawn f) (ap (λ (words : List ℕ). words ++ rest f) (others_drawn f))
-    ∙ product_same n v k (rest f) c.requires.1 in
+    ∙ product_same n v k (rest f) c.requires.0 in
     record {
       value = c.fill-after.ensures.value ∙ ap₂ draw c.fill-own.ensures.value (cut f) ∙ draw_after v k (k - 1);
       box1 = own_drawn f;
@@ -58,9 +58,9 @@ returns c =
 
 pub slice_bounds-fill-end-2 : goal.slice_bounds-fill-end-2
 slice_bounds-fill-end-2 c =
-    sym (length-take-le _ _ (omega (arith, c.requires.2)))
+    sym (length-take-le _ _ (omega (arith, c.requires.1)))
 
 pub product_left-requires : goal.product_left-requires
 product_left-requires c =
     let d = both (goal.at.product_left-requires c).After-fill-after in
-    let long = d.long1 in record { n_value = (c.requires.0, omega (arith, c.requires.1, long), omega (arith, d.long2, long)); below = (λ j l. d.below1 j (omega (arith, l, long)), λ j l. d.below2 j (omega (arith, l, long))) }
+    let long = d.long1 in record { operands = (omega (arith, c.requires.0, long), omega (arith, d.long2, long)); below = (λ j l. d.below1 j (omega (arith, l, long)), λ j l. d.below2 j (omega (arith, l, long))) }

@@ -14,19 +14,19 @@ returns c =
     let v = c.args in
     let last = length v.w1.now - 1 in
     c.sub.ensures.value
-    ∙ ap (λ (total : ℕ). minus v.n total (get_or v.w1.now last 0))
-    (c.mul.ensures.value ∙ same_product (modulus v.n) _ _ _ _ c.add-a.ensures.value c.add-b.ensures.value)
+    ∙ ap (λ (total : ℕ). minus v.n.bits total (get_or v.w1.now last 0))
+    (c.mul.ensures.value ∙ same_product (modulus v.n.bits) _ _ _ _ c.add-a.ensures.value c.add-b.ensures.value)
 
 pub add-a-requires : goal.add-a-requires
 add-a-requires c =
     let p = c.requires in
-    (p.n_value.0, p.below.0 0 (omega (arith, p.n_value.1)), le_of_lt (p.below.1 0 (omega (arith, p.n_value.1))))
+    (p.below.0 0 (omega (arith, p.operands.0)), le_of_lt (p.below.1 0 (omega (arith, p.operands.0))))
 
 pub add-b-requires : goal.add-b-requires
 add-b-requires c =
     let p = c.requires in
-    (p.n_value.0, p.below.0 _ (omega (arith, p.n_value.1)), le_of_lt (p.below.1 _ (omega (arith, p.n_value.1))))
+    (p.below.0 _ (omega (arith, p.operands.0)), le_of_lt (p.below.1 _ (omega (arith, p.operands.0))))
 
 pub sub-requires : goal.sub-requires
 sub-requires c =
-    (c.requires.n_value.0, c.mul.ensures.below, le_of_lt (c.requires.below.0 _ (omega (arith, c.requires.n_value.1))))
+    (c.mul.ensures.below, le_of_lt (c.requires.below.0 _ (omega (arith, c.requires.operands.0))))

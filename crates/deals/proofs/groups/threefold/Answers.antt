@@ -15,7 +15,7 @@ use Rattle.deals.proofs.groups.threefold.Goals as goal
 -- box 2's words before its last four are stored: its draws, then the words that are left
 module _ (f : After-fill-after) where
   abbrev n : ℕ
-  n = f.args.n
+  n = f.args.n.bits
 
   abbrev v : ℕ
   v = f.args.v
@@ -24,27 +24,27 @@ module _ (f : After-fill-after) where
   rest = drop 3 f.args.w2.now
 
   four_left : length rest ≡ 4
-  four_left = length-drop 3 f.args.w2.now ∙ omega (arith, f.requires.2)
+  four_left = length-drop 3 f.args.w2.now ∙ omega (arith, f.requires.1)
 
   own_drawn : f.fill-own.new.words ≡ drawn_words n v 7
-  own_drawn = f.fill-own.ensures.filled ∙ ap (drawn_words n v) f.requires.1
+  own_drawn = f.fill-own.ensures.filled ∙ ap (drawn_words n v) f.requires.0
 
   own_last : f.fill-own.result ≡ draw v 7
-  own_last = f.fill-own.ensures.value ∙ ap (draw v) f.requires.1
+  own_last = f.fill-own.ensures.value ∙ ap (draw v) f.requires.0
 
   cut : length (take 3 f.args.w2.now) ≡ 3
-  cut = length-take-le 3 f.args.w2.now (omega (arith, f.requires.2))
+  cut = length-take-le 3 f.args.w2.now (omega (arith, f.requires.1))
 
   others_drawn : f.fill-after.new.words ≡ drawn_words n (draw v 7) 3
   others_drawn = f.fill-after.ensures.filled ∙ ap₂ (drawn_words n) own_last cut
 
   both : Drawn n 7 3 f.fill-own.new.words (f.fill-after.new.words ++ rest)
-  both = drawn n v 7 3 rest f.requires.0 (omega (arith, four_left)) own_drawn others_drawn
+  both = drawn n v 7 3 rest f.args.n.listed (omega (arith, four_left)) own_drawn others_drawn
 
 pub returns : goal.returns
 returns c =
     let f = (goal.at.returns c).After-fill-after in
-    let n = c.args.n in
+    let n = c.args.n.bits in
     let v = c.args.v in
     let own = drawn_words n v 7 in
     let front = drawn_words n (draw v 7) 3 in
@@ -59,9 +59,9 @@ returns c =
 
 pub slice_bounds-fill-end-2 : goal.slice_bounds-fill-end-2
 slice_bounds-fill-end-2 c =
-    sym (length-take-le 3 c.args.w2.now (omega (arith, c.requires.2)))
+    sym (length-take-le 3 c.args.w2.now (omega (arith, c.requires.1)))
 
 pub threefold_left-requires : goal.threefold_left-requires
 threefold_left-requires c =
     let d = both (goal.at.threefold_left-requires c).After-fill-after in
-    record { n_value = (c.requires.0, d.long1, d.long2); below = (d.below1, d.below2) }
+    record { operands = (d.long1, d.long2); below = (d.below1, d.below2) }

@@ -20,15 +20,15 @@ stored l e3 e4 e5 e6 = rw (e3, e4, e5, e6) refl
 -- the sums, and the first product
 module _ (m : After-mul-ab) where
   abbrev p : ℕ
-  p = modulus m.args.n
+  p = modulus m.args.n.bits
 
   abbrev mask : ℕ → ℕ
   mask j = get_or m.args.w1.now j 0 + get_or m.args.w2.now j 0
 
   -- what is left of a product
   left : (j x product total : ℕ) → let own = get_or m.args.w1.now j 0 in
-      x ≡ minus m.args.n product own → product ≡ total → x ≡ minus m.args.n total own
-  left j x product total e whole = e ∙ ap (λ (t : ℕ). minus m.args.n t (get_or m.args.w1.now j 0)) whole
+      x ≡ minus m.args.n.bits product own → product ≡ total → x ≡ minus m.args.n.bits total own
+  left j x product total e whole = e ∙ ap (λ (t : ℕ). minus m.args.n.bits t (get_or m.args.w1.now j 0)) whole
 
   ab : m.mul-ab.result ≡ mask 0 * mask 1 % p
   ab = m.mul-ab.ensures.value ∙ same_product p (mask 0) (mask 1) _ _ m.add-a.ensures.value m.add-b.ensures.value
@@ -49,39 +49,39 @@ returns c =
 pub add-a-requires : goal.add-a-requires
 add-a-requires c =
     let h = c.requires in
-    (h.n_value.0, h.below.0 0 (omega arith), le_of_lt (h.below.1 0 (omega arith)))
+    (h.below.0 0 (omega arith), le_of_lt (h.below.1 0 (omega arith)))
 
 pub add-b-requires : goal.add-b-requires
 add-b-requires c =
     let h = c.requires in
-    (h.n_value.0, h.below.0 1 (omega arith), le_of_lt (h.below.1 1 (omega arith)))
+    (h.below.0 1 (omega arith), le_of_lt (h.below.1 1 (omega arith)))
 
 pub add-c-requires : goal.add-c-requires
 add-c-requires c =
     let h = c.requires in
-    (h.n_value.0, h.below.0 2 (omega arith), le_of_lt (h.below.1 2 (omega arith)))
+    (h.below.0 2 (omega arith), le_of_lt (h.below.1 2 (omega arith)))
 
 pub sub-requires : goal.sub-requires
 sub-requires c =
     let h = c.requires in
-    (h.n_value.0, c.mul-ab.ensures.below, le_of_lt (h.below.0 3 (omega arith)))
+    (c.mul-ab.ensures.below, le_of_lt (h.below.0 3 (omega arith)))
 
 pub sub-requires-2 : goal.sub-requires-2
 sub-requires-2 c =
     let h = c.requires in
-    (h.n_value.0, c.mul.ensures.below, le_of_lt (h.below.0 4 (omega arith)))
+    (c.mul.ensures.below, le_of_lt (h.below.0 4 (omega arith)))
 
 pub sub-requires-3 : goal.sub-requires-3
 sub-requires-3 c =
     let h = c.requires in
-    (h.n_value.0, c.mul-2.ensures.below, le_of_lt (h.below.0 5 (omega arith)))
+    (c.mul-2.ensures.below, le_of_lt (h.below.0 5 (omega arith)))
 
 pub sub-requires-4 : goal.sub-requires-4
 sub-requires-4 c =
     let h = c.requires in
-    (h.n_value.0, c.mul-3.ensures.below, le_of_lt (h.below.0 6 (omega arith)))
+    (c.mul-3.ensures.below, le_of_lt (h.below.0 6 (omega arith)))
 
 pub bounds-w2-6 : goal.bounds-w2-6
 bounds-w2-6 c =
     let h = c.requires in
-    simp length-set (omega (arith, h.n_value.2))
+    simp length-set (omega (arith, h.operands.1))

@@ -4,4 +4,4 @@ use Rattle.tape.proofs.Sizes.{small}
 use Rattle.deals.proofs.kinds.Kind.group_count.Goals as goal
 
 pub overflow_mul-result-in-Square : goal.overflow_mul-result-in-Square
-overflow_mul-result-in-Square c = omega (arith, small c.requires)
+overflow_mul-result-in-Square c = omega (arith, small c.args.n.listed)

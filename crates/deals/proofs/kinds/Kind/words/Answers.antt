@@ -12,6 +12,6 @@ use Rattle.deals.proofs.kinds.Kind.words.Goals as goal
 pub overflow_mul-result : goal.overflow_mul-result
 overflow_mul-result c =
     let kind = number_of c.args.self in
-    let product : c.group_count.result * c.group_words.result ≡ kind_length c.args.n kind =
+    let product : c.group_count.result * c.group_words.result ≡ kind_length c.args.n.bits kind =
     ap₂ (λ (count words : ℕ). count * words) c.group_count.ensures c.group_words.ensures in
-    record { fits = omega (arith, product, stands c.args.n kind (few c.args.self), small c.requires) }
+    record { fits = omega (arith, product, stands c.args.n.bits kind (few c.args.self), small c.args.n.listed) }
