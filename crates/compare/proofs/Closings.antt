@@ -1,12 +1,6 @@
 -- The shares of products, as the code closes them.
-use Prim.Native.Nat.{ℕ, suc, ◌+◌, ◌*◌, ◌%◌, ◌<◌}
-use mathlib.Core.Path.{◌≡◌, sym, ◌∙◌}
-use mathlib.Core.List.{List, [], ◌∷◌}
-use native.Mathlib.Nat.{mul-one, mod-eq_of_lt}
-use native.Mathlib.Numerals.{add-one}
-use native.Mathlib.Omega.{arith}
-use lib.ListN.{length, get_or, set}
-use lib.Seq.{sets}
+use Rattle.std.proofs.Common.{ℕ, ◌≡◌, ◌+◌, ◌*◌, ◌%◌, ◌<◌, List, sym, ◌∙◌, length, get_or, mul-one, mod-eq_of_lt}
+use Rattle.std.proofs.lemmas.List.Edits.{sets}
 use Rattle.lists.specs.Tabulate.{tabulate}
 use Rattle.lists.proofs.Tabulate.{length_tabulate, tabulate_same}
 use Rattle.lists.proofs.Sets.{sets_whole}
@@ -25,11 +19,11 @@ three_below words f e below = rw e (tabulated_below 3 f below)
 pub closed_three : (n side : ℕ) (u v triples same : List ℕ) (first : ℕ) (incoming : List ℕ) (from : ℕ) (words : List ℕ)
     → length u ≡ 3 → Below (modulus n) u → Below (modulus n) v
     → triples ≡ same
-    → words ≡ sets u 0 (closes_with n side u v 1 triples first 3 incoming from)
+    → words ≡ sets u 0 (closes_with n side u v 1 triples first (length u) incoming from)
     → words ≡ tabulate 3 (λ t. closed n side (get_or u t 0) (get_or v t 0) same (first + t) incoming (from + t * 2))
 closed_three n side u v triples same first incoming from words three left right et e =
     let stored : ℕ → ℕ = λ i. closed n side (get_or u i 0 % modulus n) (get_or v (i * 1) 0 % modulus n) same (first + i) incoming (from + i * 2) in
-    rw et at e
+    rw (et, three) at e
     ∙ sets_whole u (tabulate 3 stored) (length_tabulate 3 stored ∙ sym three)
     ∙ tabulate_same 3 stored (λ t. closed n side (get_or u t 0) (get_or v t 0) same (first + t) incoming (from + t * 2))
     (λ i less. rw (mul-one i, mod-eq_of_lt (left.at i), mod-eq_of_lt (right.at i)))
@@ -39,14 +33,3 @@ pub exclusive_of_three : (n : ℕ) (u v products words : List ℕ) (product : �
     → words ≡ tabulate 3 (λ t. exclusive n ((get_or u t 0 + get_or v t 0) % modulus n) (get_or products t 0))
     → words ≡ tabulate 3 (λ t. exclusive n ((get_or u t 0 + get_or v t 0) % modulus n) (product t))
 exclusive_of_three n u v products words product e es = rw e at es
-
--- a word for each test, stored one after another
-pub kept_three : (l words : List ℕ) (at : ℕ) → length words ≡ 3
-    → set (set (set l at (get_or words 0 0)) (at + 1) (get_or words 1 0)) (at + 2) (get_or words 2 0) ≡ sets l at words
-kept_three l [] at h = absurd (omega arith)
-kept_three l (a ∷ []) at h = absurd (omega arith)
-kept_three l (a ∷ b ∷ []) at h = absurd (omega arith)
-kept_three l (a ∷ b ∷ c ∷ []) at h =
-    let two : at + 2 ≡ suc (suc at) = omega arith in
-    rw (add-one at, two)
-kept_three l (a ∷ b ∷ c ∷ d ∷ ws) at h = absurd (omega arith)

@@ -1,14 +1,9 @@
 -- What the code stores after rounds 1, 2 and 4 is what the rounds have.
-use Prim.Native.Nat.{ℕ, ◌+◌, ◌*◌, ◌/◌, ◌%◌}
-use mathlib.Core.Path.{◌≡◌, sym, ap, ◌∙◌}
-use mathlib.Core.Bool.{true}
-use mathlib.Core.List.{List}
-use native.Mathlib.Nat.{mod-eq_of_lt}
-use native.Mathlib.Omega.{arith}
-use lib.ListN.{get_or}
-use lib.Seq.{sets}
+use Rattle.std.proofs.Common.{ℕ, ◌≡◌, ◌+◌, ◌*◌, ◌/◌, ◌%◌, ◌≤◌, true, List, ◌++◌, sym, ap, ◌∙◌, length, get_or, take, drop, length-take-le, mod-eq_of_lt, arith}
+use Rattle.std.proofs.lemmas.List.Edits.{sets}
 use Rattle.lists.specs.Tabulate.{tabulate}
-use Rattle.lists.proofs.Tabulate.{get_d_tabulate, tabulate_same}
+use Rattle.lists.proofs.Tabulate.{length_tabulate, get_d_tabulate, tabulate_same}
+use Rattle.lists.proofs.Sets.{sets_front, sets_whole}
 use Rattle.lists.proofs.Sums.{sum_same}
 use Rattle.field.specs.Width.{listed, modulus}
 use Rattle.field.proofs.Widths.{bounds}
@@ -54,12 +49,26 @@ module _ (b : Party) (incoming : List ℕ) where
       count_same b.n b.side doubles (doubled_of b) (squares_of b) incoming g
       (get_d_tabulate 3 (doubled_of b) (g / b.n) 0 (test_of b.n g (omega (arith, bounds width)) less)))
 
-  -- round 2's products
-  pub levels_heard : (work : List ℕ) → Readable b.n b.tape
-      → sets work 0 (closes_with b.n b.side work (powers_of b) (b.n + 1) (triples_of b) 0 (group_count b.n) incoming 0)
-      ≡ after_hearing b work 2 incoming
+  -- round 2's products, closed in the front of work
+  pub levels_heard : (work products : List ℕ) → Readable b.n b.tape → group_count b.n ≤ length work
+      → products
+      ≡ sets (take (group_count b.n) work) 0
+      (closes_with b.n b.side (take (group_count b.n) work) (powers_of b) (b.n + 1) (triples_of b) 0 (length (take (group_count b.n) work)) incoming 0)
+      → products ++ drop (group_count b.n) work ≡ after_hearing b work 2 incoming
   unfolding after_hearing level_products
-  levels_heard work r = ap (λ (words : List ℕ). sets work 0 words) (closes_products (level_factors b work r) incoming 0)
+  levels_heard work products r room e =
+      let count = group_count b.n in
+      let front = take count work in
+      let long : length front ≡ count = length-take-le count work room in
+      let words : List ℕ = tabulate count (closing b (level_products b work) incoming 0) in
+      let whole : length words ≡ count = length_tabulate count (closing b (level_products b work) incoming 0) in
+      let made : products ≡ words =
+      rw long at e
+      ∙ ap (λ (ws : List ℕ). sets front 0 ws) (closes_products (level_factors b work r) incoming 0)
+      ∙ sets_whole front words (whole ∙ sym long) in
+      ap (λ (ws : List ℕ). ws ++ drop count work) made
+      ∙ ap (λ (k : ℕ). words ++ drop k work) (sym whole)
+      ∙ sym (sets_front work words (omega (arith, whole, room)))
 
   -- what the code has of u + v − 2·u·v, by the triples from a first one on
   abbrev exclusives : List ℕ → List ℕ → ℕ → ℕ → List ℕ

@@ -1,12 +1,9 @@
 -- Each round's words, from what the steps that open them store.
-use Prim.Native.Nat.{ℕ, ◌+◌, ◌-◌, ◌/◌, ◌<◌}
-use mathlib.Core.Path.{◌≡◌, refl, sym, ap, ◌∙◌}
-use mathlib.Core.Bool.{true}
-use mathlib.Core.List.{List, ◌++◌}
-use native.Mathlib.Nat.{div-lt_iff_lt-mul}
-use native.Mathlib.Omega.{arith}
-use lib.ListN.{length, get_or, drop, get_or-append}
-use lib.Seq.{sets, get_or-append-add}
+use Rattle.std.proofs.Common.{ℕ, ◌≡◌, ◌+◌, ◌-◌, ◌/◌, ◌<◌, ◌≤◌, true, List, ◌++◌, refl, sym, ap, ◌∙◌, length, get_or, take, drop, length-take-le, arith}
+use Rattle.std.proofs.Math.Nat.{div-lt_iff_lt-mul}
+use Rattle.std.proofs.lemmas.List.Edits.{sets}
+use Rattle.std.proofs.Math.ListN.{get_or-append}
+use Rattle.std.proofs.lemmas.List.{get_or-append-add}
 use Rattle.lists.specs.Tabulate.{tabulate}
 use Rattle.lists.specs.Span.{span, later}
 use Rattle.lists.proofs.Tabulate.{length_tabulate, get_d_tabulate, tabulated}
@@ -26,10 +23,10 @@ use Rattle.protocol.proofs.Lengths.{message_length}
 use Rattle.compare.proofs.Products.{opens_with, opens_products, level_factors, wrap_factors}
 
 module _ (b : Party) (work : List ℕ) where
-  pub level_message : Readable b.n b.tape
-      → opens_with b.n work (powers_of b) (b.n + 1) (triples_of b) 0 (group_count b.n) ≡ message b work 2
+  pub level_message : Readable b.n b.tape → group_count b.n ≤ length work
+      → opens_with b.n (take (group_count b.n) work) (powers_of b) (b.n + 1) (triples_of b) 0 (length (take (group_count b.n) work)) ≡ message b work 2
   unfolding message level_products
-  level_message r = opens_products (level_factors b work r)
+  level_message r room = rw (length-take-le (group_count b.n) work room) (opens_products (level_factors b work r))
 
   pub wrap_message : listed b.n ≡ true
       → opens_with b.n (tabulate 3 (λ t. held b.n work (sum_slot b.n t))) (tabulate 3 (λ t. held b.n work (wrap_slot b.n t)))

@@ -1,16 +1,11 @@
 -- Lists that hold the factors of a round's products: what is opened from them, and what is closed, is the round's.
-use Prim.Native.Nat.{ℕ, ◌+◌, ◌*◌, ◌/◌, ◌%◌, ◌<◌}
-use mathlib.Core.Path.{◌≡◌, refl}
-use mathlib.Core.Bool.{true}
-use mathlib.Core.List.{List}
-use native.Mathlib.Nat.{mul-one, mod-eq_of_lt}
-use native.Mathlib.Omega.{arith}
-use lib.ListN.{get_or}
+use Rattle.std.proofs.Common.{ℕ, ◌≡◌, ◌+◌, ◌*◌, ◌/◌, ◌%◌, ◌<◌, true, List, refl, get_or, take, get_or-take, mul-one, mod-eq_of_lt, arith}
 use Rattle.lists.specs.Tabulate.{tabulate}
 use Rattle.lists.proofs.Tabulate.{get_d_tabulate, tabulate_same}
 use Rattle.field.specs.Width.{listed, modulus}
 use Rattle.shares.specs.Share.{masked}
 use Rattle.tape.specs.Letters.{triple_left, triple_right}
+use Rattle.tape.specs.Layout.{group_count}
 use Rattle.tape.specs.Order.{Readable}
 use Rattle.tape.proofs.Letters.{group_inverse_below}
 use Rattle.protocol.specs.Work.{sum_slot, wrap_slot, held}
@@ -79,11 +74,12 @@ unfolding wrap_products
 wrap_factors b width work =
     listed_factors b (wrap_products b work) (λ t. held_below b.n work (sum_slot b.n t) width) (λ t. held_below b.n work (wrap_slot b.n t) width)
 
--- read from work and from the tape as they are
-pub level_factors : (b : Party) (work : List ℕ) → Readable b.n b.tape → Factors b (level_products b work) work (powers_of b) (b.n + 1)
+-- read from the front of work and from the tape as they are
+pub level_factors : (b : Party) (work : List ℕ) → Readable b.n b.tape
+    → Factors b (level_products b work) (take (group_count b.n) work) (powers_of b) (b.n + 1)
 unfolding level_products held
 level_factors b work r =
     record {
-      left = λ i inside. refl;
+      left = λ i inside. rw (get_or-take (group_count b.n) work i 0 inside) refl;
       right = λ i inside. mod-eq_of_lt (group_inverse_below r i inside);
     }

@@ -1,17 +1,17 @@
 // How many words each round opens, and how many a job works in.
-ghost use Rattle.std.specs.Prelude.{◌≡◌, true};
-ghost use Rattle.field.specs.Width.{listed};
+ghost use Rattle.std.specs.Prelude.{◌≡◌};
 ghost use Rattle.protocol.specs.Rounds.{round_words};
 ghost use Rattle.protocol.specs.Work.{work_length};
+
+use field::Width;
 
 pub const LAST_ROUND: u32 = 5;
 
 // How many words a round opens.
-pub fn words_of(n: u32, round: u32) -> usize
-    requires { listed n ≡ true }
-    ensures { result ≡ round_words n round }
+pub fn words_of(n: Width, round: u32) -> usize
+    ensures { result ≡ round_words n.bits round }
 {
-    let m = n as usize;
+    let m = n.bits as usize;
     match round {
         1 => 3 * (m * m) + 6,
         2 => 6 * m,

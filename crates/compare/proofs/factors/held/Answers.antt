@@ -1,7 +1,6 @@
--- `compare::factors::held` meets its contract.
 use Rattle.protocol.specs.Work.{held}
 use Rattle.compare.proofs.factors.held.Goals as goal
 
-pub returns : goal.returns
+pub returns-clause-value : goal.returns-clause-value
 unfolding held
-returns c = record { value = c.reduce.ensures.value; below = c.reduce.ensures.below }
+returns-clause-value c = c.reduce.ensures.value

@@ -1,14 +1,11 @@
--- `compare::hearing::keep` meets its contract.
-use native.Mathlib.Omega.{arith}
-use lib.ListN.{length-set}
-use Rattle.compare.proofs.Closings.{kept_three}
+use Rattle.std.proofs.Common.{ℕ, ◌-◌, ◌+◌, List, ap, ◌∙◌, arith}
+use Rattle.std.proofs.lemmas.List.Edits.{sets}
+use Rattle.lists.proofs.Parts.{put_whole}
 use Rattle.compare.proofs.hearing.keep.Goals as goal
 
-pub bounds-work-at-2 : goal.bounds-work-at-2
-bounds-work-at-2 c = simp length-set (omega (arith, c.requires))
-
-pub bounds-work-at-3 : goal.bounds-work-at-3
-bounds-work-at-3 c = simp length-set (omega (arith, c.requires))
-
 pub returns : goal.returns
-returns c = kept_three c.args.work.now c.args.words c.args.at (omega (arith, c.well_formed))
+returns c =
+    let a = c.args in
+    let e = c.copy_from_slice.ensures in
+    put_whole a.at (a.at + 3 - a.at) a.work.now c.copy_from_slice.new.self e.len (omega (arith, c.well_formed, e))
+    ∙ ap (λ (ws : List ℕ). sets a.work.now a.at ws) e.after

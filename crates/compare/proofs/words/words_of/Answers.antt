@@ -1,19 +1,15 @@
 -- `compare::words::words_of` meets its contract: each arm is a round's number, and the last is none of them.
-use mathlib.Core.Path.{sym}
-use native.Mathlib.Omega.{arith}
+use Rattle.std.proofs.Common.{sym, arith}
 use Rattle.tape.proofs.Sizes.{small}
 use Rattle.protocol.specs.Rounds.{round_words}
 use Rattle.protocol.proofs.ByRound.{no_words}
 use Rattle.compare.proofs.words.words_of.Goals as goal
 
-pub overflow_mul-result : goal.overflow_mul-result
-overflow_mul-result c = omega (arith, small c.requires)
-
 pub overflow_mul-result-in-1 : goal.overflow_mul-result-in-1
-overflow_mul-result-in-1 c = omega (arith, small c.requires)
+overflow_mul-result-in-1 c = omega (arith, small c.args.n.listed)
 
 pub overflow_add-result : goal.overflow_add-result
-overflow_add-result c = omega (arith, small c.requires)
+overflow_add-result c = omega (arith, small c.args.n.listed)
 
 pub returns-in-1 : goal.returns-in-1
 unfolding round_words
@@ -37,4 +33,4 @@ returns-in-5 c = rw c.in-5.is
 
 pub returns-in_default : goal.returns-in_default
 returns-in_default c =
-    sym (no_words c.args.round c.in_default.in_default-own.rest c.args.n)
+    sym (no_words c.args.round c.in_default.in_default-own.rest c.args.n.bits)
