@@ -8,6 +8,7 @@ use crate::grounds::{
     asleep_check, idle_check, job_check, mark_check, message_check, room_check, share_check,
     tape_check, when, word_check,
 };
+use field::Width;
 use refusals::Refusal;
 use rules::state::{State, Turn};
 
@@ -16,7 +17,7 @@ pub fn wake_check(state: State, n: u32, side: u32, tally: &[u8]) -> Result<(), R
     ensures { ground_of result ≡ wake_ground state n side tally.now }
 {
     asleep_check(crate::modes::mode_of(state))?;
-    when(!field::is_listed(n), Refusal::Width)?;
+    when(Width::new(n).is_none(), Refusal::Width)?;
     when(!shares::is_side(side), Refusal::Side)?;
     when(!tally::tally_fits(tally.len()), Refusal::Tally)
 }
@@ -36,7 +37,8 @@ pub fn start_check(
     idle_check(crate::modes::mode_of(state))?;
     when(tally.len() != state.tally as usize, Refusal::Tally)?;
     mark_check(number, tally)?;
-    share_check(state.n, x, y)?;
+    let n = Width { bits: state.n };
+    share_check(n, x, y)?;
     tape_check(state, number, tape)?;
     room_check(state.n, work, true)
 }
@@ -67,7 +69,8 @@ pub fn hear_check(
     ensures { ground_of result ≡ hear_ground state number round tape.now work.now incoming.now }
 {
     turn_check(state, number, Turn::Hear(round), tape, work, incoming)?;
-    word_check(state.n, incoming)
+    let n = Width { bits: state.n };
+    word_check(n, incoming)
 }
 
 #[tactic(auto, unfolding(rules::specs::Grounds::drop_ground))]
@@ -92,5 +95,6 @@ fn turn_check(
     job_check(mode)?;
     when(!crate::modes::is_due(mode, number, turn), Refusal::Turn)?;
     tape_check(state, number, tape)?;
-    message_check(state.n, turn, work, buffer)
+    let n = Width { bits: state.n };
+    message_check(n, turn, work, buffer)
 }

@@ -8,6 +8,7 @@ ghost use Rattle.rules.specs.Modes.{is_asleep};
 ghost use Rattle.rules.specs.Grounds.{message_fits};
 ghost use Rattle.rules.specs.Grounds.{idle_grounds, job_grounds, mark_grounds, share_grounds, tape_grounds, room_grounds, word_grounds};
 
+use field::Width;
 use refusals::Refusal;
 use rules::state::{Phase, State, Turn};
 
@@ -65,14 +66,10 @@ pub fn mark_check(number: u32, tally: &[u8]) -> Result<(), Refusal>
 }
 
 // Both shares are below p.
-pub fn share_check(n: u32, x: u32, y: u32) -> Result<(), Refusal>
-    requires { listed n ≡ true }
-    ensures { ground_of result ≡ earliest_of (share_grounds n x y) }
+pub fn share_check(n: Width, x: u32, y: u32) -> Result<(), Refusal>
+    ensures { ground_of result ≡ earliest_of (share_grounds n.bits x y) }
 {
-    when(
-        !field::in_range(n, x) || !field::in_range(n, y),
-        Refusal::Share,
-    )
+    when(!n.contains(x) || !n.contains(y), Refusal::Share)
 }
 
 // The lent tape is this job's, and in order.
@@ -94,17 +91,15 @@ pub fn room_check(n: u32, work: &[u32], fits: bool) -> Result<(), Refusal>
 }
 
 // The room of a speak or a hear: its other buffer is out or incoming.
-pub fn message_check(n: u32, turn: Turn, work: &[u32], buffer: &[u32]) -> Result<(), Refusal>
-    requires { listed n ≡ true }
-    ensures { ground_of result ≡ earliest_of (room_grounds n work.now (message_fits n turn (length buffer.now))) }
+pub fn message_check(n: Width, turn: Turn, work: &[u32], buffer: &[u32]) -> Result<(), Refusal>
+    ensures { ground_of result ≡ earliest_of (room_grounds n.bits work.now (message_fits n.bits turn (length buffer.now))) }
 {
-    room_check(n, work, message_fits(n, turn, buffer.len()))
+    room_check(n.bits, work, message_fits(n, turn, buffer.len()))
 }
 
 // Out has room for the round's words, incoming has just as many.
-fn message_fits(n: u32, turn: Turn, length: usize) -> bool
-    requires { listed n ≡ true }
-    ensures { result ≡ message_fits n turn length }
+fn message_fits(n: Width, turn: Turn, length: usize) -> bool
+    ensures { result ≡ message_fits n.bits turn length }
 {
     match turn {
         Turn::Speak(round) => compare::words::words_of(n, round) <= length,
@@ -113,9 +108,8 @@ fn message_fits(n: u32, turn: Turn, length: usize) -> bool
 }
 
 // The incoming words can be read: none is above p.
-pub fn word_check(n: u32, incoming: &[u32]) -> Result<(), Refusal>
-    requires { listed n ≡ true }
-    ensures { ground_of result ≡ earliest_of (word_grounds n incoming.now) }
+pub fn word_check(n: Width, incoming: &[u32]) -> Result<(), Refusal>
+    ensures { ground_of result ≡ earliest_of (word_grounds n.bits incoming.now) }
 {
     when(!shares::all_legible(n, incoming), Refusal::Word)
 }

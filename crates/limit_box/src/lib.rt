@@ -5,6 +5,8 @@ ghost use Rattle.std.specs.Prelude.{◌≡◌, []};
 ghost use Rattle.rules.specs.Answers.{fresh, started, spoke, heard_or_share, dropped, reply_of};
 ghost use Rattle.rules.specs.Calls.{outcome, wake_rule, start_rule, speak_rule, hear_rule, drop_rule};
 
+use compare::Party;
+use field::Width;
 use refusals::Refusal;
 use rules::state::{Phase, State, Turn};
 
@@ -66,10 +68,19 @@ pub fn speak(
     let Phase::Job { x, y, .. } = state.phase else {
         unreachable!()
     };
-    compare::speaking::speak(state.n, state.side, round, x, y, tape, work, out);
+    let n = Width { bits: state.n };
+    let side = state.side;
+    let party = Party {
+        n,
+        side,
+        x,
+        y,
+        tape,
+    };
+    party.speak(round, work, out);
     let turn = Turn::Hear(round);
     state.phase = Phase::Job { turn, number, x, y };
-    Ok(compare::words::words_of(state.n, round))
+    Ok(compare::words::words_of(n, round))
 }
 
 // Takes in the other box's words. After the last round the answer share comes back and the job is closed.
@@ -88,7 +99,16 @@ pub fn hear(
     let Phase::Job { x, y, .. } = state.phase else {
         unreachable!()
     };
-    let share = compare::hearing::hear(state.n, state.side, round, x, y, tape, work, incoming);
+    let n = Width { bits: state.n };
+    let side = state.side;
+    let party = Party {
+        n,
+        side,
+        x,
+        y,
+        tape,
+    };
+    let share = party.hear(round, work, incoming);
     if round == compare::words::LAST_ROUND {
         state.phase = Phase::Idle;
         return Ok(Some(share));

@@ -3,6 +3,7 @@ ghost use Rattle.std.specs.Prelude.{◌≡◌, true};
 ghost use Rattle.field.specs.Width.{listed};
 ghost use Rattle.rules.specs.Modes.{round_of, round_fits, phase_fits, in_range, mode_of, is_due};
 
+use field::Width;
 use rules::state::{Phase, State, Turn};
 
 fn round_of(turn: Turn) -> u32
@@ -19,17 +20,16 @@ fn round_fits(round: u32) -> bool
     (1..=compare::words::LAST_ROUND).contains(&round)
 }
 
-fn phase_fits(n: u32, tally: u32, phase: Phase) -> bool
-    requires { listed n ≡ true }
-    ensures { result ≡ phase_fits n tally phase }
+fn phase_fits(n: Width, tally: u32, phase: Phase) -> bool
+    ensures { result ≡ phase_fits n.bits tally phase }
 {
     match phase {
         Phase::Asleep | Phase::Idle => true,
         Phase::Job { turn, number, x, y } => {
             (number as usize) < tally::tapes_of(tally as usize)
                 && round_fits(round_of(turn))
-                && field::in_range(n, x)
-                && field::in_range(n, y)
+                && n.contains(x)
+                && n.contains(y)
         }
     }
 }
@@ -38,10 +38,12 @@ fn phase_fits(n: u32, tally: u32, phase: Phase) -> bool
 fn in_range(state: State) -> bool
     ensures { result ≡ in_range state }
 {
-    field::is_listed(state.n)
-        && shares::is_side(state.side)
+    let Some(n) = Width::new(state.n) else {
+        return false;
+    };
+    shares::is_side(state.side)
         && tally::tally_fits(state.tally as usize)
-        && phase_fits(state.n, state.tally, state.phase)
+        && phase_fits(n, state.tally, state.phase)
 }
 
 // The phase, or asleep for a state outside the ranges.

@@ -24,15 +24,19 @@ passed c =
 pub unreachable-requires : goal.unreachable-requires
 unreachable-requires c = c.in_default.not-Job _ _ _ _ (passed (goal.at.unreachable-requires c).In_ok-hear_check).turn.due.job
 
+pub invariant_of-n : goal.invariant_of-n
+invariant_of-n c = record { listed = (passed (goal.at.invariant_of-n c).In_ok-hear_check).turn.sound.width }
+
+pub invariant_of-party : goal.invariant_of-party
+invariant_of-party c =
+    let g = given (passed (goal.at.invariant_of-party c).In_ok-hear_check).turn c.in-Job.is in
+    record { sided = g.sided; x_below = g.x_fits; y_below = g.y_fits; readable = g.readable }
+
 pub hear-share-requires : goal.hear-share-requires
 hear-share-requires c =
     let a = c.args in
     let go = passed (goal.at.hear-share-requires c).In_ok-hear_check in
-    let g = given go.turn c.in-Job.is in
-    record {
-      side_value = (g.sided, g.x_fits, g.y_fits, g.readable, go.room);
-      from_line = record { most = words_most a.state.now.n a.incoming.now go.words; long = omega (arith, go.long) };
-    }
+    (go.room, record { most = words_most a.state.now.n a.incoming.now go.words; long = omega (arith, go.long) })
 
 -- what the hearing gives, of the box that the state is
 module _ (c : After-hear-share) where

@@ -17,11 +17,18 @@ passed c =
 pub unreachable-requires : goal.unreachable-requires
 unreachable-requires c = c.in_default.not-Job _ _ _ _ (passed (goal.at.unreachable-requires c).In_ok-speak_check).turn.due.job
 
+pub invariant_of-n : goal.invariant_of-n
+invariant_of-n c = record { listed = (passed (goal.at.invariant_of-n c).In_ok-speak_check).turn.sound.width }
+
+pub invariant_of-party : goal.invariant_of-party
+invariant_of-party c =
+    let g = given (passed (goal.at.invariant_of-party c).In_ok-speak_check).turn c.in-Job.is in
+    record { sided = g.sided; x_below = g.x_fits; y_below = g.y_fits; readable = g.readable }
+
 pub speak-requires : goal.speak-requires
 speak-requires c =
     let go = passed (goal.at.speak-requires c).In_ok-speak_check in
-    let g = given go.turn c.in-Job.is in
-    record { side_value = (g.sided, g.x_fits, g.y_fits, g.readable); n_in_bounds = (go.room, go.out_room) }
+    (go.room, go.out_room)
 
 -- the answer, before what its count asks: a wrong count fails here
 pub returns : goal.returns
@@ -29,6 +36,3 @@ unfolding speak_rule
 returns c =
     let g = given (passed (goal.at.returns c).In_ok-speak_check).turn c.in-Job.is in
     rw (← c.in_ok-speak_check.ensures, c.words_of.ensures, c.speak.ensures, g.job) refl
-
-pub words_of-requires : goal.words_of-requires
-words_of-requires c = (passed (goal.at.words_of-requires c).In_ok-speak_check).turn.sound.width

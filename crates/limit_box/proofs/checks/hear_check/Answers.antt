@@ -16,7 +16,7 @@ returns-in_err-turn_check c =
     let turn = turn_grounds a.state a.number (Hear a.round) a.tape.now a.work.now a.incoming.now in
     rw (p.1, p.2) (sym (first_some turn (word_grounds a.state.n a.incoming.now) _ (sym c.in_err-turn_check.ensures) (numbered _)))
 
-pub word_check-requires : goal.word_check-requires
-word_check-requires c =
+pub invariant_of-n : goal.invariant_of-n
+invariant_of-n c =
     let a = c.args in
-    (turn_passed a.state a.number (Hear a.round) a.tape.now a.work.now a.incoming.now (sym c.in_ok-turn_check.ensures)).0.sound.width
+    record { listed = (turn_passed a.state a.number (Hear a.round) a.tape.now a.work.now a.incoming.now (sym c.in_ok-turn_check.ensures)).0.sound.width }

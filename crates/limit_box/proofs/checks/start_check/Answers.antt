@@ -21,9 +21,6 @@ returns-in_err-mark_check c =
     (decided {parts = start_parts a.state a.number a.x a.y a.tape.now a.work.now a.tally.now}
     (past (idle (goal.at.returns-in_err-mark_check c).In_ok-idle_check) (past c.in_ok-when.ensures (here _ c.in_err-mark_check.ensures))))
 
-pub share_check-requires : goal.share_check-requires
-share_check-requires c = idle_listed c.args.state (sym (idle (goal.at.share_check-requires c).In_ok-idle_check))
-
 pub returns-in_err-tape_check : goal.returns-in_err-tape_check
 unfolding start_ground
 returns-in_err-tape_check c =
@@ -35,3 +32,6 @@ returns-in_err-tape_check c =
     (past c.in_ok-when.ensures
     (past c.in_ok-mark_check.ensures
     (past c.in_ok-share_check.ensures (here _ c.in_err-tape_check.ensures))))))
+
+pub invariant_of-n : goal.invariant_of-n
+invariant_of-n c = record { listed = idle_listed c.args.state (sym (idle (goal.at.invariant_of-n c).In_ok-idle_check)) }
