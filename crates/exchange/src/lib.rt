@@ -1,9 +1,9 @@
 // Both boxes of a job in one memory, through the five calls: the opening, one round, the whole exchange, and the answer that it opens.
 #![tactic(auto)]
 
-ghost use Rattle.std.specs.Prelude.{◌≡◌, true, cond, ◌+◌, ◌%◌, ◌<◌, ◌≤◌, ltb, length, IfOk, IsOkAnd, IsSome};
+ghost use Rattle.std.specs.Prelude.{◌≡◌, cond, ◌+◌, ◌%◌, ◌<◌, ◌≤◌, ltb, length, IfOk, IsOkAnd, IsSome};
 ghost use Rattle.std.proofs.lemmas.List.Edits.{sets};
-ghost use Rattle.field.specs.Width.{listed, modulus};
+ghost use Rattle.field.specs.Width.{modulus};
 ghost use Rattle.tape.specs.Dealt.{Dealt};
 ghost use Rattle.encoding.specs.Matching.{indicator};
 ghost use Rattle.protocol.specs.Rounds.{round_words, message};
@@ -16,6 +16,7 @@ ghost use Rattle.exchange.specs.Boxes.{Ready, heard_after, answer1, answer2};
 ghost use Rattle.exchange.specs.Jobs.{lent, roomy, answer_sum, less_of, ended, job_of};
 
 use compare::words::LAST_ROUND;
+use field::Width;
 use refusals::Refusal;
 use rules::state;
 use rules::state::State;
@@ -124,7 +125,7 @@ fn round(
         × (outcome (reply_of heard_or_share result.1) s2.new w2.new
         ≡ heard_after s2.old t2.now w2.old round (message (party_of s1.old t1.now) w1.old round)) }
 {
-    let words = compare::words::words_of(s1.n, round);
+    let words = compare::words::words_of(Width { bits: s1.n }, round);
     both_speak(
         number, round, &mut *s1, &mut *s2, t1, t2, &*w1, &*w2, &mut *o1, &mut *o2,
     );
@@ -212,13 +213,13 @@ pub fn less(
     let mut s2 = state::FIRST;
     begin(&mut s1, n, 1, pair, number, box1, t1, &*w1, k1)?;
     begin(&mut s2, n, 2, pair, number, box2, t2, &*w2, k2)?;
+    let n = Width { bits: n };
     opened(n, number, &mut s1, &mut s2, t1, t2, w1, w2, o1, o2)
 }
 
 // Whether both outs have room for the first message, which is the longest.
-fn has_room(n: u32, o1: &[u32], o2: &[u32]) -> bool
-    requires { listed n ≡ true }
-    ensures { result ≡ roomy n o1.now o2.now }
+fn has_room(n: Width, o1: &[u32], o2: &[u32]) -> bool
+    ensures { result ≡ roomy n.bits o1.now o2.now }
 {
     let words = compare::words::words_of(n, 1);
     words <= o1.len() && words <= o2.len()
@@ -226,7 +227,7 @@ fn has_room(n: u32, o1: &[u32], o2: &[u32]) -> bool
 
 // The sum of the two answer shares, where both outs have room; otherwise the refusal of the first speak.
 fn opened(
-    n: u32,
+    n: Width,
     number: u32,
     s1: &mut State,
     s2: &mut State,
@@ -238,14 +239,14 @@ fn opened(
     o2: &mut [u32],
 ) -> Result<u32, Refusal>
     requires ready { Ready s1.old number (Speak 1) t1.now w1.old × Ready s2.old number (Speak 1) t2.now w2.old }
-    requires width { (s1.old.n ≡ n) × (s2.old.n ≡ n) }
-    ensures { (ground_of result ≡ cond (roomy n o1.old o2.old) 0 12)
-        × (less_of result ≡ cond (roomy n o1.old o2.old)
-        (answer_sum n s1.old s2.old t1.now t2.now w1.old w2.old) 0) }
+    requires width { (s1.old.n ≡ n.bits) × (s2.old.n ≡ n.bits) }
+    ensures { (ground_of result ≡ cond (roomy n.bits o1.old o2.old) 0 12)
+        × (less_of result ≡ cond (roomy n.bits o1.old o2.old)
+        (answer_sum n.bits s1.old s2.old t1.now t2.now w1.old w2.old) 0) }
 {
     if !has_room(n, &*o1, &*o2) {
         return Err(Refusal::Room);
     }
     let (share1, share2) = answers(number, s1, s2, t1, t2, w1, w2, o1, o2);
-    Ok(field::add(n, share1, share2))
+    Ok(n.add(share1, share2))
 }

@@ -1,5 +1,6 @@
 -- `exchange::less` meets its contract: the first refusal comes back, and otherwise both boxes are ready and the answer is opened.
 use Rattle.std.proofs.Common.{◌≡◌, Err, refl, ap, rules}
+use Rattle.rules.proofs.Ranges.{ranged}
 use Rattle.rules.specs.declared.state.State.{State}
 use Rattle.exchange.specs.Jobs.{Lent, lent}
 use Rattle.exchange.proofs.Begun.{Begun, begin_ready}
@@ -42,6 +43,11 @@ returns-in_err-begin-2 c =
     let end =
     ends_at_box2 v.n v.pair v.number (lent1 s) (lent2 s) _ _ c.in_ok-begin.ensures c.in_err-begin-2.field-0.0 _ _ c.in_err-begin-2.ensures in
     rw same (record { ended = end; right = ended_right v.n v.pair v.number (lent1 s) (lent2 s) (Err c.in_err-begin-2.field-0.0) _ _ end })
+
+pub invariant_of-n : goal.invariant_of-n
+invariant_of-n c =
+    let box1 = ready1 (goal.at.invariant_of-n c).In_ok-begin-2 in
+    record { listed = rw box1.state at (ranged c.begin.new.state box1.ready.ranged).width }
 
 pub opened-requires : goal.opened-requires
 opened-requires c =

@@ -29,9 +29,8 @@ front2 a =
     at_front v.s2.now v.t2.now v.w2.now v.round v.o2.now _ a.words_of-words.result count a.requires.box2.1
     a.both_speak.ensures.box2.0
 
-pub words_of-words-requires : goal.words_of-words-requires
-words_of-words-requires c =
-    (ranged c.args.s1.now c.requires.box1.0.ranged).width
+pub invariant_of-words_of : goal.invariant_of-words_of
+invariant_of-words_of c = record { listed = (ranged c.args.s1.now c.requires.box1.0.ranged).width }
 
 pub slice_bounds-both_hear-end : goal.slice_bounds-both_hear-end
 slice_bounds-both_hear-end c = (front2 (goal.at.slice_bounds-both_hear-end c).After-both_speak).within
