@@ -33,3 +33,5 @@ module _ (text : List ℕ) (len b : ℕ) (none : NoNewline len text) where
       go : (t : Bool) → eqb i len ≡ t → get_or (set text len b) i 0 ≡ 10 → ⊥
       go true here e = other (sym (ap (λ (k : ℕ). get_or (set text len b) k 0) (eqb-true i len here) ∙ get_or-set_same text len b 0 room) ∙ e)
       go false there e = after i (omega (arith, eqb-false i len there)) e
+
+pub ruleset newlines = (one_line, last_line, none_more)

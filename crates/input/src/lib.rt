@@ -4,22 +4,24 @@
 ghost use Rattle.io.specs.Counts.{IsPrefixLen};
 ghost use Rattle.input.specs.Line.{OneLine};
 
+const NEWLINE: u8 = b'\n';
+
 // A line of the standard input, up to its newline, the end or a full buffer. It takes no byte of the next line, and asks for none.
+// By the kit's io, since std's reader is no plainer: it asks callers for the runtime, and each byte's Result would be matched.
+#[tactic(auto, using(crate::proofs::Newlines::newlines))]
 pub fn read_line(text: &mut [u8]) -> usize
     ensures prefix_len { IsPrefixLen result text.new }
     ensures line { OneLine result text.new }
 {
-    let mut len = 0;
-    while len < text.len() {
+    for len in 0..text.len() {
         let mut byte = [0u8; 1];
         if io::read_full(0, &mut byte) == 0 {
             return len;
         }
         text[len] = byte[0];
-        len += 1;
-        if byte[0] == 10 {
-            return len;
+        if byte[0] == NEWLINE {
+            return len + 1;
         }
     }
-    len
+    text.len()
 }

@@ -38,6 +38,7 @@ fn put_printed(page: &mut Page<'_>, text: &[u8])
 pub fn answer(text: &[u8], out: &mut [u8]) -> usize
     requires { 78 ≤ length out.old }
     ensures out_after { take result out.new ≡ printed text.now }
+    ensures long { result ≡ length (printed text.now) }
     ensures most { result ≤ 78 }
 {
     let mut page = Page::new(out);
