@@ -38,12 +38,11 @@ fn marks_in(tally: &[u8]) -> &[[u8; MARK_BYTES]]
     tally.as_chunks::<MARK_BYTES>().0
 }
 
-// Whether all four bytes are FF. They are looked at together, so that the compiler reads a mark as one word.
-fn all_ff(mark: [u8; MARK_BYTES]) -> bool
-    ensures { result ≡ is_fresh mark 0 }
+// Whether all four bytes are FF: the compiler reads a mark as one word and makes one comparison.
+fn all_ff(mark: &[u8; MARK_BYTES]) -> bool
+    ensures { result ≡ is_fresh mark.now 0 }
 {
-    let [first, second, third, fourth] = mark;
-    first & second & third & fourth == FRESH
+    *mark == [FRESH; MARK_BYTES]
 }
 
 // Whether a tape can still be used.
@@ -51,14 +50,14 @@ pub fn is_fresh(tally: &[u8], number: usize) -> bool
     requires { number < tapes_of (length tally.now) }
     ensures { result ≡ is_fresh tally.now number }
 {
-    all_ff(marks_in(tally)[number])
+    all_ff(&marks_in(tally)[number])
 }
 
 // Whether one of the marks is spent: they are read from the last one down, to the first that is.
 fn any_spent(marks: &[[u8; MARK_BYTES]]) -> bool
     ensures { result ≡ list_any (λ mark. not (is_fresh mark 0)) (reverse marks.now) }
 {
-    marks.iter().rev().any(|mark| !all_ff(*mark))
+    marks.iter().rev().any(|mark| !all_ff(mark))
 }
 
 // Whether a tape above it is spent: document 02's late (P4).
@@ -74,7 +73,7 @@ pub fn fresh_count(tally: &[u8]) -> u32
     requires { tally_fits (length tally.now) ≡ true }
     ensures { result ≡ fresh_count tally.now }
 {
-    marks_in(tally).iter().filter(|mark| all_ff(**mark)).count() as u32
+    marks_in(tally).iter().filter(|mark| all_ff(mark)).count() as u32
 }
 
 // Marks a tape as spent: its mark alone is lent on.
