@@ -7,6 +7,7 @@ ghost use Rattle.protocol.specs.Rounds.{last_round};
 ghost use Rattle.protocol.specs.Sizes.{most_jobs, count_fits, rounds_for};
 ghost use Rattle.needs.specs.Figures.{figures_for, needs_rule, figures_of, told};
 
+use field::Width;
 use refusals::Refusal;
 
 // No more jobs than these are taken together.
@@ -29,9 +30,9 @@ pub fn count_fits(count: u32) -> bool
 }
 
 // The words of every round, so many times.
-pub fn fill_rounds(n: u32, count: u32, rounds: &mut [u32])
-    requires { (listed n ≡ true) × (count ≤ most_jobs) × (length rounds.old ≡ last_round) }
-    ensures { rounds.new ≡ rounds_for n count }
+pub fn fill_rounds(n: Width, count: u32, rounds: &mut [u32])
+    requires { (count ≤ most_jobs) × (length rounds.old ≡ last_round) }
+    ensures { rounds.new ≡ rounds_for n.bits count }
 {
     for (k, words) in rounds.iter_mut().enumerate() {
         let once = compare::words::words_of(n, k as u32 + 1) as u32;
@@ -40,14 +41,14 @@ pub fn fill_rounds(n: u32, count: u32, rounds: &mut [u32])
 }
 
 // The figures of a listed width.
-fn figures(n: u32, count: u32) -> Needs
-    requires { (listed n ≡ true) × (count ≤ most_jobs) }
-    ensures { figures_of result ≡ figures_for n count }
+fn figures(n: Width, count: u32) -> Needs
+    requires { count ≤ most_jobs }
+    ensures { figures_of result ≡ figures_for n.bits count }
 {
     let mut rounds = [0u32; 5];
     fill_rounds(n, count, &mut rounds);
     let tape = tape::tape_words(n) as u32;
-    let work = compare::words::work_words(n) as u32;
+    let work = compare::words::work_words(n.bits) as u32;
     Needs {
         tape: count * tape,
         rounds,
@@ -60,9 +61,7 @@ fn figures(n: u32, count: u32) -> Needs
 pub fn words_for(n: u32, count: u32) -> Result<Needs, Refusal>
     ensures { told result ≡ needs_rule n count }
 {
-    if !field::is_listed(n) {
-        return Err(Refusal::Width);
-    }
+    let n = Width::new(n).ok_or(Refusal::Width)?;
     if !count_fits(count) {
         return Err(Refusal::Count);
     }

@@ -6,4 +6,4 @@ use Rattle.protocol.specs.Sizes.{round_for}
 use Rattle.needs.proofs.fill_rounds.Given as goal
 
 abbrev pub invariant-loop-k : goal.invariant-loop-k
-invariant-loop-k l = Stored l.initial.rounds 0 last_round (λ r. round_for l.n l.count (suc r)) l.rounds l.k
+invariant-loop-k l = Stored l.initial.rounds 0 last_round (λ r. round_for l.n.bits l.count (suc r)) l.rounds l.k

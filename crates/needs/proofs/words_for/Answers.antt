@@ -4,4 +4,4 @@ use Rattle.needs.proofs.Bounds.{most_jobs_lem}
 use Rattle.needs.proofs.words_for.Goals as goal
 
 pub figures-requires : goal.figures-requires
-figures-requires c = (sym c.is_listed.ensures ∙ c.if-not-is_listed.false, most_jobs_lem _ (sym c.count_fits.ensures ∙ c.if-not-count_fits.false))
+figures-requires c = most_jobs_lem _ (sym c.count_fits.ensures ∙ c.if-not-count_fits.false)
