@@ -1,7 +1,6 @@
 // The secure comparison of document 003 by document 01: what a box sends in a round, and what it works out from what it hears.
 #![tactic(auto)]
 
-pub mod by_number;
 pub mod factors;
 mod filling;
 mod hearing;

@@ -9,10 +9,6 @@ ghost use Rattle.tape.specs.Order.{in_order, trailer_fits, body_in_range, Readab
 
 use field::Width;
 
-mod by_number;
-
-pub use by_number::tape_words_of;
-
 // A section of the body.
 #[derive(Clone, Copy, Debug, PartialEq, Eq)]
 pub enum Section {
