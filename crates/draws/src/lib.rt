@@ -7,6 +7,7 @@ ghost use Rattle.field.specs.Width.{listed};
 ghost use Rattle.draws.specs.Draws.{next, draw, word};
 
 // The next draw.
+#[tactic(auto, unfolding(crate::specs::Draws::next))]
 pub fn next(v: u32) -> u32
     ensures { result ≡ next v }
 {
