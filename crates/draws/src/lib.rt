@@ -9,6 +9,7 @@ ghost use Rattle.draws.specs.Draws.{next, draw, word};
 use field::Width;
 
 // The next draw.
+#[tactic(auto, unfolding(crate::specs::Draws::next))]
 pub fn next(v: u32) -> u32
     ensures { result ≡ next v }
 {

@@ -5,11 +5,10 @@ use mathlib.Core.List.{[], ◌∷◌, ◌++◌}
 use mathlib.Core.Logic.{⊎_elim}
 use native.Mathlib.Nat.{not-suc-le-zero, pow-suc, div-lt_iff_lt-mul}
 use native.Mathlib.Omega.{arith}
-use borrow.Author.Tests.{ltb-true, ltb-false, lt-ltb, le-ltb}
-use lib.Dec.{ltb}
+use borrow.Author.Tests.{lt-ltb, le-ltb}
 use lib.ListN.{length, length-append}
 use Rattle.lines.specs.Writing.{digits_of, decimal}
-use Rattle.lines.proofs.FirstPlace.{cases}
+use Rattle.std.proofs.lemmas.Bool.{cases_lt}
 
 -- any count of digits that is large enough gives the same
 digits_same : (m k v : ℕ) → v < m → v < k → digits_of m v ≡ digits_of k v
@@ -18,9 +17,9 @@ digits_same zero k v h g = absurd (not-suc-le-zero h)
 digits_same (suc m) zero v h g = absurd (not-suc-le-zero g)
 digits_same (suc m) (suc k) v h g =
     ⊎_elim
-    (λ t. rw t refl)
-    (λ f. let ten : 10 ≤ v = ltb-false v 10 f in rw (f, digits_same m k (v / 10) (omega arith) (omega arith)) refl)
-    (cases (ltb v 10))
+    (λ few. rw (lt-ltb v 10 few) refl)
+    (λ ten. rw (le-ltb v 10 ten, digits_same m k (v / 10) (omega arith) (omega arith)) refl)
+    (cases_lt v 10)
 
 pub decimal_one : (v : ℕ) → v < 10 → decimal v ≡ (48 + v) ∷ []
 unfolding digits_of
@@ -40,9 +39,9 @@ digits_most (suc m) zero v h = rw (lt-ltb v 10 (omega (arith, h))) (omega arith)
 digits_most (suc m) (suc d) v h =
     let less : v / 10 < 10 ^ suc d = (div-lt_iff_lt-mul {k = 10} (omega arith)).1 (rw (pow-suc 10 (suc d)) at h) in
     ⊎_elim
-    (λ t. rw t (omega arith))
-    (λ f. rw f (omega (arith, length-append (digits_of m (v / 10)) ((48 + v % 10) ∷ []), digits_most m d (v / 10) less)))
-    (cases (ltb v 10))
+    (λ few. rw (lt-ltb v 10 few) (omega arith))
+    (λ ten. rw (le-ltb v 10 ten) (omega (arith, length-append (digits_of m (v / 10)) ((48 + v % 10) ∷ []), digits_most m d (v / 10) less)))
+    (cases_lt v 10)
 
 -- a word has at most ten digits
 pub decimal_most : (v : ℕ) → v < 4294967296 → length (decimal v) ≤ 10
@@ -51,8 +50,8 @@ decimal_most v h = digits_most (suc v) 9 v (omega arith)
 pub decimal_some : (v : ℕ) → 0 < length (decimal v)
 decimal_some v =
     ⊎_elim
-    (λ t. rw (decimal_one v (ltb-true v 10 t)) (omega arith))
-    (λ f. rw (decimal_more v (ltb-false v 10 f), length-append (decimal (v / 10)) ((48 + v % 10) ∷ [])) (omega arith))
-    (cases (ltb v 10))
+    (λ few. rw (decimal_one v few) (omega arith))
+    (λ ten. rw (length-decimal v ten) (omega arith))
+    (cases_lt v 10)
 
 pub ruleset spellings = (decimal_one, decimal_more, length-decimal, decimal_some)

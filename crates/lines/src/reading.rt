@@ -39,7 +39,7 @@ pub fn number_of(part: &[u8]) -> Option<u32>
     value_of(part)
 }
 
-// A line as one number for each place, with a space between two.
+// A line as one number for each place, with a space between two. A loop over a lent slice: over an array of N it got no proof.
 fn numbers_on(line: &[u8], numbers: &mut [u32]) -> Option<()>
     ensures some { IsSome result ↔ (is_numbers (length numbers.old) line.now ≡ true) }
     ensures values { IsSome result → numbers.new ≡ numbers_of line.now }

@@ -17,6 +17,7 @@ const FRESH: u8 = 255;
 const SPENT: u8 = 0;
 
 // Whether a tally may have that length.
+#[tactic(auto, using(std::proofs::lemmas::Bool::Decides::nat_tests), unfolding(crate::specs::Tally::tally_fits))]
 pub fn tally_fits(length: usize) -> bool
     ensures { result ≡ tally_fits length }
 {
@@ -24,6 +25,7 @@ pub fn tally_fits(length: usize) -> bool
 }
 
 // How many tapes a tally of that length has marks for.
+#[tactic(auto, unfolding(crate::specs::Tally::tapes_of))]
 pub fn tapes_of(length: usize) -> usize
     ensures { result ≡ tapes_of length }
 {
@@ -31,6 +33,7 @@ pub fn tapes_of(length: usize) -> usize
 }
 
 // The marks, tape by tape.
+#[tactic(auto, unfolding(crate::specs::Tally::tapes_of, crate::specs::Bytes::marks_of))]
 fn marks_in(tally: &[u8]) -> &[[u8; MARK_BYTES]]
     ensures value { result.now ≡ marks_of tally.now }
     ensures long { length result.now ≡ tapes_of (length tally.now) }

@@ -6,9 +6,7 @@ use mathlib.Core.List.{List, [], ◌∷◌}
 use mathlib.Core.Logic.{⊎_elim}
 use native.Mathlib.Numerals.{add-one}
 use native.Mathlib.Omega.{arith}
-use borrow.Author.Tests.{leb-true, leb-false}
-use lib.Dec.{leb}
-use Rattle.lines.proofs.FirstPlace.{cases}
+use Rattle.std.proofs.lemmas.Bool.{cases_lt}
 use Rattle.protocol.specs.Products.{Party}
 use Rattle.protocol.specs.Rounds.{last_round}
 use Rattle.protocol.specs.Exchange.{Both, exchanged, answer_own, answer_others}
@@ -35,9 +33,9 @@ module _ (text : List ℕ) (from : ℕ) (box1 box2 : Party) (w : Both) where
   fails_to zero k h e = let none : k ≡ 0 = omega arith in subst (λ (j : ℕ). (read j).ok ≡ false) none e
   fails_to (suc m) k h e =
       ⊎_elim
-      (λ t. fails_more m (fails_to m k (leb-true k m t) e))
-      (λ f. let last : k ≡ suc m = omega (arith, leb-false k m f) in subst (λ (j : ℕ). (read j).ok ≡ false) last e)
-      (cases (leb k m))
+      (λ above. let last : k ≡ suc m = omega (arith, above, h) in subst (λ (j : ℕ). (read j).ok ≡ false) last e)
+      (λ within. fails_more m (fails_to m k within e))
+      (cases_lt m k)
 
   abbrev answers : List ℕ
   answers = answer_own box1 box2 w ∷ answer_others box1 box2 w ∷ []

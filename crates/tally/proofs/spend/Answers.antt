@@ -30,9 +30,6 @@ overflow_add-end c = omega (arith, within (goal.at.overflow_add-end c).Start, c.
 pub slice_bounds-write-end : goal.slice_bounds-write-end
 slice_bounds-write-end c = omega (arith, within (goal.at.slice_bounds-write-end c).Start)
 
-pub write-requires : goal.write-requires
-write-requires c = lent (goal.at.write-requires c).Start
-
 pub returns : goal.returns
 unfolding marked
 returns c =

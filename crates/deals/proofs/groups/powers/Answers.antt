@@ -67,9 +67,7 @@ power_of_two-w-requires c = mod-lt _ (some_width (goal.at.power_of_two-w-require
 pub power_of_two-r-requires : goal.power_of_two-r-requires
 power_of_two-r-requires c = mod-lt _ (some_width (goal.at.power_of_two-r-requires c).After-next-first)
 
-pub left_powers-requires : goal.left_powers-requires
-left_powers-requires c =
-    let long : length c.fill-last.new.words ≡ n (goal.at.left_powers-requires c).After-fill-last + 1 = ap length (own_drawn (goal.at.left_powers-requires c).After-fill-last) ∙ length_drawn (n (goal.at.left_powers-requires c).After-fill-last) (next (v (goal.at.left_powers-requires c).After-fill-last)) (n (goal.at.left_powers-requires c).After-fill-last + 1) in record {
-      operands = (c.power_of_two-w.ensures.below, c.power_of_two-r.ensures.below, c.requires.1 ∙ sym long);
-      below = own_below (goal.at.left_powers-requires c).After-fill-last _ (own_drawn (goal.at.left_powers-requires c).After-fill-last);
-    }
+pub left_powers-requires-clause-below : goal.left_powers-requires-clause-below
+left_powers-requires-clause-below c =
+    let f = (goal.at.left_powers-requires-clause-below c).After-fill-last in
+    own_below f _ (own_drawn f)

@@ -1,6 +1,6 @@
 -- `deals::groups::product` meets its contract: the draws stand in order, and the last word is worked out from them.
 use Prim.Native.Nat.{ℕ, ◌-◌}
-use mathlib.Core.Path.{◌≡◌, sym, ap, ap₂, ◌∙◌}
+use mathlib.Core.Path.{◌≡◌, ap, ap₂, ◌∙◌}
 use mathlib.Core.List.{List, [], ◌∷◌, ◌++◌}
 use native.Mathlib.Omega.{arith}
 use lib.ListN.{length, take, drop, set, length-drop}
@@ -56,11 +56,7 @@ returns c =
           ∙ set_rest front (rest f) (_ ∷ []) (k - 1) (length_drawn n (draw v k) (k - 1)) (one_left f);
     }
 
-pub slice_bounds-fill-end-2 : goal.slice_bounds-fill-end-2
-slice_bounds-fill-end-2 c =
-    sym (length-take-le _ _ (omega (arith, c.requires.1)))
-
-pub product_left-requires : goal.product_left-requires
-product_left-requires c =
-    let d = both (goal.at.product_left-requires c).After-fill-after in
-    let long = d.long1 in record { operands = (omega (arith, c.requires.0, long), omega (arith, d.long2, long)); below = (λ j l. d.below1 j (omega (arith, l, long)), λ j l. d.below2 j (omega (arith, l, long))) }
+pub product_left-requires-clause-below : goal.product_left-requires-clause-below
+product_left-requires-clause-below c =
+    let d = both (goal.at.product_left-requires-clause-below c).After-fill-after in
+    (λ j l. d.below1 j (omega (arith, l, d.long1)), λ j l. d.below2 j (omega (arith, l, d.long1)))

@@ -1,6 +1,6 @@
 -- `deals::groups::threefold` meets its contract: the draws stand in order, and box 2's last four words are worked out from them.
 use Prim.Native.Nat.{ℕ}
-use mathlib.Core.Path.{◌≡◌, sym, ap, ap₂, ◌∙◌}
+use mathlib.Core.Path.{◌≡◌, ap, ap₂, ◌∙◌}
 use mathlib.Core.List.{List, ◌++◌}
 use native.Mathlib.Omega.{arith}
 use lib.ListN.{length, take, drop, length-drop}
@@ -57,11 +57,7 @@ returns c =
           ∙ set_rest front (rest f) (threefold_left n own front) 3 (length_drawn n (draw v 7) 3) (four_left f);
     }
 
-pub slice_bounds-fill-end-2 : goal.slice_bounds-fill-end-2
-slice_bounds-fill-end-2 c =
-    sym (length-take-le 3 c.args.w2.now (omega (arith, c.requires.1)))
-
-pub threefold_left-requires : goal.threefold_left-requires
-threefold_left-requires c =
-    let d = both (goal.at.threefold_left-requires c).After-fill-after in
-    record { operands = (d.long1, d.long2); below = (d.below1, d.below2) }
+pub threefold_left-requires-clause-below : goal.threefold_left-requires-clause-below
+threefold_left-requires-clause-below c =
+    let d = both (goal.at.threefold_left-requires-clause-below c).After-fill-after in
+    (d.below1, d.below2)

@@ -2,9 +2,7 @@
 use Prim.Native.Nat.{ℕ, ◌+◌, ◌*◌, ◌%◌}
 use mathlib.Core.Path.{◌≡◌, refl, ap, ◌∙◌}
 use mathlib.Core.List.{List, [], ◌∷◌}
-use native.Mathlib.Nat.{le_of_lt}
-use native.Mathlib.Omega.{arith}
-use lib.ListN.{get_or, set, length-set}
+use lib.ListN.{get_or, set}
 use lib.Seq.{sets}
 use Rattle.field.specs.Width.{modulus}
 use Rattle.field.specs.Subtraction.{minus}
@@ -45,43 +43,3 @@ returns c =
     (left m 5 _ _ _ c.sub-3.ensures.value (c.mul-2.ensures.value ∙ same_product (p m) (mask m 1) (mask m 2) _ _ b z))
     (left m 6 _ _ _ c.sub-4.ensures.value
     (c.mul-3.ensures.value ∙ same_product (p m) (mask m 0 * mask m 1) (mask m 2) _ _ (ab m) z))
-
-pub add-a-requires : goal.add-a-requires
-add-a-requires c =
-    let h = c.requires in
-    (h.below.0 0 (omega arith), le_of_lt (h.below.1 0 (omega arith)))
-
-pub add-b-requires : goal.add-b-requires
-add-b-requires c =
-    let h = c.requires in
-    (h.below.0 1 (omega arith), le_of_lt (h.below.1 1 (omega arith)))
-
-pub add-c-requires : goal.add-c-requires
-add-c-requires c =
-    let h = c.requires in
-    (h.below.0 2 (omega arith), le_of_lt (h.below.1 2 (omega arith)))
-
-pub sub-requires : goal.sub-requires
-sub-requires c =
-    let h = c.requires in
-    (c.mul-ab.ensures.below, le_of_lt (h.below.0 3 (omega arith)))
-
-pub sub-requires-2 : goal.sub-requires-2
-sub-requires-2 c =
-    let h = c.requires in
-    (c.mul.ensures.below, le_of_lt (h.below.0 4 (omega arith)))
-
-pub sub-requires-3 : goal.sub-requires-3
-sub-requires-3 c =
-    let h = c.requires in
-    (c.mul-2.ensures.below, le_of_lt (h.below.0 5 (omega arith)))
-
-pub sub-requires-4 : goal.sub-requires-4
-sub-requires-4 c =
-    let h = c.requires in
-    (c.mul-3.ensures.below, le_of_lt (h.below.0 6 (omega arith)))
-
-pub bounds-w2-6 : goal.bounds-w2-6
-bounds-w2-6 c =
-    let h = c.requires in
-    simp length-set (omega (arith, h.operands.1))
