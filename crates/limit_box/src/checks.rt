@@ -80,7 +80,9 @@ pub fn drop_check(state: State) -> Result<(), Refusal>
     job_check(crate::modes::mode_of(state))
 }
 
-// What a speak and a hear have in common: the turn that is due, the tape and the room. The buffer is out or incoming.
+// What a speak and a hear have in common: the turn that is due, the tape and the room. The buffer is out or incoming. Inlined, so that the state
+// is not copied on its way here.
+#[inline(always)]
 fn turn_check(
     state: State,
     number: u32,
