@@ -17,6 +17,7 @@ pub fn lows(side: u32, low: [u32; 3]) -> [u32; 3]
 }
 
 // A share that work holds.
+#[tactic(auto, unfolding(protocol::specs::Work::held))]
 fn held(n: Width, work: &[u32], slot: usize) -> u32
     requires { slot < length work.now }
     ensures value { result ≡ held n.bits work.now slot }

@@ -8,6 +8,7 @@ use field::Width;
 pub const LAST_ROUND: u32 = 5;
 
 // How many words a round opens.
+#[tactic(auto, using(tape::proofs::Sizes::small), unfolding(protocol::specs::Rounds::round_words))]
 pub fn words_of(n: Width, round: u32) -> usize
     ensures { result ≡ round_words n.bits round }
 {

@@ -55,6 +55,7 @@ pub fn group_count(n: u32) -> usize
 }
 
 // How many squares round 1 opens, which is where its products' words begin.
+#[tactic(auto, using(tape::proofs::Sizes::small))]
 pub fn square_count(n: Width) -> usize
     ensures { result ≡ square_count n.bits }
 {

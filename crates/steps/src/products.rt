@@ -31,6 +31,7 @@ impl Triples<'_> {
     }
 
     // The share of the product of v and u by triple i, the other box's two words standing at a place of incoming.
+    #[tactic(auto, unfolding(protocol::specs::Products::closed))]
     fn close_product(self, side: u32, v: u32, u: u32, i: usize, incoming: &[u32], at: usize) -> u32
         requires operands { (v < modulus self.n.bits) × (u < modulus self.n.bits) }
         requires place { i * 3 + 2 < length self.words.now }

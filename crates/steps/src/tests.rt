@@ -31,6 +31,7 @@ pub fn tests_of(n: Width, x: u32, y: u32) -> Tests
 }
 
 // A share of 1 - v.
+#[tactic(auto, using(field::proofs::Widths::bounds), unfolding(protocol::specs::Tests::complement))]
 pub fn complement_of(n: Width, side: u32, v: u32) -> u32
     requires { v < modulus n.bits }
     ensures value { result ≡ complement n.bits side v }
@@ -40,6 +41,7 @@ pub fn complement_of(n: Width, side: u32, v: u32) -> u32
 }
 
 // A share of u + v - 2uv, from the shares of u + v and of uv.
+#[tactic(auto, unfolding(protocol::specs::Tests::exclusive))]
 pub fn exclusive_of(n: Width, total: u32, product: u32) -> u32
     requires { (total < modulus n.bits) × (product < modulus n.bits) }
     ensures value { result ≡ exclusive n.bits total product }
