@@ -4,7 +4,7 @@ ghost use Rattle.std.proofs.lemmas.List.Edits.{sets};
 ghost use Rattle.lists.specs.Tabulate.{tabulate, sum};
 ghost use Rattle.lists.specs.Span.{span, later};
 ghost use Rattle.field.specs.Width.{modulus};
-ghost use Rattle.shares.specs.Share.{constant_share, opened, square_share};
+ghost use Rattle.shares.specs.Share.{constant_share, masked, opened, square_share};
 ghost use Rattle.tape.specs.Layout.{square_count, group_count};
 ghost use Rattle.tape.specs.Letters.{square_mask, square_value};
 ghost use Rattle.encoding.specs.Codes.{level_code};
@@ -13,6 +13,29 @@ ghost use Rattle.protocol.specs.Squares.{code_difference, bit_difference, square
 
 use crate::tests::Tests;
 use field::Width;
+
+// The word that opens bit k of a code under a square's mask: 1 - bit - mask at box 1, - bit - mask at box 2, in one subtraction.
+fn opening(n: Width, side: u32, code: u32, k: u32, mask: u32) -> u32
+    requires { (k < n.bits) × (mask < modulus n.bits) }
+    ensures value { result ≡ masked n.bits (code_difference n.bits side code k) mask }
+    ensures below { result < modulus n.bits }
+{
+    let taken = encoding::codes::bit(code, k) + mask;
+    n.sub(shares::constant(side, 1), taken)
+}
+
+// Opens the bits of a code from bit `low` up, from the last one down. The squares and out are lent from the code's first one on: with the place of
+// the code's group added to each index, this takes longer.
+fn open_bits(n: Width, side: u32, code: u32, squares: &[u32], low: usize, out: &mut [u32])
+    requires operands { low ≤ n.bits }
+    requires below { Below (modulus n.bits) squares.now × (n.bits * 2 ≤ length squares.now) × (n.bits ≤ length out.old) }
+    ensures { out.new
+        ≡ sets out.old low (span low n.bits (λ k. square_opening n.bits (code_difference n.bits side code k) squares.now k)) }
+{
+    for k in (low..n.bits as usize).rev() {
+        out[k] = opening(n, side, code, k as u32, squares[k * 2]);
+    }
+}
 
 // The dealt squares of a width, one for each test, level and bit.
 #[derive(Clone, Copy)]
@@ -24,17 +47,7 @@ pub struct Squares<'a> {
 }
 
 impl Squares<'_> {
-    // The word that opens bit k of a group's code by square j: 1 - bit - a at box 1, - bit - a at box 2, in one subtraction.
-    fn opening(self, side: u32, code: u32, k: u32, j: usize) -> u32
-        requires { (k < self.n.bits) × (j < square_count self.n.bits) }
-        ensures value { result ≡ square_opening self.entry.n.bits (code_difference self.entry.n.bits side code k) self.entry.words.now j }
-        ensures below { result < modulus self.entry.n.bits }
-    {
-        let taken = encoding::codes::bit(code, k) + self.words[j * 2];
-        self.n.sub(shares::constant(side, 1), taken)
-    }
-
-    // The words of group g from place `from` on, from the last bit down. The code of its level is worked out once.
+    // The words of group g from place `from` on. The code of its level is worked out once.
     fn open_group(
         self,
         side: u32,
@@ -55,9 +68,14 @@ impl Squares<'_> {
         let at = g * m;
         let code = encoding::codes::level_code(self.n, side, doubled, level as u32);
         let low = crate::places::beyond(from, at);
-        for k in (low..m).rev() {
-            out[at + k] = self.opening(side, code, k as u32, at + k);
-        }
+        open_bits(
+            self.n,
+            side,
+            code,
+            &self.words[at * 2..],
+            low,
+            &mut out[at..],
+        );
     }
 
     // The words of a test from place `from` on, from the last level down.
@@ -121,7 +139,7 @@ impl Squares<'_> {
         let mut total = shares::constant(side, 1) as u64;
         for k in 0..self.n.bits {
             let j = base + k as usize;
-            let sent = self.opening(side, code, k, j);
+            let sent = opening(self.n, side, code, k, self.words[j * 2]);
             total += self.close_square(side, sent, incoming, j);
         }
         self.n.reduce_wide(total)

@@ -8,6 +8,7 @@ use Rattle.field.proofs.Congruences.{cong_eq, cong_sym, cong_mod, cong_add, â—Œâ
 use Rattle.shares.specs.Share.{constant_share}
 use Rattle.tape.specs.Layout.{square_count}
 use Rattle.tape.proofs.Letters.{square_index}
+use Rattle.tape.proofs.Sizes.{small}
 use Rattle.protocol.specs.Squares.{square_closing}
 use Rattle.protocol.proofs.Line.{fewer}
 use Rattle.steps.proofs.squares.Squares.close_group.Goals.{After-close_square-total, In-loop-k}
@@ -22,8 +23,17 @@ placed t =
 pub loop-k-init : goal.loop-k-init
 loop-k-init c = (omega arith, omega arith, cong_eq (omega (arith, c.constant-total.ensures.value)))
 
+pub overflow_mul-j : goal.overflow_mul-j
+overflow_mul-j c = omega (arith, placed (goal.at.overflow_mul-j c).In-loop-k, small c.args.self.n.listed)
+
+pub offset_bounds-self-j : goal.offset_bounds-self-j
+offset_bounds-self-j c = omega (arith, placed (goal.at.offset_bounds-self-j c).In-loop-k, small c.args.self.n.listed)
+
+pub bounds-self-j : goal.bounds-self-j
+bounds-self-j c = omega (arith, placed (goal.at.bounds-self-j c).In-loop-k, c.args.self.long)
+
 pub opening-sent-requires : goal.opening-sent-requires
-opening-sent-requires c = (c.loop-k-test.true, placed (goal.at.opening-sent-requires c).In-loop-k)
+opening-sent-requires c = (c.loop-k-test.true, c.args.self.below.at _)
 
 pub close_square-total-requires-clause-operands : goal.close_square-total-requires-clause-operands
 close_square-total-requires-clause-operands c =

@@ -1,55 +1,91 @@
--- A group's words, by their bits and by their places.
-use Rattle.std.proofs.Common.{ℕ, ◌≡◌, ◌+◌, ◌-◌, ◌*◌, ◌<◌, List, refl, sym, ap, ◌∙◌, arith}
+-- What is stored from the group's place on are its words, by the code of its level.
+use Rattle.std.proofs.Common.{ℕ, ◌≡◌, ◌+◌, ◌-◌, ◌*◌, ◌%◌, ◌<◌, ◌≤◌, List, sym, ap, ap₂, ◌∙◌, length, get_or, take, drop, length-drop, get_or-drop, mul-le-mul_right, arith}
+use Rattle.std.proofs.Math.Seq.{take_all}
 use Rattle.std.proofs.lemmas.List.Edits.{sets}
+use borrow.Rule.Slice.PartMut.{put_mid}
 use Rattle.lists.specs.Span.{span}
-use Rattle.lists.proofs.Span.{span_shift}
-use Rattle.lists.proofs.Stores.{down_more, down_all}
+use Rattle.lists.proofs.Parts.{put_sets}
+use Rattle.lists.proofs.Span.{length_span, span_shift}
+use Rattle.shares.specs.Share.{masked}
 use Rattle.tape.specs.Layout.{square_count}
-use Rattle.tape.proofs.Letters.{square_index}
 use Rattle.tape.proofs.Sizes.{small}
-use Rattle.protocol.specs.Squares.{bit_difference, square_opening}
+use Rattle.encoding.specs.Codes.{level_code}
+use Rattle.protocol.specs.Squares.{code_difference, bit_difference, square_opening}
 use Rattle.protocol.proofs.Matches.{group_difference}
-use Rattle.steps.proofs.squares.Squares.open_group.Goals.{In-loop-k}
-use Rattle.steps.proofs.squares.Squares.open_group.Invariants.{bit_word}
+use Rattle.steps.proofs.squares.Squares.open_group.Goals.{Start}
 use Rattle.steps.proofs.squares.Squares.open_group.Goals as goal
 
--- the words of the bits are those of the squares
-group_words : (n side doubled : ℕ) (squares : List ℕ) (g low : ℕ)
-    → span low n (bit_word n side doubled squares g)
-    ≡ span (g * n + low) ((g + 1) * n) (λ j. square_opening n (bit_difference n side (λ t. doubled) j) squares j)
-group_words n side doubled squares g low =
-    let word : ℕ → ℕ = λ j. square_opening n (bit_difference n side (λ t. doubled) j) squares j in
-    let end : g * n + n ≡ (g + 1) * n = omega arith in
-    span_shift (g * n) low n (bit_word n side doubled squares g) word
-    (λ k above less. ap (λ (v : ℕ). square_opening n v squares (g * n + k)) (sym (group_difference n side (λ t. doubled) g k less)))
-    ∙ ap (λ (stop : ℕ). span (g * n + low) stop word) end
+-- the rest of a list, as it is lent
+rest : (at : ℕ) (l : List ℕ) → take (length l - at) (drop at l) ≡ drop at l
+rest at l = take_all (length l - at) (drop at l) (omega (arith, length-drop at l))
 
--- the square of a turn is dealt
-placed : (t : In-loop-k) → t.args.g * t.args.self.n.bits + (t.loop-k.k - 1) < square_count t.args.self.n.bits
-placed t =
-    square_index t.args.self.n.bits t.args.g (t.loop-k.k - 1) t.requires.operands.1 (omega (arith, t.loop-k-test.true, t.loop-k.invariant.most))
+module _ (n side doubled : ℕ) (squares out : List ℕ) (g : ℕ) where
+  -- a word by its bit and by its place
+  abbrev bit_word : ℕ → ℕ
+  bit_word k = square_opening n (code_difference n side (level_code n side doubled (g % n)) k) (drop (g * n * 2) squares) k
 
-pub opening-requires : goal.opening-requires
-opening-requires c =
-    (omega (arith, c.loop-k-test.true, c.loop-k.invariant.most), placed (goal.at.opening-requires c).In-loop-k)
+  abbrev word : ℕ → ℕ
+  word j = square_opening n (bit_difference n side (λ t. doubled) j) squares j
 
-pub overflow_add-out : goal.overflow_add-out
-overflow_add-out c = omega (arith, placed (goal.at.overflow_add-out c).In-loop-k, small c.args.self.n.listed)
+  same_word : (k : ℕ) → k < n → bit_word k ≡ word (g * n + k)
+  same_word k less =
+      let place : g * n * 2 + k * 2 ≡ (g * n + k) * 2 = omega arith in
+      ap₂ (masked n) (sym (group_difference n side (λ t. doubled) g k less))
+      (get_or-drop (g * n * 2) squares (k * 2) 0 ∙ ap (λ (i : ℕ). get_or squares i 0) place)
+
+  -- stored in the rest of out, from bit `low` up
+  group_words : (low : ℕ) → low ≤ n → g * n + n ≤ length out
+      → put_mid (g * n) (length out - g * n) out (sets (take (length out - g * n) (drop (g * n) out)) low (span low n bit_word))
+      ≡ sets out (g * n + low) (span (g * n + low) ((g + 1) * n) word)
+  group_words low most room =
+      let end : g * n + n ≡ (g + 1) * n = omega arith in
+      put_sets (g * n) (length out - g * n) out low (span low n bit_word) (omega (arith, length_span low n bit_word))
+      ∙ ap (λ (ws : List ℕ). sets out (g * n + low) ws)
+      (span_shift (g * n) low n bit_word word (λ k above less. same_word k less) ∙ ap (λ (stop : ℕ). span (g * n + low) stop word) end)
+
+-- the group's squares are dealt
+placed : (s : Start) → s.args.g * s.args.self.n.bits + s.args.self.n.bits ≤ square_count s.args.self.n.bits
+placed s = omega (arith, mul-le-mul_right s.args.self.n.bits s.requires.operands.1)
+
+pub overflow_mul-at-2 : goal.overflow_mul-at-2
+overflow_mul-at-2 c = omega (arith, placed (goal.at.overflow_mul-at-2 c).Start, small c.args.self.n.listed)
+
+pub offset_bounds-self-at : goal.offset_bounds-self-at
+offset_bounds-self-at c = omega (arith, placed (goal.at.offset_bounds-self-at c).Start, small c.args.self.n.listed)
+
+pub slice_bounds-open_bits-count : goal.slice_bounds-open_bits-count
+slice_bounds-open_bits-count c = omega (arith, placed (goal.at.slice_bounds-open_bits-count c).Start, c.args.self.long)
+
+pub slice_bounds-open_bits-start : goal.slice_bounds-open_bits-start
+slice_bounds-open_bits-start c = omega (arith, placed (goal.at.slice_bounds-open_bits-start c).Start, c.args.self.long)
 
 pub offset_bounds-out-at : goal.offset_bounds-out-at
-offset_bounds-out-at c = omega (arith, placed (goal.at.offset_bounds-out-at c).In-loop-k, small c.args.self.n.listed)
+offset_bounds-out-at c = omega (arith, placed (goal.at.offset_bounds-out-at c).Start, small c.args.self.n.listed)
 
-pub bounds-out-at : goal.bounds-out-at
-bounds-out-at c = omega (arith, placed (goal.at.bounds-out-at c).In-loop-k, c.loop-k.invariant.long, c.requires.room)
+pub slice_bounds-open_bits-count-2 : goal.slice_bounds-open_bits-count-2
+slice_bounds-open_bits-count-2 c = omega (arith, placed (goal.at.slice_bounds-open_bits-count-2 c).Start, c.requires.room)
 
-pub loop-k-preserved : goal.loop-k-preserved
-loop-k-preserved c =
-    down_more c.loop-k.invariant _ _ c.loop-k-test.true refl
-    (c.opening.ensures.value ∙ rw (c.level_code-code.ensures, c.requires.operands.2) refl)
+pub slice_bounds-open_bits-start-2 : goal.slice_bounds-open_bits-start-2
+slice_bounds-open_bits-start-2 c = omega (arith, placed (goal.at.slice_bounds-open_bits-start-2 c).Start, c.requires.room)
+
+pub open_bits-requires : goal.open_bits-requires
+open_bits-requires c =
+    let a = c.args in
+    let n = a.self.n.bits in
+    let at = a.g * n in record {
+      operands = omega (arith, c.beyond-low.ensures, c.requires.operands.3);
+      below = rw (rest (at * 2) a.self.words.now, rest at a.out.now) (
+        record { at = λ i. rw (get_or-drop (at * 2) a.self.words.now i 0) (a.self.below.at (at * 2 + i)) },
+        omega (arith, placed (goal.at.open_bits-requires c).Start, length-drop (at * 2) a.self.words.now, a.self.long),
+        omega (arith, placed (goal.at.open_bits-requires c).Start, length-drop at a.out.now, c.requires.room),
+      );
+    }
 
 pub returns : goal.returns
 returns c =
     let a = c.args in
     let n = a.self.n.bits in
-    down_all c.loop-k.invariant c.loop-k-test.false
-    ∙ rw c.beyond-low.ensures (ap (λ (ws : List ℕ). sets a.out.now (a.g * n + (a.from - a.g * n)) ws) (group_words n a.side a.doubled a.self.words.now a.g (a.from - a.g * n)))
+    let low = a.from - a.g * n in
+    ap (put_mid (a.g * n) (length a.out.now - a.g * n) a.out.now)
+    (rw (rest (a.g * n * 2) a.self.words.now, c.beyond-low.ensures, c.level_code-code.ensures, c.requires.operands.2) at c.open_bits.ensures)
+    ∙ group_words n a.side a.doubled a.self.words.now a.out.now a.g low (omega (arith, c.requires.operands.3)) (omega (arith, placed (goal.at.returns c).Start, c.requires.room))
