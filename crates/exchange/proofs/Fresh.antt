@@ -3,6 +3,7 @@ use Prim.Native.Nat.{ℕ, ◌+◌, ◌%◌, ◌<◌, ◌≤◌}
 use mathlib.Core.Path.{◌≡◌, refl, ◌∙◌}
 use mathlib.Core.Bool.{Bool, true, false, ◌&&◌, cond}
 use mathlib.Core.List.{List}
+use mir.Val.{bool_byte}
 use native.Mathlib.Omega.{arith}
 use borrow.Author.Tests.{le-leb, lt-ltb}
 use lib.Dec.{eqb, leb, ltb}
@@ -146,3 +147,8 @@ module _ (n pair : ℕ) (box1 box2 : Shares) (t1 t2 : List ℕ) where
       let taken : (fresh_job n pair 0 box1 box2 t1 t2).refusal ≡ 0 =
       fresh_share_refusal m ∙ rw (lt-ltb _ _ lx1, lt-ltb _ _ ly1, lt-ltb _ _ lx2, lt-ltb _ _ ly2) refl in
       (taken, fresh_answer (λ none. m) ∙ rw taken refl)
+
+-- a test that is counted as 1 or 0
+pub as_indicator : (test : Bool) → bool_byte test ≡ indicator test
+as_indicator true = refl
+as_indicator false = refl

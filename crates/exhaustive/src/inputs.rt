@@ -1,5 +1,5 @@
 // The inputs x1, x2, y1, y2 of a width, each from 0 to p - 1.
-ghost use Rattle.std.specs.Prelude.{◌≡◌, ◌*◌, ◌<◌, ◌≤◌, length};
+ghost use Rattle.std.specs.Prelude.{◌≡◌, true, ◌*◌, ◌<◌, ◌≤◌, length};
 ghost use Rattle.field.specs.Width.{modulus};
 ghost use Rattle.tape.specs.Layout.{tape_length};
 ghost use Rattle.tape.specs.Dealt.{Dealt};
@@ -36,7 +36,7 @@ fn right_of(n: Width, x1: u32, x2: u32, t1: &[u32], t2: &[u32]) -> u64
 }
 
 // All inputs of a width, p^4 of them, on tapes of that source: all are right.
-pub fn right(n: Width, source: Source, t1: &mut [u32], t2: &mut [u32]) -> u64
+fn right(n: Width, source: Source, t1: &mut [u32], t2: &mut [u32]) -> u64
     requires { (n.bits ≤ 5) × (length t1.old ≡ tape_length n.bits) × (length t2.old ≡ tape_length n.bits) }
     ensures value { result ≡ all_right source n.bits }
     ensures all { result ≡ modulus n.bits * modulus n.bits * (modulus n.bits * modulus n.bits) }
@@ -51,4 +51,16 @@ pub fn right(n: Width, source: Source, t1: &mut [u32], t2: &mut [u32]) -> u64
         right += right_of(n, x1, x2, &*t1, &*t2);
     }
     right
+}
+
+// The same, in memory that has room for the longest tape.
+pub fn count(n: Width, source: Source) -> u64
+    requires { n.bits ≤ 5 }
+    ensures value { result ≡ all_right source n.bits }
+    ensures all { result ≡ modulus n.bits * modulus n.bits * (modulus n.bits * modulus n.bits) }
+{
+    let mut t1 = exchange::memory::blank_tape();
+    let mut t2 = exchange::memory::blank_tape();
+    let len = tape::tape_words(n);
+    right(n, source, &mut t1[..len], &mut t2[..len])
 }

@@ -13,10 +13,7 @@ use tapes::Source;
 fn run(rt: &impl Print, name: &str, n: Width, source: Source, all: u64) -> io::Result<()>
     requires { n.bits ≤ 5 }
 {
-    let mut t1 = exchange::memory::blank_tape();
-    let mut t2 = exchange::memory::blank_tape();
-    let len = tape::tape_words(n);
-    let right = inputs::right(n, source, &mut t1[..len], &mut t2[..len]);
+    let right = inputs::count(n, source);
     println!(rt; "{name}: {right} of {all} right")
 }
 

@@ -26,7 +26,7 @@ pub fn seed_of(x1: u32, x2: u32) -> u32
 }
 
 // Both boxes' tapes.
-#[tactic(auto, using(tape::proofs::Plains::plain_dealt, deals::proofs::Dealing::dealt_tapes), unfolding(crate::specs::Inputs::tape_of))]
+#[tactic(auto, unfolding(crate::specs::Inputs::tape_of))]
 pub fn pair(n: Width, source: Source, seed: u32, t1: &mut [u32], t2: &mut [u32])
     requires { (length t1.old ≡ tape_length n.bits) × (length t2.old ≡ tape_length n.bits) }
     ensures t1_after { (t1.new ≡ tape_of source n.bits seed 1) × (t2.new ≡ tape_of source n.bits seed 2) }
