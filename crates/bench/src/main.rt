@@ -2,9 +2,7 @@
 // tools/bench.
 #![tactic(auto)]
 
-ghost use Rattle.std.specs.Prelude.{◌≡◌, length};
 ghost use Rattle.io.specs.Counts.{IsPrefixLen};
-ghost use Rattle.tape.specs.Layout.{tape_length};
 
 mod work;
 
@@ -12,9 +10,6 @@ use field::Width;
 use std::env::{Env, FillError};
 use std::io;
 use work::Work;
-
-// What the tapes are dealt from.
-const SEED: u32 = 2463534242;
 
 // The words that are lent to a box for a job.
 fn sizes(rt: &impl Print, n: Width) -> io::Result<()> {
@@ -24,36 +19,13 @@ fn sizes(rt: &impl Print, n: Width) -> io::Result<()> {
     println!(rt; "width {}: tape {tape}, work {work}, longest message {longest} words", n.bits)
 }
 
-// On dealt tapes, as boxes get them: on plain ones, mostly zeros, a branch on a word would always go the same way.
-fn run(
-    rt: &impl Print,
-    work: Work,
-    n: Width,
-    count: u32,
-    t1: &mut [u32],
-    t2: &mut [u32],
-) -> io::Result<()>
-    requires { (length t1.old ≡ tape_length n.bits) × (length t2.old ≡ tape_length n.bits) }
-{
-    deals::write(SEED, n, work::PAIR, work::NUMBER, &mut *t1, &mut *t2);
+// Does the work so often, and says how many turns came out right.
+fn run(rt: &impl Print, work: Work, n: Width, count: u32) -> io::Result<()> {
+    let right = work::often(work, n, count);
     match work {
-        Work::Jobs => {
-            let right = work::jobs(n, count, &*t1, &*t2);
-            println!(rt; "jobs: {right} of {count} right")
-        }
-        Work::Checks => {
-            let right = work::checks(n, count, &*t1, &*t2);
-            println!(rt; "checks: {right} of {count} in order")
-        }
+        Work::Jobs => println!(rt; "jobs: {right} of {count} right"),
+        Work::Checks => println!(rt; "checks: {right} of {count} in order"),
     }
-}
-
-// In memory that has room for the longest tape.
-fn often(rt: &impl Print, work: Work, n: Width, count: u32) -> io::Result<()> {
-    let mut t1 = exchange::memory::blank_tape();
-    let mut t2 = exchange::memory::blank_tape();
-    let len = tape::tape_words(n);
-    run(rt, work, n, count, &mut t1[..len], &mut t2[..len])
 }
 
 // Puts an argument at the start of word and answers its length: 0 where there is none, or a longer one than word.
@@ -79,7 +51,7 @@ fn asked(rt: &(impl Env + Print), work: Work) -> io::Result<()> {
         return println!(rt; "bench: the count is no number");
     };
     match Width::new(width) {
-        Some(n) => often(rt, work, n, count),
+        Some(n) => run(rt, work, n, count),
         None => println!(rt; "bench: the width is not listed"),
     }
 }

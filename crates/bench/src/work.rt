@@ -1,6 +1,7 @@
 // The same work done often. What came of each turn is looked at and counted, so that no turn can be left out and a wrong one shows.
-ghost use Rattle.std.specs.Prelude.{◌≡◌, true, ◌*◌};
+ghost use Rattle.std.specs.Prelude.{◌≡◌, true, ◌*◌, length};
 ghost use Rattle.lists.specs.Tabulate.{sum};
+ghost use Rattle.tape.specs.Layout.{tape_length};
 ghost use Rattle.tape.specs.Dealt.{Dealt};
 ghost use Rattle.encoding.specs.Matching.{indicator};
 ghost use Rattle.bench.specs.Work.{is_right, right_at, both_in_order};
@@ -8,9 +9,12 @@ ghost use Rattle.bench.specs.Work.{is_right, right_at, both_in_order};
 use exchange::Shares;
 use field::Width;
 
-pub const PAIR: u32 = 1;
+// What the tapes are dealt from.
+const SEED: u32 = 2463534242;
 
-pub const NUMBER: u32 = 0;
+const PAIR: u32 = 1;
+
+const NUMBER: u32 = 0;
 
 // What is done often: whole jobs, or checks of a job's tapes.
 #[derive(Clone, Copy, Debug, PartialEq, Eq)]
@@ -49,33 +53,47 @@ pub fn jobs(n: Width, count: u32, t1: &[u32], t2: &[u32]) -> u32
     result
 }
 
-// One check of both tapes, box 1's first.
-fn box1_first(n: Width, t1: &[u32], t2: &[u32]) -> bool
+// One check of both tapes. Which box's tape comes first changes from turn to turn, so that no turn can be taken for another.
+fn check(n: Width, turn: u32, t1: &[u32], t2: &[u32]) -> bool
     ensures { result ≡ both_in_order n.bits t1.now t2.now }
 {
-    tape::in_order(t1, n.bits, PAIR, 1, NUMBER) && tape::in_order(t2, n.bits, PAIR, 2, NUMBER)
+    if turn % 2 == 0 {
+        tape::in_order(t1, n.bits, PAIR, 1, NUMBER) && tape::in_order(t2, n.bits, PAIR, 2, NUMBER)
+    } else {
+        tape::in_order(t2, n.bits, PAIR, 2, NUMBER) && tape::in_order(t1, n.bits, PAIR, 1, NUMBER)
+    }
 }
 
-// The same, box 2's first.
-fn box2_first(n: Width, t1: &[u32], t2: &[u32]) -> bool
-    ensures { result ≡ both_in_order n.bits t1.now t2.now }
-{
-    tape::in_order(t2, n.bits, PAIR, 2, NUMBER) && tape::in_order(t1, n.bits, PAIR, 1, NUMBER)
-}
-
-// Checks: how many found both tapes in order. Which box's tape comes first changes from turn to turn, so that no turn can be taken for another.
+// Checks: how many found both tapes in order.
 pub fn checks(n: Width, count: u32, t1: &[u32], t2: &[u32]) -> u32
     ensures value { result ≡ count * indicator (both_in_order n.bits t1.now t2.now) }
     ensures dealt { Dealt n.bits 1 0 t1.now t2.now → result ≡ count }
 {
     let mut result = 0;
     for i in 0..count {
-        let found = if i % 2 == 0 {
-            box1_first(n, t1, t2)
-        } else {
-            box2_first(n, t1, t2)
-        };
-        result += u32::from(found);
+        result += u32::from(check(n, i, t1, t2));
     }
     result
+}
+
+// On dealt tapes, as boxes get them: on plain ones, mostly zeros, a branch on a word would always go the same way.
+fn on_dealt(work: Work, n: Width, count: u32, t1: &mut [u32], t2: &mut [u32]) -> u32
+    requires { (length t1.old ≡ tape_length n.bits) × (length t2.old ≡ tape_length n.bits) }
+    ensures { result ≡ count }
+{
+    deals::write(SEED, n, PAIR, NUMBER, &mut *t1, &mut *t2);
+    match work {
+        Work::Jobs => jobs(n, count, &*t1, &*t2),
+        Work::Checks => checks(n, count, &*t1, &*t2),
+    }
+}
+
+// So many turns of the work, and how many of them came out right. In memory that has room for the longest tape.
+pub fn often(work: Work, n: Width, count: u32) -> u32
+    ensures { result ≡ count }
+{
+    let mut t1 = exchange::memory::blank_tape();
+    let mut t2 = exchange::memory::blank_tape();
+    let len = tape::tape_words(n);
+    on_dealt(work, n, count, &mut t1[..len], &mut t2[..len])
 }
