@@ -2,77 +2,37 @@
 // tools/bench.
 #![tactic(auto)]
 
-ghost use Rattle.std.specs.Prelude.{◌≡◌, true, length};
 ghost use Rattle.io.specs.Counts.{IsPrefixLen};
-ghost use Rattle.field.specs.Width.{listed};
-ghost use Rattle.tape.specs.Layout.{tape_length};
-ghost use Rattle.tape.specs.Dealt.{Dealt};
 
 mod work;
 
+use field::Width;
 use std::env::{Env, FillError};
-
-// What the tapes are dealt from.
-const SEED: u32 = 2463534242;
-
-fn say(name: &[u8], number: u64) {
-    io::write_all(1, name);
-    io::print_decimal(1, number);
-}
+use std::io;
+use work::Work;
 
 // The words that are lent to a box for a job.
-fn sizes(n: u32)
-    requires { listed n ≡ true }
-{
-    say(b"width ", n as u64);
-    say(b": tape ", tape::tape_words(n) as u64);
-    say(b", work ", compare::words::work_words(n) as u64);
-    say(b", longest message ", compare::words::words_of(n, 1) as u64);
-    io::write_all(1, b" words\n");
+fn sizes(rt: &impl Print, n: Width) -> io::Result<()> {
+    let tape = tape::tape_words(n);
+    let work = compare::words::work_words(n.bits);
+    let longest = compare::words::words_of(n, 1);
+    println!(rt; "width {}: tape {tape}, work {work}, longest message {longest} words", n.bits)
 }
 
-// Both boxes' tapes: the dealer refuses none of what is asked of it here.
-fn deal(n: u32, t1: &mut [u32], t2: &mut [u32])
-    requires { (listed n ≡ true) × (length t1.old ≡ tape_length n) × (length t2.old ≡ tape_length n) }
-    ensures { Dealt n 1 0 t1.new t2.new }
-{
-    deals::deal(SEED, n, work::PAIR, work::NUMBER, t1, t2).unwrap();
-}
-
-// On dealt tapes, as boxes get them: on plain ones, mostly zeros, a branch on a word would always go the same way.
-fn run(n: u32, count: u32, jobs: bool, t1: &mut [u32], t2: &mut [u32])
-    requires { (listed n ≡ true) × (length t1.old ≡ tape_length n) × (length t2.old ≡ tape_length n) }
-{
-    deal(n, &mut *t1, &mut *t2);
-    if jobs {
-        say(b"jobs: ", work::jobs(n, count, &*t1, &*t2) as u64);
-        say(b" of ", count as u64);
-        io::write_all(1, b" right\n");
-    } else {
-        say(b"checks: ", work::checks(n, count, &*t1, &*t2) as u64);
-        say(b" of ", count as u64);
-        io::write_all(1, b" in order\n");
+// Does the work so often, and says how many turns came out right.
+fn run(rt: &impl Print, work: Work, n: Width, count: u32) -> io::Result<()> {
+    let right = work::often(work, n, count);
+    match work {
+        Work::Jobs => println!(rt; "jobs: {right} of {count} right"),
+        Work::Checks => println!(rt; "checks: {right} of {count} in order"),
     }
-}
-
-// In memory that has room for the longest tape.
-fn often(n: u32, count: u32, jobs: bool)
-    requires { listed n ≡ true }
-{
-    let mut t1 = exchange::memory::blank_tape();
-    let mut t2 = exchange::memory::blank_tape();
-    let len = tape::tape_words(n);
-    run(n, count, jobs, &mut t1[..len], &mut t2[..len]);
 }
 
 // Puts an argument at the start of word and answers its length: 0 where there is none, or a longer one than word.
 fn argument(rt: &impl Env, place: usize, word: &mut [u8]) -> usize
     ensures { IsPrefixLen result word.new }
 {
-    match rt.arg(place, word) {
-        Ok(len) => len,
-        Err(_) => 0,
-    }
+    rt.arg(place, word).unwrap_or(0)
 }
 
 // An argument as a number.
@@ -83,19 +43,16 @@ fn number_at(rt: &impl Env, place: usize) -> Option<u32> {
 }
 
 // The width and the count are arguments 2 and 3.
-fn asked(rt: &impl Env, jobs: bool) {
+fn asked(rt: &(impl Env + Print), work: Work) -> io::Result<()> {
     let Some(width) = number_at(rt, 2) else {
-        io::write_all(1, b"bench: the width is no number\n");
-        return;
+        return println!(rt; "bench: the width is no number");
     };
     let Some(count) = number_at(rt, 3) else {
-        io::write_all(1, b"bench: the count is no number\n");
-        return;
+        return println!(rt; "bench: the count is no number");
     };
-    if field::is_listed(width) {
-        often(width, count, jobs);
-    } else {
-        io::write_all(1, b"bench: the width is not listed\n");
+    match Width::new(width) {
+        Some(n) => run(rt, work, n, count),
+        None => println!(rt; "bench: the width is not listed"),
     }
 }
 
@@ -104,29 +61,26 @@ fn is_alone(rt: &impl Env) -> bool {
     matches!(rt.arg(1, &mut []), Err(FillError::NotPresent))
 }
 
-fn main(rt: HostRuntime) {
+fn main(rt: HostRuntime) -> io::Result<()> {
     let mut word = [0u8; 8];
     let len = argument(&rt, 1, &mut word);
     if is_alone(&rt) {
-        all_sizes();
-    } else if check::same(&word[..len], b"jobs") {
-        asked(&rt, true);
-    } else if check::same(&word[..len], b"checks") {
-        asked(&rt, false);
-    } else {
-        io::write_all(
-            1,
-            b"bench: jobs or checks, a width and a count, or nothing\n",
-        );
+        return all_sizes(&rt);
+    }
+    match &word[..len] {
+        b"jobs" => asked(&rt, Work::Jobs),
+        b"checks" => asked(&rt, Work::Checks),
+        _ => println!(&rt; "bench: jobs or checks, a width and a count, or nothing"),
     }
 }
 
-fn all_sizes() {
-    sizes(3);
-    sizes(5);
-    sizes(7);
-    sizes(13);
-    sizes(17);
-    sizes(19);
-    sizes(31);
+#[tactic(auto, unfolding(field::specs::Width::listed))]
+fn all_sizes(rt: &impl Print) -> io::Result<()> {
+    sizes(rt, Width { bits: 3 })?;
+    sizes(rt, Width { bits: 5 })?;
+    sizes(rt, Width { bits: 7 })?;
+    sizes(rt, Width { bits: 13 })?;
+    sizes(rt, Width { bits: 17 })?;
+    sizes(rt, Width { bits: 19 })?;
+    sizes(rt, Width { bits: 31 })
 }

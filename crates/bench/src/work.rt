@@ -1,37 +1,34 @@
 // The same work done often. What came of each turn is looked at and counted, so that no turn can be left out and a wrong one shows.
-ghost use Rattle.std.specs.Prelude.{◌≡◌, true, ◌*◌, ◌<◌};
-ghost use Rattle.field.specs.Width.{listed};
+ghost use Rattle.std.specs.Prelude.{◌≡◌, true, ◌*◌, length};
 ghost use Rattle.lists.specs.Tabulate.{sum};
+ghost use Rattle.tape.specs.Layout.{tape_length};
 ghost use Rattle.tape.specs.Dealt.{Dealt};
 ghost use Rattle.encoding.specs.Matching.{indicator};
-ghost use Rattle.bench.specs.Work.{comparison, is_right, right_at, both_in_order};
+ghost use Rattle.bench.specs.Work.{is_right, right_at, both_in_order};
 
 use exchange::Shares;
+use field::Width;
 
-pub const PAIR: u32 = 1;
+// What the tapes are dealt from.
+const SEED: u32 = 2463534242;
 
-pub const NUMBER: u32 = 0;
+const PAIR: u32 = 1;
 
-// A test as a number.
-fn one_if(test: bool) -> u32
-    ensures { result ≡ indicator test }
-{
-    if test { 1 } else { 0 }
-}
+const NUMBER: u32 = 0;
 
-// The ordinary comparison.
-fn expected(p: u32, box1: Shares, box2: Shares) -> u32
-    requires { (0 < p) × (box1.x < 7) × (box1.y < 7) × (box2.x < 7) × (box2.y < 7) }
-    ensures { result ≡ comparison p box1 box2 }
-{
-    one_if((box1.x + box2.x) % p < (box1.y + box2.y) % p)
+// What is done often: whole jobs, or checks of a job's tapes.
+#[derive(Clone, Copy, Debug, PartialEq, Eq)]
+pub enum Work {
+    Jobs,
+    Checks,
 }
 
 // One whole job of both boxes: whether it was not refused, and answered as the comparison does. The shares change from turn to turn, and stay
 // below 7, so that they are in range at every width.
-fn right(n: u32, turn: u32, t1: &[u32], t2: &[u32]) -> bool
-    requires { listed n ≡ true }
-    ensures { result ≡ is_right n t1.now t2.now turn }
+#[tactic(auto, using(field::proofs::Widths::bounds), unfolding(crate::specs::Work::is_right))]
+fn right(n: Width, turn: u32, t1: &[u32], t2: &[u32]) -> bool
+    ensures value { result ≡ is_right n.bits t1.now t2.now turn }
+    ensures dealt { Dealt n.bits 1 0 t1.now t2.now → result ≡ true }
 {
     let box1 = Shares {
         x: turn % 7,
@@ -41,51 +38,62 @@ fn right(n: u32, turn: u32, t1: &[u32], t2: &[u32]) -> bool
         x: turn / 7 % 7,
         y: turn / 343 % 7,
     };
-    let verdict = exchange::memory::fresh_job(n, PAIR, NUMBER, box1, box2, t1, t2);
-    if verdict.refusal != 0 {
-        return false;
-    }
-    verdict.less == expected(field::modulus_of(n), box1, box2)
+    exchange::memory::is_right(n, PAIR, box1, box2, t1, t2)
 }
 
 // Whole jobs: how many were right.
-pub fn jobs(n: u32, count: u32, t1: &[u32], t2: &[u32]) -> u32
-    requires { listed n ≡ true }
-    ensures value { result ≡ sum count (right_at n t1.now t2.now) }
-    ensures dealt { Dealt n 1 0 t1.now t2.now → result ≡ count }
+pub fn jobs(n: Width, count: u32, t1: &[u32], t2: &[u32]) -> u32
+    ensures value { result ≡ sum count (right_at n.bits t1.now t2.now) }
+    ensures dealt { Dealt n.bits 1 0 t1.now t2.now → result ≡ count }
 {
-    let mut result: u32 = 0;
-    let mut i = 0;
-    while i < count {
-        result += one_if(right(n, i, t1, t2));
-        i += 1;
+    let mut result = 0;
+    for i in 0..count {
+        result += u32::from(right(n, i, t1, t2));
     }
     result
 }
 
 // One check of both tapes. Which box's tape comes first changes from turn to turn, so that no turn can be taken for another.
-fn check(n: u32, even: bool, t1: &[u32], t2: &[u32]) -> bool
-    ensures { result ≡ both_in_order n t1.now t2.now }
+fn check(n: Width, turn: u32, t1: &[u32], t2: &[u32]) -> bool
+    ensures { result ≡ both_in_order n.bits t1.now t2.now }
 {
-    if even {
-        let box1 = tape::in_order(t1, n, PAIR, 1, NUMBER);
-        box1 && tape::in_order(t2, n, PAIR, 2, NUMBER)
+    if turn % 2 == 0 {
+        tape::in_order(t1, n.bits, PAIR, 1, NUMBER) && tape::in_order(t2, n.bits, PAIR, 2, NUMBER)
     } else {
-        let box2 = tape::in_order(t2, n, PAIR, 2, NUMBER);
-        box2 && tape::in_order(t1, n, PAIR, 1, NUMBER)
+        tape::in_order(t2, n.bits, PAIR, 2, NUMBER) && tape::in_order(t1, n.bits, PAIR, 1, NUMBER)
     }
 }
 
 // Checks: how many found both tapes in order.
-pub fn checks(n: u32, count: u32, t1: &[u32], t2: &[u32]) -> u32
-    ensures value { result ≡ count * indicator (both_in_order n t1.now t2.now) }
-    ensures dealt { Dealt n 1 0 t1.now t2.now → result ≡ count }
+pub fn checks(n: Width, count: u32, t1: &[u32], t2: &[u32]) -> u32
+    ensures value { result ≡ count * indicator (both_in_order n.bits t1.now t2.now) }
+    ensures dealt { Dealt n.bits 1 0 t1.now t2.now → result ≡ count }
 {
-    let mut result: u32 = 0;
-    let mut i = 0;
-    while i < count {
-        result += one_if(check(n, i % 2 == 0, t1, t2));
-        i += 1;
+    let mut result = 0;
+    for i in 0..count {
+        result += u32::from(check(n, i, t1, t2));
     }
     result
+}
+
+// On dealt tapes, as boxes get them: on plain ones, mostly zeros, a branch on a word would always go the same way.
+fn on_dealt(work: Work, n: Width, count: u32, t1: &mut [u32], t2: &mut [u32]) -> u32
+    requires { (length t1.old ≡ tape_length n.bits) × (length t2.old ≡ tape_length n.bits) }
+    ensures { result ≡ count }
+{
+    deals::write(SEED, n, PAIR, NUMBER, &mut *t1, &mut *t2);
+    match work {
+        Work::Jobs => jobs(n, count, &*t1, &*t2),
+        Work::Checks => checks(n, count, &*t1, &*t2),
+    }
+}
+
+// So many turns of the work, and how many of them came out right. In memory that has room for the longest tape.
+pub fn often(work: Work, n: Width, count: u32) -> u32
+    ensures { result ≡ count }
+{
+    let mut t1 = exchange::memory::blank_tape();
+    let mut t2 = exchange::memory::blank_tape();
+    let len = tape::tape_words(n);
+    on_dealt(work, n, count, &mut t1[..len], &mut t2[..len])
 }

@@ -47,8 +47,8 @@ fn bodies(seed: u32, n: Width, t1: &mut [u32], t2: &mut [u32])
     }
 }
 
-// Both tapes.
-fn write(seed: u32, n: Width, pair: u32, number: u32, t1: &mut [u32], t2: &mut [u32])
+// Both tapes, where nothing is to be refused.
+pub fn write(seed: u32, n: Width, pair: u32, number: u32, t1: &mut [u32], t2: &mut [u32])
     requires { (length t1.old ≡ tape_length n.bits) × (length t2.old ≡ tape_length n.bits) }
     ensures box1 { t1.new ≡ dealt_tape seed n.bits pair 1 number }
     ensures box2 { t2.new ≡ dealt_tape seed n.bits pair 2 number }

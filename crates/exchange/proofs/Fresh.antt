@@ -1,10 +1,11 @@
 -- Two boxes at first, each with one fresh tape: which refusal a job of theirs gives first, and what it answers.
-use Prim.Native.Nat.{ℕ, ◌+◌, ◌%◌, ◌≤◌}
-use mathlib.Core.Path.{◌≡◌, refl}
+use Prim.Native.Nat.{ℕ, ◌+◌, ◌%◌, ◌<◌, ◌≤◌}
+use mathlib.Core.Path.{◌≡◌, refl, ◌∙◌}
 use mathlib.Core.Bool.{Bool, true, false, ◌&&◌, cond}
 use mathlib.Core.List.{List}
+use mir.Val.{bool_byte}
 use native.Mathlib.Omega.{arith}
-use borrow.Author.Tests.{le-leb}
+use borrow.Author.Tests.{le-leb, lt-ltb}
 use lib.Dec.{eqb, leb, ltb}
 use lib.ListN.{length, length-replicate}
 use Rattle.field.specs.Width.{listed, modulus}
@@ -137,3 +138,17 @@ module _ (n pair : ℕ) (box1 box2 : Shares) (t1 t2 : List ℕ) where
       ≡ cond (eqb (fresh_job n pair 0 box1 box2 t1 t2).refusal 0) (indicator (ltb ((box1.x + box2.x) % modulus n) ((box1.y + box2.y) % modulus n))) 0
   unfolding fresh_job job_of
   fresh_answer dealt = job_answer n pair 0 (fresh_lent box1 t1) (fresh_lent box2 t2) dealt
+
+  -- so it is taken and right where the shares are in range
+  pub fresh_right : Dealt n pair 0 t1 t2 → box1.x < modulus n → box1.y < modulus n → box2.x < modulus n → box2.y < modulus n
+      → let job = fresh_job n pair 0 box1 box2 t1 t2 in
+      (job.refusal ≡ 0) × (job.less ≡ indicator (ltb ((box1.x + box2.x) % modulus n) ((box1.y + box2.y) % modulus n)))
+  fresh_right m lx1 ly1 lx2 ly2 =
+      let taken : (fresh_job n pair 0 box1 box2 t1 t2).refusal ≡ 0 =
+      fresh_share_refusal m ∙ rw (lt-ltb _ _ lx1, lt-ltb _ _ ly1, lt-ltb _ _ lx2, lt-ltb _ _ ly2) refl in
+      (taken, fresh_answer (λ none. m) ∙ rw taken refl)
+
+-- a test that is counted as 1 or 0
+pub as_indicator : (test : Bool) → bool_byte test ≡ indicator test
+as_indicator true = refl
+as_indicator false = refl

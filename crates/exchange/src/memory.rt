@@ -1,11 +1,18 @@
 // Memory for jobs of any width: room for the longest tape, work and message, and a job with buffers of its own.
-ghost use Rattle.std.specs.Prelude.{◌≡◌, length};
+ghost use Rattle.std.specs.Prelude.{◌≡◌, true, ◌+◌, ◌%◌, ◌<◌, ◌&&◌, eqb, ltb, length};
+ghost use Rattle.field.specs.Width.{modulus};
+ghost use Rattle.tape.specs.Dealt.{Dealt};
+ghost use Rattle.encoding.specs.Matching.{indicator};
 ghost use Rattle.refusals.specs.Checks.{ground_of};
 ghost use Rattle.exchange.specs.Jobs.{less_of};
 ghost use Rattle.exchange.specs.Memory.{blank_work, blank_words, fresh_job};
 
 use crate::Shares;
+use field::Width;
 use refusals::Refusal;
+
+// The only tape number of a pair with one tape.
+const FIRST_TAPE: u32 = 0;
 
 // Zeros for the longest tape.
 pub fn blank_tape() -> [u32; 9053]
@@ -50,4 +57,31 @@ pub fn fresh_job(
     crate::less(
         n, pair, number, box1, box2, t1, t2, &mut w1, &mut w2, &mut k1, &mut k2, &mut o1, &mut o2,
     )
+}
+
+// The ordinary comparison of what the boxes' shares add up to.
+#[tactic(auto, using(field::proofs::Widths::bounds))]
+fn compared(n: Width, box1: Shares, box2: Shares) -> u32
+    requires { (box1.x < modulus n.bits) × (box1.y < modulus n.bits) × (box2.x < modulus n.bits) × (box2.y < modulus n.bits) }
+    ensures { result ≡ indicator (ltb ((box1.x + box2.x) % modulus n.bits) ((box1.y + box2.y) % modulus n.bits)) }
+{
+    let p = n.modulus();
+    let x = (box1.x + box2.x) % p;
+    let y = (box1.y + box2.y) % p;
+    if x < y { 1 } else { 0 }
+}
+
+// Whether a job on one fresh tape of each box is taken, and answers as the ordinary comparison does: for programs that try many jobs.
+pub fn is_right(n: Width, pair: u32, box1: Shares, box2: Shares, t1: &[u32], t2: &[u32]) -> bool
+    requires { (box1.x < modulus n.bits) × (box1.y < modulus n.bits) × (box2.x < modulus n.bits) × (box2.y < modulus n.bits) }
+    ensures value { result
+        ≡ (eqb (fresh_job n.bits pair 0 box1 box2 t1.now t2.now).refusal 0
+        && eqb (fresh_job n.bits pair 0 box1 box2 t1.now t2.now).less
+        (indicator (ltb ((box1.x + box2.x) % modulus n.bits) ((box1.y + box2.y) % modulus n.bits)))) }
+    ensures dealt { Dealt n.bits pair 0 t1.now t2.now → result ≡ true }
+{
+    match fresh_job(n.bits, pair, FIRST_TAPE, box1, box2, t1, t2) {
+        Ok(less) => less == compared(n, box1, box2),
+        Err(_) => false,
+    }
 }

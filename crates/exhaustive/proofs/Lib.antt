@@ -1,3 +1,1 @@
 pub mod Small
-pub mod Agrees
-pub mod Lent

@@ -1,5 +1,5 @@
 -- What is counted: the inputs for which both boxes take the job and answer as an ordinary comparison does.
-use Rattle.std.specs.Prelude.{ℕ, ◌+◌, ◌*◌, ◌/◌, ◌%◌, Bool, ◌&&◌, cond, List, eqb, ltb}
+use Rattle.std.specs.Prelude.{ℕ, ◌+◌, ◌*◌, ◌/◌, ◌%◌, Bool, ◌&&◌, List, eqb, ltb}
 use Rattle.lists.specs.Tabulate.{sum}
 use Rattle.field.specs.Width.{modulus}
 use Rattle.tape.specs.Plain.{plain_tape}
@@ -8,6 +8,8 @@ use Rattle.encoding.specs.Matching.{indicator}
 use Rattle.exchange.specs.declared.Shares.{Shares}
 use Rattle.exchange.specs.Jobs.{Ended}
 use Rattle.exchange.specs.Memory.{fresh_job}
+use Rattle.exhaustive.specs.declared.tapes.Source.{Source}
+use Rattle.exhaustive.specs.declared.tapes.Source.TheVariants.{Plain, Dealt}
 
 -- the ordinary comparison
 abbrev pub comparison : ℕ → Shares → Shares → ℕ
@@ -31,21 +33,22 @@ unfoldable pub right_of : ℕ → ℕ → ℕ → List ℕ → List ℕ → ℕ
 right_of n x1 x2 t1 t2 = sum (modulus n * modulus n) (right_at (modulus n) n x1 x2 t1 t2)
 
 -- a box's tape: the plain one, or the one that is dealt from a seed
-unfoldable pub tape_of : Bool → ℕ → ℕ → ℕ → List ℕ
-tape_of plain n seed side = cond plain (plain_tape n 7 side 0) (dealt_tape seed n 7 side 0)
+unfoldable pub tape_of : Source → ℕ → ℕ → ℕ → List ℕ
+tape_of Plain n seed side = plain_tape n 7 side 0
+tape_of Dealt n seed side = dealt_tape seed n 7 side 0
 
 -- the seed for x1 and x2: never 0, and for shares below 31 never twice the same
 abbrev pub seed_of : ℕ → ℕ → ℕ
 seed_of x1 x2 = 1 + 31 * x1 + x2
 
 -- how many of all y1 and y2, on the tapes for x1 and x2
-abbrev pub right_with : Bool → ℕ → ℕ → ℕ → ℕ
-right_with plain n x1 x2 = right_of n x1 x2 (tape_of plain n (seed_of x1 x2) 1) (tape_of plain n (seed_of x1 x2) 2)
+abbrev pub right_with : Source → ℕ → ℕ → ℕ → ℕ
+right_with source n x1 x2 = right_of n x1 x2 (tape_of source n (seed_of x1 x2) 1) (tape_of source n (seed_of x1 x2) 2)
 
 -- the same for input i of x
-abbrev pub right_on : Bool → ℕ → ℕ → ℕ → ℕ
-right_on plain p n i = right_with plain n (i / p) (i % p)
+abbrev pub right_on : Source → ℕ → ℕ → ℕ → ℕ
+right_on source p n i = right_with source n (i / p) (i % p)
 
 -- how many of all x1, x2, y1 and y2
-unfoldable pub all_right : Bool → ℕ → ℕ
-all_right plain n = sum (modulus n * modulus n) (right_on plain (modulus n) n)
+unfoldable pub all_right : Source → ℕ → ℕ
+all_right source n = sum (modulus n * modulus n) (right_on source (modulus n) n)

@@ -1,72 +1,66 @@
 // The inputs x1, x2, y1, y2 of a width, each from 0 to p - 1.
 ghost use Rattle.std.specs.Prelude.{◌≡◌, true, ◌*◌, ◌<◌, ◌≤◌, length};
-ghost use Rattle.field.specs.Width.{listed, modulus};
+ghost use Rattle.field.specs.Width.{modulus};
 ghost use Rattle.tape.specs.Layout.{tape_length};
 ghost use Rattle.tape.specs.Dealt.{Dealt};
-ghost use Rattle.exhaustive.specs.Inputs.{comparison, agrees_at, right_of, all_right};
+ghost use Rattle.exhaustive.specs.Inputs.{agrees_at, right_of, all_right};
 
-use crate::tapes::{NUMBER, PAIR};
+use crate::tapes::{PAIR, Source};
 use exchange::Shares;
-
-// The ordinary comparison.
-fn expected(p: u32, box1: Shares, box2: Shares) -> u32
-    requires { (p ≤ 31) × (box1.x < p) × (box1.y < p) × (box2.x < p) × (box2.y < p) }
-    ensures { result ≡ comparison p box1 box2 }
-{
-    let x = (box1.x + box2.x) % p;
-    let y = (box1.y + box2.y) % p;
-    if x < y { 1 } else { 0 }
-}
+use field::Width;
 
 // Whether the boxes take the job and answer as an ordinary comparison does. Each box has one fresh tape.
-fn agrees(n: u32, box1: Shares, box2: Shares, t1: &[u32], t2: &[u32]) -> bool
-    requires n_value { (listed n ≡ true) × (n ≤ 5) }
-    requires x_bound { (box1.x < modulus n) × (box1.y < modulus n) × (box2.x < modulus n) × (box2.y < modulus n) }
-    ensures { result ≡ agrees_at n box1 box2 t1.now t2.now }
+#[tactic(auto, unfolding(crate::specs::Inputs::agrees_at))]
+fn agrees(n: Width, box1: Shares, box2: Shares, t1: &[u32], t2: &[u32]) -> bool
+    requires { (box1.x < modulus n.bits) × (box1.y < modulus n.bits) × (box2.x < modulus n.bits) × (box2.y < modulus n.bits) }
+    ensures value { result ≡ agrees_at n.bits box1 box2 t1.now t2.now }
+    ensures dealt { Dealt n.bits 7 0 t1.now t2.now → result ≡ true }
 {
-    let r = exchange::memory::fresh_job(n, PAIR, NUMBER, box1, box2, t1, t2);
-    if r.refusal != 0 {
-        return false;
-    }
-    r.less == expected(field::modulus_of(n), box1, box2)
+    exchange::memory::is_right(n, PAIR, box1, box2, t1, t2)
 }
 
 // All y1 and y2, with one pair of tapes.
-fn right_of(n: u32, x1: u32, x2: u32, t1: &[u32], t2: &[u32]) -> u64
-    requires { (listed n ≡ true) × (n ≤ 5) × (x1 < modulus n) × (x2 < modulus n) }
-    ensures value { result ≡ right_of n x1 x2 t1.now t2.now }
-    ensures dealt { Dealt n 7 0 t1.now t2.now → result ≡ modulus n * modulus n }
+fn right_of(n: Width, x1: u32, x2: u32, t1: &[u32], t2: &[u32]) -> u64
+    requires { (n.bits ≤ 5) × (x1 < modulus n.bits) × (x2 < modulus n.bits) }
+    ensures value { result ≡ right_of n.bits x1 x2 t1.now t2.now }
+    ensures dealt { Dealt n.bits 7 0 t1.now t2.now → result ≡ modulus n.bits * modulus n.bits }
 {
-    let p = field::modulus_of(n);
-    let mut right: u64 = 0;
-    let mut i = 0;
-    while i < p * p {
+    let p = n.modulus();
+    let mut right = 0;
+    for i in 0..p * p {
         let box1 = Shares { x: x1, y: i / p };
         let box2 = Shares { x: x2, y: i % p };
-        if agrees(n, box1, box2, t1, t2) {
-            right += 1;
-        }
-        i += 1;
+        right += u64::from(agrees(n, box1, box2, t1, t2));
     }
     right
 }
 
-// All inputs of a width, p^4 of them, on plain tapes or on dealt ones: all are right.
-pub fn right(n: u32, plain: bool, t1: &mut [u32], t2: &mut [u32]) -> u64
-    requires { (listed n ≡ true) × (n ≤ 5) × (length t1.old ≡ tape_length n) × (length t2.old ≡ tape_length n) }
-    ensures value { result ≡ all_right plain n }
-    ensures all { result ≡ modulus n * modulus n * (modulus n * modulus n) }
+// All inputs of a width, p^4 of them, on tapes of that source: all are right.
+fn right(n: Width, source: Source, t1: &mut [u32], t2: &mut [u32]) -> u64
+    requires { (n.bits ≤ 5) × (length t1.old ≡ tape_length n.bits) × (length t2.old ≡ tape_length n.bits) }
+    ensures value { result ≡ all_right source n.bits }
+    ensures all { result ≡ modulus n.bits * modulus n.bits * (modulus n.bits * modulus n.bits) }
 {
-    let p = field::modulus_of(n);
-    let mut right: u64 = 0;
-    let mut i = 0;
-    while i < p * p {
+    let p = n.modulus();
+    let mut right = 0;
+    for i in 0..p * p {
         let x1 = i / p;
         let x2 = i % p;
         let seed = crate::tapes::seed_of(x1, x2);
-        crate::tapes::pair(n, plain, seed, &mut *t1, &mut *t2);
+        crate::tapes::pair(n, source, seed, &mut *t1, &mut *t2);
         right += right_of(n, x1, x2, &*t1, &*t2);
-        i += 1;
     }
     right
+}
+
+// The same, in memory that has room for the longest tape.
+pub fn count(n: Width, source: Source) -> u64
+    requires { n.bits ≤ 5 }
+    ensures value { result ≡ all_right source n.bits }
+    ensures all { result ≡ modulus n.bits * modulus n.bits * (modulus n.bits * modulus n.bits) }
+{
+    let mut t1 = exchange::memory::blank_tape();
+    let mut t2 = exchange::memory::blank_tape();
+    let len = tape::tape_words(n);
+    right(n, source, &mut t1[..len], &mut t2[..len])
 }

@@ -1,28 +1,27 @@
 // Runs every input of widths 3 and 5 as a whole job of both boxes, and counts the answers that an ordinary comparison gives too.
 #![tactic(auto)]
 
-ghost use Rattle.std.specs.Prelude.{◌≡◌, true, ◌≤◌};
-ghost use Rattle.field.specs.Width.{listed};
+ghost use Rattle.std.specs.Prelude.{◌≤◌};
 
 mod inputs;
 mod tapes;
 
-fn run(name: &[u8], n: u32, plain: bool, all: u64)
-    requires { (listed n ≡ true) × (n ≤ 5) }
+use field::Width;
+use std::io;
+use tapes::Source;
+
+fn run(rt: &impl Print, name: &str, n: Width, source: Source, all: u64) -> io::Result<()>
+    requires { n.bits ≤ 5 }
 {
-    let mut t1 = exchange::memory::blank_tape();
-    let mut t2 = exchange::memory::blank_tape();
-    let len = tape::tape_words(n);
-    let right = inputs::right(n, plain, &mut t1[..len], &mut t2[..len]);
-    io::write_all(1, name);
-    io::print_decimal(1, right);
-    io::write_all(1, b" of ");
-    io::print_decimal(1, all);
-    io::write_all(1, b" right\n");
+    let right = inputs::count(n, source);
+    println!(rt; "{name}: {right} of {all} right")
 }
 
-fn main() {
-    run(b"width 3, plain tapes: ", 3, true, 2401);
-    run(b"width 3: ", 3, false, 2401);
-    run(b"width 5: ", 5, false, 923521);
+#[tactic(auto, unfolding(field::specs::Width::listed))]
+fn main(rt: HostRuntime) -> io::Result<()> {
+    let three = Width { bits: 3 };
+    let five = Width { bits: 5 };
+    run(&rt, "width 3, plain tapes", three, Source::Plain, 2401)?;
+    run(&rt, "width 3", three, Source::Dealt, 2401)?;
+    run(&rt, "width 5", five, Source::Dealt, 923521)
 }

@@ -1,10 +1,13 @@
 -- Which text a line gets, by what was read and what the boxes said.
-use Prim.Native.Nat.{ℕ, ◌<◌}
-use mathlib.Core.Path.{◌≡◌, refl, ◌∙◌}
-use mathlib.Core.Bool.{true, false}
-use mathlib.Core.List.{List}
+use Rattle.std.proofs.Common.{◌≡◌, ℕ, ◌<◌, true, false, cond, eqb, leb, List, Result, Ok, Err, get_or, refl, arith}
+use mathlib.Core.Bool.{and-false}
 use borrow.Author.Tests.{ne_eqb, lt-leb}
-use lib.ListN.{get_or}
+use Rattle.field.specs.Width.{listed}
+use Rattle.refusals.specs.Numbers.{number_of}
+use Rattle.refusals.specs.Checks.{ground_of}
+use Rattle.refusals.specs.declared.Refusal.{Refusal}
+use Rattle.refusals.proofs.Numbers.{numbered}
+use Rattle.exchange.specs.Jobs.{less_of}
 use Rattle.lines.specs.Reading.{is_line, line_numbers}
 use Rattle.lines.specs.Writing.{refused_text}
 use Rattle.plain.specs.Printed.{plain_refusal, plain_less, plain_answer, answer_text, text_for, printed}
@@ -19,17 +22,26 @@ unfolding printed
 five text numbers e read = rw (e, read) refl
 
 module _ (n x1 x2 y1 y2 : ℕ) where
-  -- too wide
+  pub unlisted : listed n ≡ false → text_for n x1 x2 y1 y2 ≡ refused_text 2
+  unfolding text_for plain_refusal
+  unlisted none = rw (none, and-false (leb n 13)) refl
+
   pub wide : 13 < n → text_for n x1 x2 y1 y2 ≡ refused_text 2
   unfolding text_for plain_refusal
   wide more = rw (lt-leb n 13 more) refl
 
-  pub turned_down : (k : ℕ) → k ≡ plain_refusal n x1 x2 y1 y2 → (k ≡ 0 → ⊥) → text_for n x1 x2 y1 y2 ≡ refused_text k
-  unfolding text_for
-  turned_down k e some = rw (← e, ne_eqb k 0 some) refl
+  -- what the boxes said
+  module _ (said : Result ℕ Refusal) (told : ground_of said ≡ plain_refusal n x1 x2 y1 y2) where
+    pub turned_down : (refusal : Refusal) → said ≡ Err refusal → text_for n x1 x2 y1 y2 ≡ refused_text (number_of refusal)
+    unfolding text_for
+    turned_down refusal is =
+        let e : number_of refusal ≡ plain_refusal n x1 x2 y1 y2 = rw is at told in
+        rw (← e, ne_eqb (number_of refusal) 0 (λ zero. omega (arith, zero, numbered refusal))) refl
 
-  pub taken : (less : ℕ) → plain_refusal n x1 x2 y1 y2 ≡ 0 → less ≡ plain_answer n x1 x2 y1 y2 → text_for n x1 x2 y1 y2 ≡ answer_text n less
-  unfolding text_for plain_answer
-  taken less none right =
-      let bit : less ≡ plain_less n x1 x2 y1 y2 = right ∙ rw none in
-      rw (none, bit) refl
+    pub taken : less_of said ≡ plain_answer n x1 x2 y1 y2 → (less : ℕ) → said ≡ Ok less → text_for n x1 x2 y1 y2 ≡ answer_text n less
+    unfolding text_for plain_answer
+    taken right less is =
+        let none : 0 ≡ plain_refusal n x1 x2 y1 y2 = rw is at told in
+        let answer : less ≡ cond (eqb (plain_refusal n x1 x2 y1 y2) 0) (plain_less n x1 x2 y1 y2) 0 = rw is at right in
+        let bit : less ≡ plain_less n x1 x2 y1 y2 = rw (← none) at answer in
+        rw (← none, bit) refl

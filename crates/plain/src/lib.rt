@@ -3,10 +3,12 @@
 
 ghost use Rattle.std.specs.Prelude.{◌≡◌, ◌+◌, ◌≤◌, length, take};
 ghost use Rattle.lines.specs.Pages.{HasRoom, Puts};
-ghost use Rattle.plain.specs.Printed.{printed};
+ghost use Rattle.plain.specs.Printed.{text_for, printed};
 
 use exchange::Shares;
+use field::Width;
 use lines::writing::Page;
+use refusals::Refusal;
 
 mod job;
 mod text;
@@ -24,14 +26,25 @@ fn put_printed(page: &mut Page<'_>, text: &[u8])
         return page.put_refused(0);
     };
     let [n, x1, x2, y1, y2] = numbers;
+    put_job(page, n, Shares { x: x1, y: y1 }, Shares { x: x2, y: y2 });
+}
+
+// The answer to a job of any width: one that is not listed, or too wide, is refused here.
+fn put_job(page: &mut Page<'_>, n: u32, box1: Shares, box2: Shares)
+    requires { HasRoom page.old 78 }
+    ensures puts { Puts page.old page.new (text_for n box1.x box2.x box1.y box2.y) }
+    ensures most { page.new.len ≤ page.old.len + 78 }
+{
+    let Some(width) = Width::new(n) else {
+        return page.put_refused(u32::from(Refusal::Width));
+    };
     if WIDEST < n {
-        return page.put_refused(2);
+        return page.put_refused(u32::from(Refusal::Width));
     }
-    let verdict = job::verdict(n, Shares { x: x1, y: y1 }, Shares { x: x2, y: y2 });
-    if verdict.refusal != 0 {
-        return page.put_refused(verdict.refusal);
+    match job::less(width, box1, box2) {
+        Ok(less) => text::put_answer(page, width, less),
+        Err(refusal) => page.put_refused(u32::from(refusal)),
     }
-    text::put_answer(page, n, verdict.less);
 }
 
 // Its answer stands at the front of out; none is longer than 78 bytes.

@@ -1,42 +1,40 @@
-use Prim.Native.Nat.{ℕ, ◌≤◌}
-use mathlib.Core.Path.{◌≡◌, refl, ap, ◌∙◌}
-use native.Mathlib.Omega.{arith}
+use Rattle.std.proofs.Common.{◌≡◌, ℕ, ◌≤◌, refl, ap, ◌∙◌, arith}
+use mir.Val.{bool_byte}
 use Rattle.lists.specs.Tabulate.{sum}
 use Rattle.lists.proofs.Sums.{sum_more}
 use Rattle.encoding.specs.Matching.{indicator}
 use Rattle.protocol.proofs.Halves.{indicator_bit}
+use Rattle.exchange.proofs.Fresh.{as_indicator}
 use Rattle.bench.specs.Work.{right_at}
-use Rattle.bench.proofs.Answers.{all_right}
-use Rattle.bench.proofs.work.jobs.Goals.{After-one_if-result}
+use Rattle.bench.proofs.work.jobs.Goals.{After-from-result}
 use Rattle.bench.proofs.work.jobs.Goals as goal
 
 -- what a turn adds
-adds : (o : After-one_if-result)
-    → let a = o.args in
-    o.one_if-result.result ≡ right_at a.n a.t1.now a.t2.now o.loop-i.i
-adds o = o.one_if-result.ensures ∙ ap indicator o.right.ensures
+adds : (f : After-from-result) → f.from-result.result ≡ right_at f.args.n.bits f.args.t1.now f.args.t2.now f.loop-i.i
+adds f = f.from-result.ensures ∙ as_indicator f.right.result ∙ ap indicator f.right.ensures.value
 
-adds_one : (o : After-one_if-result) → o.one_if-result.result ≤ 1
-adds_one o = omega (arith, o.one_if-result.ensures, indicator_bit o.right.result)
+adds_one : (f : After-from-result) → f.from-result.result ≤ 1
+adds_one f = omega (arith, f.from-result.ensures, as_indicator f.right.result, indicator_bit f.right.result)
 
 pub loop-i-init : goal.loop-i-init
-loop-i-init c = (omega arith, refl, omega arith)
+loop-i-init c = record { value = refl; most = omega arith; dealt = λ m. omega arith }
 
 pub overflow_add-result : goal.overflow_add-result
-overflow_add-result c = omega (arith, c.loop-i.invariant.2, adds_one (goal.at.overflow_add-result c).After-one_if-result)
+overflow_add-result c = omega (arith, c.loop-i.invariant.most, adds_one c)
 
 pub loop-i-preserved : goal.loop-i-preserved
 loop-i-preserved c =
-    let a = c.args in (
-      omega (arith, c.loop-i-test.true),
-      omega (arith, c.loop-i.invariant.1, adds (goal.at.loop-i-preserved c).After-one_if-result, sum_more c.loop-i.i (right_at a.n a.t1.now a.t2.now)),
-      omega (arith, c.loop-i.invariant.2, adds_one (goal.at.loop-i-preserved c).After-one_if-result),
-    )
+    let inv = c.loop-i.invariant in
+    let a = c.args in
+    record {
+      value = omega (arith, inv.value, adds c, sum_more c.loop-i.i (right_at a.n.bits a.t1.now a.t2.now));
+      most = omega (arith, inv.most, adds_one c);
+      dealt = λ m. omega (arith, inv.dealt m, c.from-result.ensures ∙ ap bool_byte (c.right.ensures.dealt m));
+    }
 
 pub returns : goal.returns
 returns c =
-    let l = c.loop-i in
+    let inv = c.loop-i.invariant in
     let a = c.args in
-    let all : l.i ≡ a.count = omega (arith, l.invariant.0, c.loop-i-test.false) in
-    let counted = l.invariant.1 ∙ ap (λ (k : ℕ). sum k (right_at a.n a.t1.now a.t2.now)) all in
-    record { value = counted; dealt = λ m. counted ∙ all_right a.n a.t1.now a.t2.now m a.count }
+    let all : c.loop-i.i ≡ a.count = omega arith in
+    record { value = inv.value ∙ ap (λ (k : ℕ). sum k (right_at a.n.bits a.t1.now a.t2.now)) all; dealt = λ m. inv.dealt m ∙ all }

@@ -1,23 +1,14 @@
--- `exhaustive::tapes::pair` meets its contract: the plain tapes, or those that are dealt, by the rules both.
-use Rattle.deals.proofs.Dealing.{deal_ok}
-use Rattle.exhaustive.proofs.Lent.{plain_lent, dealt_lent}
+-- `exhaustive::tapes::pair` meets its contract: the plain tapes, and those that are dealt, are by the rules both.
+use Rattle.tape.proofs.Plains.{plain_dealt}
+use Rattle.deals.proofs.Dealing.{dealt_tapes}
 use Rattle.exhaustive.proofs.tapes.pair.Goals as goal
 
-pub returns-then-plain : goal.returns-then-plain
-returns-then-plain c =
-    let a = c.args in
-    let lent = plain_lent a.plain a.n a.seed c.requires.1 _ _ c.if-plain.true c.plain.ensures c.plain-then-plain.ensures in
-    record { t1_after = lent.0; dealt = lent.1 }
+pub returns-in-Plain-clause-dealt : goal.returns-in-Plain-clause-dealt
+returns-in-Plain-clause-dealt c =
+    let n = c.args.n in
+    rw (c.plain.ensures, c.plain-in-Plain.ensures) (plain_dealt n.bits 7 0 n.listed)
 
-pub returns-else-plain : goal.returns-else-plain
-returns-else-plain c =
-    let a = c.args in
-    let p = c.requires in
-    let lent = dealt_lent a.plain a.n a.seed p.1 _ _ c.if-plain.false p.0 a.t1.now a.t2.now p.2 p.3 c.deal.result c.deal.ensures in
-    record { t1_after = lent.0; dealt = lent.1 }
-
-pub unwrap-requires : goal.unwrap-requires
-unwrap-requires c =
-    let a = c.args in
-    let p = c.requires in
-    deal_ok a.seed a.n 7 0 a.t1.now a.t2.now _ _ _ c.deal.ensures p.0 p.1 p.2 p.3
+pub returns-in-Dealt-clause-dealt : goal.returns-in-Dealt-clause-dealt
+returns-in-Dealt-clause-dealt c =
+    let n = c.args.n in
+    rw (c.write.ensures.box1, c.write.ensures.box2) (dealt_tapes c.args.seed n.bits 7 0 n.listed)

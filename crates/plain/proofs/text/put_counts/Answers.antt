@@ -10,11 +10,11 @@ unfolding counts
 loop-round-init c = record { puts = record { out = refl; len = omega arith; whole = refl; same = refl }; most = omega arith }
 
 pub overflow_cast-words_of : goal.overflow_cast-words_of
-overflow_cast-words_of c = omega (arith, c.words_of.ensures, words_most c.args.n (c.loop-round.round + 1) c.requires.0)
+overflow_cast-words_of c = omega (arith, c.words_of.ensures, words_most c.args.n.bits (c.loop-round.round + 1) c.args.n.listed)
 
 pub loop-round-preserved : goal.loop-round-preserved
 loop-round-preserved c =
     record {
-      puts = rw (counts_more c.args.n c.loop-round.round, ← c.words_of.ensures) (then (then c.loop-round.invariant.puts c.put.ensures) c.put_number.ensures.puts);
+      puts = rw (counts_more c.args.n.bits c.loop-round.round, ← c.words_of.ensures) (then (then c.loop-round.invariant.puts c.put.ensures) c.put_number.ensures.puts);
       most = omega arith;
     }

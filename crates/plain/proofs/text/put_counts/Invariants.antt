@@ -6,4 +6,4 @@ use Rattle.plain.proofs.text.put_counts.Given as goal
 
 abbrev pub invariant-loop-round : goal.invariant-loop-round
 invariant-loop-round l =
-    record { puts : Puts l.initial.page l.page (counts l.n l.round); most : l.page.len ≤ l.initial.page.len + 11 * l.round }
+    record { puts : Puts l.initial.page l.page (counts l.n.bits l.round); most : l.page.len ≤ l.initial.page.len + 11 * l.round }
