@@ -16,7 +16,10 @@ fn sizes(rt: &impl Print, n: Width) -> io::Result<()> {
     let tape = tape::tape_words(n);
     let work = compare::words::work_words(n.bits);
     let longest = compare::words::words_of(n, 1);
-    println!(rt; "width {}: tape {tape}, work {work}, longest message {longest} words", n.bits)
+    println!(rt;
+        "width {}: tape {tape}, work {work}, longest message {longest} words",
+        n.bits
+    )
 }
 
 // Does the work so often, and says how many turns came out right.

@@ -54,20 +54,20 @@ pub fn jobs(n: Width, count: u32, t1: &[u32], t2: &[u32]) -> u32
 }
 
 // One check of both tapes. Which box's tape comes first changes from turn to turn, so that no turn can be taken for another.
-fn check(n: Width, turn: u32, t1: &[u32], t2: &[u32]) -> bool
-    ensures { result ≡ both_in_order n.bits t1.now t2.now }
+fn check(n: u32, turn: u32, t1: &[u32], t2: &[u32]) -> bool
+    ensures { result ≡ both_in_order n t1.now t2.now }
 {
     if turn % 2 == 0 {
-        tape::in_order(t1, n.bits, PAIR, 1, NUMBER) && tape::in_order(t2, n.bits, PAIR, 2, NUMBER)
+        tape::in_order(t1, n, PAIR, 1, NUMBER) && tape::in_order(t2, n, PAIR, 2, NUMBER)
     } else {
-        tape::in_order(t2, n.bits, PAIR, 2, NUMBER) && tape::in_order(t1, n.bits, PAIR, 1, NUMBER)
+        tape::in_order(t2, n, PAIR, 2, NUMBER) && tape::in_order(t1, n, PAIR, 1, NUMBER)
     }
 }
 
 // Checks: how many found both tapes in order.
-pub fn checks(n: Width, count: u32, t1: &[u32], t2: &[u32]) -> u32
-    ensures value { result ≡ count * indicator (both_in_order n.bits t1.now t2.now) }
-    ensures dealt { Dealt n.bits 1 0 t1.now t2.now → result ≡ count }
+pub fn checks(n: u32, count: u32, t1: &[u32], t2: &[u32]) -> u32
+    ensures value { result ≡ count * indicator (both_in_order n t1.now t2.now) }
+    ensures dealt { Dealt n 1 0 t1.now t2.now → result ≡ count }
 {
     let mut result = 0;
     for i in 0..count {
@@ -84,7 +84,7 @@ fn on_dealt(work: Work, n: Width, count: u32, t1: &mut [u32], t2: &mut [u32]) ->
     deals::write(SEED, n, PAIR, NUMBER, &mut *t1, &mut *t2);
     match work {
         Work::Jobs => jobs(n, count, &*t1, &*t2),
-        Work::Checks => checks(n, count, &*t1, &*t2),
+        Work::Checks => checks(n.bits, count, &*t1, &*t2),
     }
 }
 

@@ -1,4 +1,4 @@
-use Rattle.std.proofs.Common.{◌≡◌, ℕ, ◌+◌, ◌*◌, ◌≤◌, Bool, true, false, List, refl, ap, ◌∙◌, arith}
+use Rattle.std.proofs.Common.{◌≡◌, ℕ, ◌+◌, ◌*◌, ◌≤◌, Bool, true, false, List, ap, ◌∙◌, arith}
 use Rattle.lists.proofs.Tests.{and_both}
 use Rattle.shares.specs.Side.{other}
 use Rattle.tape.specs.Dealt.{Dealt}
@@ -9,7 +9,7 @@ use Rattle.bench.proofs.work.checks.Goals.{After-from-result}
 use Rattle.bench.proofs.work.checks.Goals as goal
 
 -- what a turn adds
-adds : (f : After-from-result) → f.from-result.result ≡ indicator (both_in_order f.args.n.bits f.args.t1.now f.args.t2.now)
+adds : (f : After-from-result) → f.from-result.result ≡ indicator (both_in_order f.args.n f.args.t1.now f.args.t2.now)
 adds f = f.from-result.ensures ∙ as_indicator f.check.result ∙ ap indicator f.check.ensures
 
 -- so many equal ones
@@ -27,13 +27,13 @@ loop-i-init c = omega arith
 pub overflow_add-result : goal.overflow_add-result
 overflow_add-result c =
     let a = c.args in
-    let test = both_in_order a.n.bits a.t1.now a.t2.now in
+    let test = both_in_order a.n a.t1.now a.t2.now in
     omega (arith, c.loop-i.invariant, adds c, more c.loop-i.i test, count_of (c.loop-i.i + 1) test)
 
 pub loop-i-preserved : goal.loop-i-preserved
 loop-i-preserved c =
     let a = c.args in
-    omega (arith, c.loop-i.invariant, adds c, more c.loop-i.i (both_in_order a.n.bits a.t1.now a.t2.now))
+    omega (arith, c.loop-i.invariant, adds c, more c.loop-i.i (both_in_order a.n a.t1.now a.t2.now))
 
 -- dealt tapes are in order
 all_in_order : (n count : ℕ) {t1 t2 : List ℕ} → Dealt n 1 0 t1 t2 → count * indicator (both_in_order n t1 t2) ≡ count
@@ -44,5 +44,5 @@ pub returns : goal.returns
 returns c =
     let a = c.args in
     let all : c.loop-i.i ≡ a.count = omega arith in
-    let counted = c.loop-i.invariant ∙ ap (λ (k : ℕ). k * indicator (both_in_order a.n.bits a.t1.now a.t2.now)) all in
-    record { value = counted; dealt = λ m. counted ∙ all_in_order a.n.bits a.count m }
+    let counted = c.loop-i.invariant ∙ ap (λ (k : ℕ). k * indicator (both_in_order a.n a.t1.now a.t2.now)) all in
+    record { value = counted; dealt = λ m. counted ∙ all_in_order a.n a.count m }
