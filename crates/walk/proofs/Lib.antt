@@ -1,5 +1,4 @@
 pub mod Reached
-pub mod Words
 pub mod Refused
 mod Same
 mod Deals

@@ -1,10 +1,11 @@
 -- Where the first calls of the walk lead, by the rules, and what a call that is its rule tells.
-use Prim.Native.Nat.{ℕ, zero, suc, ◌+◌, ◌<◌}
+use Prim.Native.Nat.{ℕ, zero, suc, ◌+◌, ◌%◌, ◌<◌}
 use mathlib.Core.Path.{◌≡◌, refl, sym, ap, ◌∙◌}
-use mathlib.Core.Bool.{Bool, true}
+use mathlib.Core.Bool.{Bool, true, false, cond, false≢true}
 use mathlib.Core.List.{List, ◌++◌}
 use native.Mathlib.Omega.{arith}
 use borrow.Author.Tests.{ne_eqb}
+use lib.Dec.{eqb}
 use lib.ListN.{length, replicate}
 use Rattle.lists.specs.Tabulate.{tabulate}
 use Rattle.field.specs.Width.{listed, modulus}
@@ -15,12 +16,18 @@ use Rattle.protocol.specs.Rounds.{round_words}
 use Rattle.tally.specs.Tally.{tally_fits, tapes_of, is_fresh, late, marked}
 use Rattle.rules.specs.Modes.{in_range, mode_of}
 use Rattle.rules.specs.Grounds.{wake_ground, start_ground, speak_ground}
-use Rattle.rules.specs.Answers.{reply_of}
+use Rattle.std.specs.Prelude.{Result as Answer}
+use Rattle.refusals.specs.declared.Refusal.{Refusal}
+use Rattle.rules.specs.Answers.{Reply, reply_of}
 use Rattle.rules.specs.Calls.{Result, outcome, wake_rule, start_rule, speak_rule}
-use Rattle.rules.specs.declared.state.Turn.TheVariants.{Speak, Hear}
+use Rattle.rules.specs.declared.state.Turn.TheVariants.{Speak as SpeakDue, Hear as HearDue}
 use Rattle.rules.specs.declared.state.State.{State}
-use Rattle.rules.specs.declared.state.Outcome.{Outcome}
 use Rattle.exchange.specs.Opening.{first_state}
+use Rattle.walk.specs.declared.answers.Said.{Said}
+use Rattle.walk.specs.declared.job_steps.Step.{Step}
+use Rattle.walk.specs.declared.job_steps.Step.TheVariants.{Wake, Start, Speak, Hear}
+use Rattle.walk.specs.Said.{as_reply}
+use Rattle.walk.specs.JobSteps.{step_at}
 use Rattle.walk.specs.declared.calls.Tried.{Tried}
 use Rattle.walk.specs.declared.progress.BoxMemory.{BoxMemory}
 use Rattle.walk.specs.Walk.{idle_state, job_state, box_tape, filler, fresh_tally, tally_after, Answered, After}
@@ -35,11 +42,11 @@ pub woken_tally : (wake_rule first_state 3 1 5 fresh_tally).buffer ≡ fresh_tal
 unfolding wake_rule wake_ground mode_of in_range listed is_side tally_fits
 woken_tally = refl
 
-pub opened_four : (start_rule (idle_state 16) 0 5 1 (box_tape 1 0) (tabulate 100 (λ k. 6)) fresh_tally).state ≡ job_state 16 (Speak 1)
+pub opened_four : (start_rule (idle_state 16) 0 5 1 (box_tape 1 0) (tabulate 100 (λ k. 6)) fresh_tally).state ≡ job_state 16 (SpeakDue 1)
 unfolding start_rule start_ground mode_of in_range listed is_side tally_fits tapes_of is_fresh late modulus in_order trailer_fits body_in_range plain_tape
 opened_four = refl
 
-pub spoken_four : (speak_rule (job_state 16 (Speak 1)) 0 1 (box_tape 1 0) (tabulate 100 (λ k. 6)) (tabulate 33 (λ k. 6))).state ≡ job_state 16 (Hear 1)
+pub spoken_four : (speak_rule (job_state 16 (SpeakDue 1)) 0 1 (box_tape 1 0) (tabulate 100 (λ k. 6)) (tabulate 33 (λ k. 6))).state ≡ job_state 16 (HearDue 1)
 unfolding speak_rule speak_ground mode_of in_range listed is_side tally_fits tapes_of modulus in_order trailer_fits body_in_range plain_tape round_words
 spoken_four = refl
 
@@ -47,58 +54,34 @@ pub marked_four : (start_rule (idle_state 16) 0 5 1 (box_tape 1 0) (tabulate 100
 unfolding start_rule start_ground mode_of in_range listed is_side tally_fits tapes_of is_fresh late marked modulus in_order trailer_fits body_in_range plain_tape
 marked_four = refl
 
--- ---- a call that is its rule
-
--- what is told of an outcome, by the state before it
-abbrev Compared : Tried → Outcome → State → Bool → Type 0
-Compared t r s kept =
-    (t.answer ≡ r.answer)
-    × (t.state ≡ r.state)
-    × (t.kept ≡ true → (kept ≡ true) × (s ≡ r.state))
-    × (kept ≡ true → s ≡ r.state → t.kept ≡ true)
-
-pub told : {t : Tried} {r : Outcome} {s : State} {kept : Bool} {before buffer : List ℕ} {rule : Result} → outcome r buffer ≡ rule
-    → Compared t r s kept
-    → (kept ≡ true → before ≡ buffer) → (before ≡ buffer → kept ≡ true) → Answered t s before rule
-told e h right left =
-    let state = ap (λ (x : Result). x.state) e in
-    let buffer = ap (λ (x : Result). x.buffer) e in
-    record {
-      reply = ap reply_of h.0 ∙ ap (λ (x : Result). x.reply) e;
-      after = h.1 ∙ state;
-      same = λ k. ((h.2 k).1 ∙ state, right (h.2 k).0 ∙ buffer);
-      kept = λ s b. h.3 (left (b ∙ sym buffer)) (s ∙ sym state);
-    }
-
--- a call whose buffer was full of filler
-pub told_full : {t : Tried} {r : Outcome} {s : State} {kept : Bool} {buffer : List ℕ} {rule : Result} (count : ℕ) → length buffer ≡ count
-    → outcome r buffer ≡ rule → Compared t r s kept
-    → (kept ≡ true → buffer ≡ filler (length buffer)) × (buffer ≡ filler (length buffer) → kept ≡ true) → Answered t s (filler count) rule
-told_full count long e h seen =
-    let full = ap filler long in
-    told e h (λ k. sym (seen.0 k ∙ full)) (λ b. seen.1 (sym b ∙ sym full))
-
--- the box after it
-pub after : (b : BoxMemory) {buffer : List ℕ} {rule : Result} → outcome (record { answer = b.answer; state = b.state }) buffer ≡ rule → After b buffer rule
-after b e =
-    record {
-      reply = ap (λ (x : Result). x.reply) e;
-      state = ap (λ (x : Result). x.state) e;
-      left = ap (λ (x : Result). x.buffer) e;
-    }
-
 -- ---- the tally through a job
 
 spent_after : (steps : ℕ) → 0 < steps → tally_after steps ≡ replicate 4 0 ++ replicate 12 255
 spent_after steps some = rw (ne_eqb steps 0 (λ e. omega arith)) refl
 
+is_start : Step → Bool
+is_start Start = true
+is_start Wake = false
+is_start (Speak round) = false
+is_start (Hear round) = false
+
+-- a later step is another than the start
+starts_once : (k : ℕ) → step_at (suc k + 1) ≡ Start → ⊥
+unfolding is_start
+starts_once k e =
+    go _ _ (eqb ((suc k + 1) % 2) 0) (rw (ne_eqb (suc k + 1) 0 (λ e. omega arith), ne_eqb (suc k + 1) 1 (λ e. omega arith)) at e)
+  where
+    go : (round1 round2 : ℕ) (even : Bool) → cond even (Speak round1) (Hear round2) ≡ Start → ⊥
+    go round1 round2 true e = false≢true (ap is_start e)
+    go round1 round2 false e = false≢true (ap is_start e)
+
 -- the start marks tape 0, and no later step changes the tally
 pub next_tally : (step : ℕ) (b a : BoxMemory) → b.tally ≡ tally_after step
     → (step ≡ 0 → (b.state ≡ idle_state 16) × (b.work ≡ tabulate 100 (λ k. 6)))
-    → (step + 1 ≡ 1 → After a a.tally (start_rule b.state 0 5 1 (box_tape 1 0) b.work b.tally))
-    → ((step + 1 ≡ 1 → ⊥) → a.tally ≡ b.tally)
+    → (step_at (step + 1) ≡ Start → After a a.tally (start_rule b.state 0 5 1 (box_tape 1 0) b.work b.tally))
+    → ((step_at (step + 1) ≡ Start → ⊥) → a.tally ≡ b.tally)
     → a.tally ≡ tally_after (step + 1)
 next_tally zero b a tally woken started later =
     let s = woken refl in
     (started refl).left ∙ rw (s.0, s.1, tally) marked_four
-next_tally (suc k) b a tally woken started later = later (λ e. omega arith) ∙ tally ∙ spent_after (suc k) (omega arith) ∙ sym (spent_after (suc k + 1) (omega arith))
+next_tally (suc k) b a tally woken started later = later (starts_once k) ∙ tally ∙ spent_after (suc k) (omega arith) ∙ sym (spent_after (suc k + 1) (omega arith))

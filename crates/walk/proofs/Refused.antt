@@ -18,6 +18,7 @@ use Rattle.rules.specs.declared.state.Phase.TheVariants.{Idle, Job}
 use Rattle.rules.specs.declared.state.State.{State}
 use Rattle.exchange.specs.Opening.{refusal_of}
 use Rattle.walk.specs.declared.calls.Tried.{Tried}
+use Rattle.walk.specs.Said.{as_reply}
 use Rattle.walk.specs.Walk.{Answered}
 
 unless_keeps : (s : State) (buffer : List ℕ) (k : ℕ) (r : Result) (cause : ℕ) (ok : Result) → r ≡ unless cause s buffer ok
@@ -54,18 +55,18 @@ both_tests false kept e = and-false kept refl
 
 told_refused : {tried : Tried} {s : State} {buffer : List ℕ} {rule : Result} (k : ℕ) → Answered tried s buffer rule
     → (refusal_of rule.reply ≡ k → (s ≡ rule.state) × (buffer ≡ rule.buffer))
-    → (tried.kept && eqb (refusal_of (reply_of tried.answer)) k) ≡ eqb (refusal_of rule.reply) k
+    → (tried.kept && eqb (refusal_of (reply_of as_reply tried.answer)) k) ≡ eqb (refusal_of rule.reply) k
 told_refused {tried} {rule = rule} k t keeps =
     rw t.reply (both_tests (eqb (refusal_of rule.reply) k) tried.kept (λ e. let w = keeps (eqb-true _ _ e) in t.kept w.0 w.1))
 
 pub start_refused : {tried : Tried} (s : State) (number x y : ℕ) (tape work tally : List ℕ) (k : ℕ) → 0 < k
     → Answered tried s tally (start_rule s number x y tape work tally)
-    → (tried.kept && eqb (refusal_of (reply_of tried.answer)) k) ≡ eqb (refusal_of (start_rule s number x y tape work tally).reply) k
+    → (tried.kept && eqb (refusal_of (reply_of as_reply tried.answer)) k) ≡ eqb (refusal_of (start_rule s number x y tape work tally).reply) k
 start_refused s number x y tape work tally k some t = told_refused k t (start_keeps s number x y tape work tally k some)
 
 pub hear_refused : {tried : Tried} (s : State) (number round : ℕ) (tape work incoming : List ℕ) (k : ℕ) → 0 < k
     → Answered tried s work (hear_rule s number round tape work incoming)
-    → (tried.kept && eqb (refusal_of (reply_of tried.answer)) k) ≡ eqb (refusal_of (hear_rule s number round tape work incoming).reply) k
+    → (tried.kept && eqb (refusal_of (reply_of as_reply tried.answer)) k) ≡ eqb (refusal_of (hear_rule s number round tape work incoming).reply) k
 hear_refused s number round tape work incoming k some t = told_refused k t (hear_keeps s number round tape work incoming k some)
 
 -- a test of a refusal's number

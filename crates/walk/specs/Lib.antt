@@ -1,3 +1,5 @@
+pub mod Said
 pub mod Walk
 pub mod Sweeps
 pub mod Deals
+pub mod JobSteps

@@ -1,18 +1,17 @@
 -- What the walk reads off an answer and a state.
-use Rattle.std.specs.Prelude.{ℕ, cond, true, List, [], ◌∷◌, ◌++◌, eqb, replicate, take, ◌≡◌}
+use Rattle.std.specs.Prelude.{ℕ, cond, true, List, ◌++◌, eqb, replicate, take, ◌≡◌}
 use Rattle.lists.specs.Tabulate.{tabulate}
 use Rattle.tape.specs.Layout.{trailer}
 use Rattle.tape.specs.Plain.{plain_tape}
 use Rattle.protocol.specs.Rounds.{round_words}
-use Rattle.rules.specs.Answers.{Reply, fresh, started, spoke, heard, share, dropped, refused, reply_of}
+use Rattle.rules.specs.Answers.{reply_of}
 use Rattle.rules.specs.Calls.{Result, hear_rule}
-use Rattle.rules.specs.Modes.{round_of}
 use Rattle.rules.specs.declared.state.Turn.{Turn}
 use Rattle.rules.specs.declared.state.Turn.TheVariants.{Speak, Hear}
-use Rattle.rules.specs.declared.state.Phase.{Phase}
-use Rattle.rules.specs.declared.state.Phase.TheVariants.{Asleep, Idle, Job}
+use Rattle.rules.specs.declared.state.Phase.TheVariants.{Idle, Job}
 use Rattle.rules.specs.declared.state.State.{State}
 use Rattle.exchange.specs.Opening.{refusal_of}
+use Rattle.walk.specs.Said.{as_reply}
 use Rattle.walk.specs.declared.calls.Tried.{Tried}
 use Rattle.walk.specs.declared.progress.BoxMemory.{BoxMemory}
 
@@ -32,39 +31,6 @@ with_side s side = record { n = s.n; side = side; pair = s.pair; tally = s.tally
 abbrev pub job_state : ℕ → Turn → State
 job_state tally turn = record { n = 3; side = 1; pair = 5; tally = tally; phase = Job turn 0 5 1 }
 
-abbrev pub call_of : Turn → ℕ
-call_of (Speak round) = 0
-call_of (Hear round) = 1
-
-abbrev pub phase_words : Phase → List ℕ
-phase_words Asleep = 0 ∷ 0 ∷ 0 ∷ 0 ∷ 0 ∷ 0 ∷ []
-phase_words Idle = 1 ∷ 0 ∷ 0 ∷ 0 ∷ 0 ∷ 0 ∷ []
-phase_words (Job turn number x y) = 2 ∷ call_of turn ∷ round_of turn ∷ number ∷ x ∷ y ∷ []
-
--- all that a state holds
-abbrev pub words_of : State → List ℕ
-words_of s = s.n ∷ s.side ∷ s.pair ∷ s.tally ∷ phase_words s.phase
-
--- which reply it is
-abbrev pub kind_of : Reply → ℕ
-kind_of (fresh count) = 0
-kind_of started = 1
-kind_of (spoke count) = 2
-kind_of heard = 3
-kind_of (share word) = 4
-kind_of dropped = 5
-kind_of (refused number) = 6
-
--- the number that it holds, and 0 where it holds none
-abbrev pub number_in : Reply → ℕ
-number_in (fresh count) = count
-number_in started = 0
-number_in (spoke count) = count
-number_in heard = 0
-number_in (share word) = word
-number_in dropped = 0
-number_in (refused number) = number
-
 -- a box's plain tape of width 3 and pair 5
 abbrev pub box_tape : ℕ → ℕ → List ℕ
 box_tape side number = plain_tape 3 5 side number
@@ -75,7 +41,7 @@ filler count = replicate count 9
 
 -- what is told of a call in a state: the rule's reply, and the rule's state, and it's called kept just when the rule leaves the state, and the buffer, as it was
 pub record Answered (tried : Tried) (state : State) (buffer : List ℕ) (rule : Result) : Type 0 where
-  pub reply : reply_of tried.answer ≡ rule.reply
+  pub reply : reply_of as_reply tried.answer ≡ rule.reply
   pub after : tried.state ≡ rule.state
   pub same : tried.kept ≡ true → (state ≡ rule.state) × (buffer ≡ rule.buffer)
   pub kept : state ≡ rule.state → buffer ≡ rule.buffer → tried.kept ≡ true
@@ -94,7 +60,7 @@ tally_after steps = cond (eqb steps 0) fresh_tally (replicate 4 0 ++ replicate 1
 
 -- a box after a call: the rule's reply, state and buffer
 pub record After (b : BoxMemory) (buffer : List ℕ) (rule : Result) : Type 0 where
-  pub reply : reply_of b.answer ≡ rule.reply
+  pub reply : reply_of as_reply b.answer ≡ rule.reply
   pub state : b.state ≡ rule.state
   pub left : buffer ≡ rule.buffer
 

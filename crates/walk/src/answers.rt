@@ -1,42 +1,71 @@
-// Whether two answers are the same.
-ghost use Rattle.std.specs.Prelude.{◌≡◌, true};
-ghost use Rattle.rules.specs.Answers.{reply_of};
-ghost use Rattle.walk.specs.Walk.{kind_of, number_in};
+// What a call answers: one type for all five.
+ghost use Rattle.std.specs.Prelude.{◌≡◌};
+ghost use Rattle.rules.specs.Answers.{fresh, started, spoke, heard_or_share, dropped, reply_of};
+ghost use Rattle.walk.specs.Said.{as_reply};
 
-use rules::state::Answer;
+use refusals::Refusal;
+use std::fmt;
 
-// Which answer it is.
-fn kind_of(answer: Answer) -> u32
-    ensures { result ≡ kind_of (reply_of answer) }
-{
-    match answer {
-        Answer::Fresh(_) => 0,
-        Answer::Started => 1,
-        Answer::Spoke(_) => 2,
-        Answer::Heard => 3,
-        Answer::Share(_) => 4,
-        Answer::Dropped => 5,
-        Answer::Refused(_) => 6,
+// What a call that is taken says.
+#[derive(Clone, Copy, Debug, PartialEq, Eq)]
+pub enum Said {
+    // wake: how many tapes are fresh
+    Fresh(u32),
+    Started,
+    // speak: how many words it wrote
+    Spoke(usize),
+    Heard,
+    // hear of the last round: the answer share
+    Share(u32),
+    Dropped,
+}
+
+impl fmt::Display for Said {
+    fn fmt<W: fmt::Write>(&self, f: &mut fmt::Formatter<W>) -> fmt::Result {
+        match *self {
+            Said::Fresh(count) => write!(f, "fresh {count}"),
+            Said::Started => f.write_str("started"),
+            Said::Spoke(count) => write!(f, "spoke {count}"),
+            Said::Heard => f.write_str("heard"),
+            Said::Share(_) => f.write_str("share"),
+            Said::Dropped => f.write_str("dropped"),
+        }
     }
 }
 
-// The number that it holds, and 0 where it holds none.
-fn number_in(answer: Answer) -> u32
-    ensures { result ≡ number_in (reply_of answer) }
+pub type Answer = Result<Said, Refusal>;
+
+pub fn of_wake(answer: Result<u32, Refusal>) -> Answer
+    ensures { reply_of as_reply result ≡ reply_of fresh answer }
 {
-    match answer {
-        Answer::Fresh(count) => count,
-        Answer::Started => 0,
-        Answer::Spoke(count) => count,
-        Answer::Heard => 0,
-        Answer::Share(word) => word,
-        Answer::Dropped => 0,
-        Answer::Refused(refusal) => u32::from(refusal),
+    Ok(Said::Fresh(answer?))
+}
+
+pub fn of_start(answer: Result<(), Refusal>) -> Answer
+    ensures { reply_of as_reply result ≡ reply_of (λ _. started) answer }
+{
+    answer?;
+    Ok(Said::Started)
+}
+
+pub fn of_speak(answer: Result<usize, Refusal>) -> Answer
+    ensures { reply_of as_reply result ≡ reply_of spoke answer }
+{
+    Ok(Said::Spoke(answer?))
+}
+
+pub fn of_hear(answer: Result<Option<u32>, Refusal>) -> Answer
+    ensures { reply_of as_reply result ≡ reply_of heard_or_share answer }
+{
+    match answer? {
+        None => Ok(Said::Heard),
+        Some(share) => Ok(Said::Share(share)),
     }
 }
 
-pub fn same(a: Answer, b: Answer) -> bool
-    ensures { (result ≡ true → reply_of a ≡ reply_of b) × (reply_of a ≡ reply_of b → result ≡ true) }
+pub fn of_drop(answer: Result<(), Refusal>) -> Answer
+    ensures { reply_of as_reply result ≡ reply_of (λ _. dropped) answer }
 {
-    kind_of(a) == kind_of(b) && number_in(a) == number_in(b)
+    answer?;
+    Ok(Said::Dropped)
 }

@@ -1,12 +1,17 @@
 // One call of a box on copies of its buffers: what it answered, and whether all is as it was.
 ghost use Rattle.std.specs.Prelude.{◌≡◌, true, ◌&&◌, [], eqb, length, take};
 ghost use Rattle.protocol.specs.Rounds.{round_words};
+ghost use Rattle.refusals.specs.Numbers.{number_of};
 ghost use Rattle.rules.specs.Answers.{reply_of};
 ghost use Rattle.exchange.specs.Opening.{refusal_of};
 ghost use Rattle.rules.specs.Calls.{wake_rule, start_rule, speak_rule, hear_rule, drop_rule};
+ghost use Rattle.walk.specs.Said.{as_reply};
 ghost use Rattle.walk.specs.Walk.{box_tape, filler, Answered};
 
-use rules::state::{Answer, Outcome, State};
+use crate::answers;
+use crate::answers::Answer;
+use refusals::Refusal;
+use rules::state::State;
 
 // What stands in the buffers that a call is lent to write.
 pub const FILLER: u32 = 9;
@@ -20,12 +25,11 @@ pub struct Tried {
     pub kept: bool,
 }
 
-// Refused with that number, and nothing changed.
-pub fn is_refused(tried: Tried, number: u32) -> bool
-    ensures { result ≡ (tried.kept && eqb (refusal_of (reply_of tried.answer)) number) }
+// Refused so, and nothing changed.
+pub fn is_refused(tried: Tried, refusal: Refusal) -> bool
+    ensures { result ≡ (tried.kept && eqb (refusal_of (reply_of as_reply tried.answer)) (number_of refusal)) }
 {
-    let answer = tried.answer;
-    tried.kept && exchange::refusal_of(answer) == number
+    tried.kept && tried.answer == Err(refusal)
 }
 
 // Whether every word is still the filler.
@@ -33,34 +37,26 @@ pub fn untouched(words: &[u32]) -> bool
     ensures { (result ≡ true → words.now ≡ filler (length words.now))
         × (words.now ≡ filler (length words.now) → result ≡ true) }
 {
-    let mut i = 0;
-    while i < words.len() {
-        if words[i] != FILLER {
-            return false;
-        }
-        i += 1;
-    }
-    true
+    words.iter().all(|&word| word == FILLER)
 }
 
-fn compared(before: State, outcome: Outcome, kept: bool) -> Tried
-    ensures { (result.answer ≡ outcome.answer) × (result.state ≡ outcome.state) × (result.kept ≡ true → (kept ≡ true) × (before ≡ outcome.state))
-        × (kept ≡ true → before ≡ outcome.state → result.kept ≡ true) }
+fn compared(before: State, after: State, answer: Answer, kept: bool) -> Tried
+    ensures { (result.answer ≡ answer) × (result.state ≡ after) × (result.kept ≡ true → (kept ≡ true) × (before ≡ after))
+        × (kept ≡ true → before ≡ after → result.kept ≡ true) }
 {
-    let answer = outcome.answer;
-    let after = outcome.state;
     Tried {
         answer,
         state: after,
-        kept: kept && crate::states::same(before, after),
+        kept: kept && before == after,
     }
 }
 
 pub fn wake(state: State, n: u32, side: u32, tally: &[u8]) -> Tried
     ensures { Answered result state tally.now (wake_rule state n side 5 tally.now) }
 {
-    let r = limit_box::wake(state, n, side, crate::tapes::PAIR, tally);
-    compared(state, r, true)
+    let mut after = state;
+    let answer = limit_box::wake(&mut after, n, side, crate::tapes::PAIR, tally);
+    compared(state, after, answers::of_wake(answer), true)
 }
 
 pub fn start(
@@ -74,9 +70,10 @@ pub fn start(
 ) -> Tried
     ensures { Answered result state tally (start_rule state number x y tape.now work.now tally) }
 {
-    let mut after = tally;
-    let r = limit_box::start(state, number, x, y, tape, work, &mut after);
-    compared(state, r, check::same(&tally, &after))
+    let mut after = state;
+    let mut marks = tally;
+    let answer = limit_box::start(&mut after, number, x, y, tape, work, &mut marks);
+    compared(state, after, answers::of_start(answer), tally == marks)
 }
 
 // The same on a box's plain tape.
@@ -108,8 +105,9 @@ pub fn speak(
     ensures answered { Answered result state (filler (length out.old)) (speak_rule state number round tape.now work.now out.old) }
     ensures left { out.new ≡ (speak_rule state number round tape.now work.now out.old).buffer }
 {
-    let r = limit_box::speak(state, number, round, tape, work, &mut *out);
-    compared(state, r, untouched(&*out))
+    let mut after = state;
+    let answer = limit_box::speak(&mut after, number, round, tape, work, &mut *out);
+    compared(state, after, answers::of_speak(answer), untouched(&*out))
 }
 
 pub fn plain_speak(
@@ -140,8 +138,9 @@ pub fn hear(
     ensures answered { Answered result state (filler (length work.old)) (hear_rule state number round tape.now work.old incoming.now) }
     ensures left { work.new ≡ (hear_rule state number round tape.now work.old incoming.now).buffer }
 {
-    let r = limit_box::hear(state, number, round, tape, &mut *work, incoming);
-    compared(state, r, untouched(&*work))
+    let mut after = state;
+    let answer = limit_box::hear(&mut after, number, round, tape, &mut *work, incoming);
+    compared(state, after, answers::of_hear(answer), untouched(&*work))
 }
 
 pub fn plain_hear(
@@ -180,6 +179,7 @@ pub fn round_hear(
 pub fn drop(state: State) -> Tried
     ensures { Answered result state [] (drop_rule state) }
 {
-    let r = limit_box::drop(state);
-    compared(state, r, true)
+    let mut after = state;
+    let answer = limit_box::drop(&mut after);
+    compared(state, after, answers::of_drop(answer), true)
 }

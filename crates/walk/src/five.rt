@@ -8,13 +8,16 @@ ghost use Rattle.walk.specs.Walk.{box_tape, filler, Answered};
 use crate::calls;
 use crate::calls::{FILLER, Tried};
 use crate::say::short;
+use field::Width;
 use rules::state::State;
+use std::io;
 
 // The words of a round at width 3: no more than the first has.
+#[tactic(auto, unfolding(field::specs::Width::listed))]
 pub fn words(round: u32) -> usize
     ensures { (result ≤ 33) × (result ≡ round_words 3 round) }
 {
-    compare::words::words_of(3, round)
+    compare::words::words_of(Width { bits: 3 }, round)
 }
 
 // A start on a tape that is lent with it.
@@ -43,10 +46,10 @@ pub fn hear_on(state: State, number: u32, round: u32) -> Tried
 }
 
 // What each of the five answers in that state: a start on tape 1, a speak and a hear on tape 0.
-pub fn all(state: State, round: u32, tally: [u8; 16]) {
-    short(calls::wake(state, 3, 1, &tally));
-    short(start_on(state, 1, tally));
-    short(speak_on(state, 0, round));
-    short(hear_on(state, 0, round));
-    short(calls::drop(state));
+pub fn all(rt: &impl Print, state: State, round: u32, tally: [u8; 16]) -> io::Result<()> {
+    short(rt, calls::wake(state, 3, 1, &tally))?;
+    short(rt, start_on(state, 1, tally))?;
+    short(rt, speak_on(state, 0, round))?;
+    short(rt, hear_on(state, 0, round))?;
+    short(rt, calls::drop(state))
 }

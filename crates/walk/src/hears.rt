@@ -9,13 +9,15 @@ use crate::calls::{FILLER, Tried, hear, plain_hear};
 use crate::five::hear_on;
 use crate::say::line;
 use crate::{states, tapes};
+use rules::state::FIRST;
+use std::io;
 
-fn turns() {
-    line(b"hear, asleep: ", hear_on(states::asleep(), 0, 1));
-    line(b"hear, idle: ", hear_on(states::idle(), 0, 1));
-    line(b"hear, number 1: ", hear_on(states::spoken(), 1, 1));
-    line(b"hear, round 2: ", hear_on(states::spoken(), 0, 2));
-    line(b"hear, speak 1 due: ", hear_on(states::opened(), 0, 1));
+fn turns(rt: &impl Print) -> io::Result<()> {
+    line(rt, "hear, asleep: ", hear_on(FIRST, 0, 1))?;
+    line(rt, "hear, idle: ", hear_on(states::idle(), 0, 1))?;
+    line(rt, "hear, number 1: ", hear_on(states::spoken(), 1, 1))?;
+    line(rt, "hear, round 2: ", hear_on(states::spoken(), 0, 2))?;
+    line(rt, "hear, speak 1 due: ", hear_on(states::opened(), 0, 1))
 }
 
 // The hear that is due, lent this tape.
@@ -27,13 +29,13 @@ fn on_tape(tape: &[u32]) -> Tried
     hear(states::spoken(), 0, 1, tape, &mut work, &incoming)
 }
 
-fn tapes_lent() {
+fn tapes_lent(rt: &impl Print) -> io::Result<()> {
     let short = tapes::short();
     let other = tapes::plain(2, 0);
     let high = tapes::changed(141, 7);
-    line(b"hear, tape of 148 words: ", on_tape(&short));
-    line(b"hear, the other box's tape: ", on_tape(&other));
-    line(b"hear, last body word 7: ", on_tape(&high));
+    line(rt, "hear, tape of 148 words: ", on_tape(&short))?;
+    line(rt, "hear, the other box's tape: ", on_tape(&other))?;
+    line(rt, "hear, last body word 7: ", on_tape(&high))
 }
 
 // The hear that is due, of these words.
@@ -44,17 +46,18 @@ pub fn of_words(incoming: &[u32]) -> Tried
     plain_hear(states::spoken(), 0, 1, 1, 0, &mut work, incoming)
 }
 
-fn rooms() {
+fn rooms(rt: &impl Print) -> io::Result<()> {
     let mut work = [FILLER; 99];
     let incoming = [0u32; 33];
     let short = [0u32; 32];
     let long = [0u32; 34];
     line(
-        b"hear, work of 99 words: ",
+        rt,
+        "hear, work of 99 words: ",
         plain_hear(states::spoken(), 0, 1, 1, 0, &mut work, &incoming),
-    );
-    line(b"hear, 32 words: ", of_words(&short));
-    line(b"hear, 34 words: ", of_words(&long));
+    )?;
+    line(rt, "hear, 32 words: ", of_words(&short))?;
+    line(rt, "hear, 34 words: ", of_words(&long))
 }
 
 // Zeros with another word in one place.
@@ -76,12 +79,12 @@ pub fn of_changed(place: usize, word: u32) -> Tried
     of_words(&incoming)
 }
 
-pub fn lines() {
-    turns();
-    tapes_lent();
-    rooms();
-    line(b"hear, first word 7: ", of_changed(0, 7));
-    line(b"hear, first word 8: ", of_changed(0, 8));
-    line(b"hear, last word 7: ", of_changed(32, 7));
-    line(b"hear, last word 8: ", of_changed(32, 8));
+pub fn lines(rt: &impl Print) -> io::Result<()> {
+    turns(rt)?;
+    tapes_lent(rt)?;
+    rooms(rt)?;
+    line(rt, "hear, first word 7: ", of_changed(0, 7))?;
+    line(rt, "hear, first word 8: ", of_changed(0, 8))?;
+    line(rt, "hear, last word 7: ", of_changed(32, 7))?;
+    line(rt, "hear, last word 8: ", of_changed(32, 8))
 }

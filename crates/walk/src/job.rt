@@ -1,35 +1,34 @@
 // One whole job of both boxes: x = 5 + 5 = 3 and y = 1 + 3 = 4 modulo 7.
 ghost use Rattle.std.specs.Prelude.{◌≡◌, ◌+◌, ◌%◌, ◌≤◌};
 ghost use Rattle.protocol.specs.Rounds.{last_round};
+ghost use Rattle.rules.specs.Answers.{reply_of};
+ghost use Rattle.exchange.specs.Opening.{share_of};
+ghost use Rattle.walk.specs.Said.{as_reply};
 
-use crate::progress;
+use crate::answers::{Answer, Said};
 use crate::progress::Pair;
-use crate::say::{number, text};
-use rules::state::Answer;
+use crate::{job_steps, progress};
+use std::io;
 
 // What that box answered last.
 fn answer_of(pair: Pair, side: u32) -> Answer
     ensures { (side ≡ 1 → result ≡ pair.box1.answer) × ((side ≡ 1 → ⊥) → result ≡ pair.box2.answer) }
 {
-    let box1 = pair.box1;
-    let box2 = pair.box2;
     if side == 1 {
-        return box1.answer;
+        pair.box1.answer
+    } else {
+        pair.box2.answer
     }
-    box2.answer
 }
 
 // What a box answers at each step.
-fn answers(side: u32) {
-    number(b"box ", side);
-    text(b":");
-    let mut step = 0;
-    while step <= progress::LAST {
-        text(b" ");
-        crate::say::answer(answer_of(progress::reached(step), side));
-        step += 1;
+fn answers(rt: &impl Print, side: u32) -> io::Result<()> {
+    print!(rt; "box {side}:")?;
+    for step in 0..job_steps::LAST + 1 {
+        print!(rt; " ")?;
+        crate::say::answer(rt, answer_of(progress::reached(step), side))?;
     }
-    text(b"\n");
+    println!(rt)
 }
 
 // Two shares opened.
@@ -40,34 +39,36 @@ fn opened(share1: u32, share2: u32) -> u32
 }
 
 // The words that both boxes' messages of a round open. The plain tapes' masks are 0, so these are the factors of its products.
-fn openings(round: u32)
+fn openings(rt: &impl Print, round: u32) -> io::Result<()>
     requires { round ≤ last_round }
 {
     let pair = progress::reached(2 * round);
-    let box1 = pair.box1;
-    let box2 = pair.box2;
-    let o1 = box1.out;
-    let o2 = box2.out;
     let count = crate::five::words(round);
-    number(b"round ", round);
-    text(b" opens");
-    let mut k = 0;
-    while k < count {
-        number(b" ", opened(o1[k], o2[k]));
-        k += 1;
+    print!(rt; "round {round} opens")?;
+    for k in 0..count {
+        print!(rt; " {}", opened(pair.box1.out[k], pair.box2.out[k]))?;
     }
-    text(b"\n");
+    println!(rt)
 }
 
-pub fn lines() {
-    text(b"a whole job, x 3 and y 4\n");
-    answers(1);
-    answers(2);
-    openings(4);
-    openings(5);
-    let last = progress::reached(progress::LAST);
-    let share1 = exchange::share_of(answer_of(last, 1));
-    let share2 = exchange::share_of(answer_of(last, 2));
-    number(b"less ", opened(share1, share2));
-    text(b"\n");
+// The answer share, and 0 for any other answer.
+fn share_of(answer: Answer) -> u32
+    ensures { result ≡ share_of (reply_of as_reply answer) }
+{
+    match answer {
+        Ok(Said::Share(share)) => share,
+        _ => 0,
+    }
+}
+
+pub fn lines(rt: &impl Print) -> io::Result<()> {
+    println!(rt; "a whole job, x 3 and y 4")?;
+    answers(rt, 1)?;
+    answers(rt, 2)?;
+    openings(rt, 4)?;
+    openings(rt, 5)?;
+    let last = progress::reached(job_steps::LAST);
+    let share1 = share_of(last.box1.answer);
+    let share2 = share_of(last.box2.answer);
+    println!(rt; "less {}", opened(share1, share2))
 }

@@ -10,6 +10,7 @@ mod dealing;
 mod five;
 mod hears;
 mod job;
+mod job_steps;
 mod order;
 mod outside;
 mod progress;
@@ -23,16 +24,18 @@ mod tapes;
 mod wakes;
 mod zeros;
 
-fn main() {
-    wakes::lines();
-    starts::lines();
-    speaks::lines();
-    hears::lines();
-    sweeps::lines();
-    order::lines();
-    outside::lines();
-    cuts::lines();
-    job::lines();
-    zeros::lines();
-    dealing::lines();
+use std::io;
+
+fn main(rt: HostRuntime) -> io::Result<()> {
+    wakes::lines(&rt)?;
+    starts::lines(&rt)?;
+    speaks::lines(&rt)?;
+    hears::lines(&rt)?;
+    sweeps::lines(&rt)?;
+    order::lines(&rt)?;
+    outside::lines(&rt)?;
+    cuts::lines(&rt)?;
+    job::lines(&rt)?;
+    zeros::lines(&rt)?;
+    dealing::lines(&rt)
 }

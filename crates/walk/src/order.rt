@@ -4,19 +4,20 @@ ghost use Rattle.rules.specs.Calls.{start_rule, speak_rule, hear_rule};
 ghost use Rattle.walk.specs.Walk.{box_tape, filler, spent_tally, Answered};
 
 use crate::calls::{FILLER, Tried};
-use crate::say::{short, text};
+use crate::say::short;
 use crate::{calls, states};
-use rules::state::State;
+use rules::state::{FIRST, State};
+use std::io;
 
-fn wakes() {
+fn wakes(rt: &impl Print) -> io::Result<()> {
     let tally = [255u8; 16];
-    text(b"wake, first of several:");
-    short(calls::wake(states::idle(), 4, 3, &tally[..0]));
-    short(calls::wake(states::asleep(), 4, 3, &tally[..0]));
-    short(calls::wake(states::asleep(), 3, 3, &tally[..0]));
-    short(calls::wake(states::asleep(), 3, 1, &tally[..0]));
-    short(calls::wake(states::asleep(), 3, 1, &tally));
-    text(b"\n");
+    print!(rt; "wake, first of several:")?;
+    short(rt, calls::wake(states::idle(), 4, 3, &tally[..0]))?;
+    short(rt, calls::wake(FIRST, 4, 3, &tally[..0]))?;
+    short(rt, calls::wake(FIRST, 3, 3, &tally[..0]))?;
+    short(rt, calls::wake(FIRST, 3, 1, &tally[..0]))?;
+    short(rt, calls::wake(FIRST, 3, 1, &tally))?;
+    println!(rt)
 }
 
 // A start with shares, tape and work that are refused, where tapes 0 and 2 are spent: 0 and 1 are late.
@@ -28,33 +29,45 @@ fn wrong_start(state: State, number: u32) -> Tried
 }
 
 // The same, where all are fresh.
-fn wrong_tapes() {
+fn wrong_tapes(rt: &impl Print) -> io::Result<()> {
     let less = [0u32; 99];
     let fresh = [255u8; 16];
-    short(calls::plain_start(states::idle(), 0, 7, 7, 2, 0, &less, fresh));
-    short(calls::plain_start(states::idle(), 0, 5, 1, 2, 0, &less, fresh));
+    short(
+        rt,
+        calls::plain_start(states::idle(), 0, 7, 7, 2, 0, &less, fresh),
+    )?;
+    short(
+        rt,
+        calls::plain_start(states::idle(), 0, 5, 1, 2, 0, &less, fresh),
+    )
 }
 
 // What a start asks of a tape in order.
-fn right_tapes() {
+fn right_tapes(rt: &impl Print) -> io::Result<()> {
     let less = [0u32; 99];
     let work = [0u32; 100];
     let fresh = [255u8; 16];
-    short(calls::plain_start(states::idle(), 0, 5, 1, 1, 0, &less, fresh));
-    short(calls::plain_start(states::idle(), 0, 5, 1, 1, 0, &work, fresh));
+    short(
+        rt,
+        calls::plain_start(states::idle(), 0, 5, 1, 1, 0, &less, fresh),
+    )?;
+    short(
+        rt,
+        calls::plain_start(states::idle(), 0, 5, 1, 1, 0, &work, fresh),
+    )
 }
 
-fn starts() {
-    text(b"start, first of several:");
-    short(wrong_start(states::asleep(), 4));
-    short(wrong_start(states::longer(states::opened()), 4));
-    short(wrong_start(states::longer(states::idle()), 4));
-    short(wrong_start(states::idle(), 4));
-    short(wrong_start(states::idle(), 0));
-    short(wrong_start(states::idle(), 1));
-    wrong_tapes();
-    right_tapes();
-    text(b"\n");
+fn starts(rt: &impl Print) -> io::Result<()> {
+    print!(rt; "start, first of several:")?;
+    short(rt, wrong_start(FIRST, 4))?;
+    short(rt, wrong_start(states::longer(states::opened()), 4))?;
+    short(rt, wrong_start(states::longer(states::idle()), 4))?;
+    short(rt, wrong_start(states::idle(), 4))?;
+    short(rt, wrong_start(states::idle(), 0))?;
+    short(rt, wrong_start(states::idle(), 1))?;
+    wrong_tapes(rt)?;
+    right_tapes(rt)?;
+    println!(rt)
 }
 
 // A speak with a tape, work and out that are refused.
@@ -67,22 +80,28 @@ fn wrong_speak(state: State, number: u32) -> Tried
 }
 
 // What a speak asks of a tape in order.
-fn due_speaks() {
+fn due_speaks(rt: &impl Print) -> io::Result<()> {
     let less = [0u32; 99];
     let work = [0u32; 100];
     let mut out = [FILLER; 33];
-    short(calls::plain_speak(states::opened(), 0, 1, 1, 0, &less, &mut out));
-    short(calls::plain_speak(states::opened(), 0, 1, 1, 0, &work, &mut out));
+    short(
+        rt,
+        calls::plain_speak(states::opened(), 0, 1, 1, 0, &less, &mut out),
+    )?;
+    short(
+        rt,
+        calls::plain_speak(states::opened(), 0, 1, 1, 0, &work, &mut out),
+    )
 }
 
-fn speaks() {
-    text(b"speak, first of several:");
-    short(wrong_speak(states::asleep(), 1));
-    short(wrong_speak(states::idle(), 1));
-    short(wrong_speak(states::opened(), 1));
-    short(wrong_speak(states::opened(), 0));
-    due_speaks();
-    text(b"\n");
+fn speaks(rt: &impl Print) -> io::Result<()> {
+    print!(rt; "speak, first of several:")?;
+    short(rt, wrong_speak(FIRST, 1))?;
+    short(rt, wrong_speak(states::idle(), 1))?;
+    short(rt, wrong_speak(states::opened(), 1))?;
+    short(rt, wrong_speak(states::opened(), 0))?;
+    due_speaks(rt)?;
+    println!(rt)
 }
 
 // A hear with a tape, work and words that are refused.
@@ -95,43 +114,46 @@ fn wrong_hear(state: State, number: u32) -> Tried
 }
 
 // The tape is in order; work and the words are too few.
-fn short_hears() {
+fn short_hears(rt: &impl Print) -> io::Result<()> {
     let mut less = [FILLER; 99];
     let few = [8u32; 32];
-    short(calls::plain_hear(states::spoken(), 0, 1, 1, 0, &mut less, &few));
+    short(
+        rt,
+        calls::plain_hear(states::spoken(), 0, 1, 1, 0, &mut less, &few),
+    )
 }
 
 // With words above p, and with zeros.
-fn whole_hears() {
+fn whole_hears(rt: &impl Print) -> io::Result<()> {
     let high = [8u32; 33];
     let incoming = [0u32; 33];
-    short(crate::hears::of_words(&high));
-    short(crate::hears::of_words(&incoming));
+    short(rt, crate::hears::of_words(&high))?;
+    short(rt, crate::hears::of_words(&incoming))
 }
 
-fn hears() {
-    text(b"hear, first of several:");
-    short(wrong_hear(states::asleep(), 1));
-    short(wrong_hear(states::idle(), 1));
-    short(wrong_hear(states::spoken(), 1));
-    short(wrong_hear(states::spoken(), 0));
-    short_hears();
-    whole_hears();
-    text(b"\n");
+fn hears(rt: &impl Print) -> io::Result<()> {
+    print!(rt; "hear, first of several:")?;
+    short(rt, wrong_hear(FIRST, 1))?;
+    short(rt, wrong_hear(states::idle(), 1))?;
+    short(rt, wrong_hear(states::spoken(), 1))?;
+    short(rt, wrong_hear(states::spoken(), 0))?;
+    short_hears(rt)?;
+    whole_hears(rt)?;
+    println!(rt)
 }
 
-fn drops() {
-    text(b"drop, first of several:");
-    short(calls::drop(states::asleep()));
-    short(calls::drop(states::idle()));
-    short(calls::drop(states::opened()));
-    text(b"\n");
+fn drops(rt: &impl Print) -> io::Result<()> {
+    print!(rt; "drop, first of several:")?;
+    short(rt, calls::drop(FIRST))?;
+    short(rt, calls::drop(states::idle()))?;
+    short(rt, calls::drop(states::opened()))?;
+    println!(rt)
 }
 
-pub fn lines() {
-    wakes();
-    starts();
-    speaks();
-    hears();
-    drops();
+pub fn lines(rt: &impl Print) -> io::Result<()> {
+    wakes(rt)?;
+    starts(rt)?;
+    speaks(rt)?;
+    hears(rt)?;
+    drops(rt)
 }

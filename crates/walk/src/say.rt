@@ -1,62 +1,61 @@
 // What is printed: a label, what a call answered, and whether a refusal left all as it was.
+use crate::answers::Answer;
 use crate::calls::Tried;
-use rules::state::Answer;
-
-pub fn text(t: &[u8]) {
-    io::write_all(1, t);
-}
-
-pub fn number(t: &[u8], count: u32) {
-    io::write_all(1, t);
-    io::print_decimal(1, count as u64);
-}
+use refusals::Refusal;
+use std::fmt::Display;
+use std::io;
 
 // Each of the bytes, in decimal.
-pub fn bytes(list: &[u8]) {
-    let mut i = 0;
-    while i < list.len() {
-        number(b" ", list[i] as u32);
-        i += 1;
+pub fn bytes(rt: &impl Print, list: &[u8]) -> io::Result<()> {
+    for byte in list {
+        print!(rt; " {byte}")?;
     }
+    Ok(())
 }
 
 // What was answered, in words.
-pub fn answer(answer: Answer) {
+pub fn answer(rt: &impl Print, answer: Answer) -> io::Result<()> {
     match answer {
-        Answer::Fresh(count) => number(b"fresh ", count),
-        Answer::Started => text(b"started"),
-        Answer::Spoke(count) => number(b"spoke ", count),
-        Answer::Heard => text(b"heard"),
-        Answer::Share(_) => text(b"share"),
-        Answer::Dropped => text(b"dropped"),
-        Answer::Refused(refusal) => number(b"refused ", u32::from(refusal)),
+        Ok(said) => print!(rt; "{said}"),
+        Err(refusal) => print!(rt; "refused {}", u32::from(refusal)),
     }
 }
 
 // A line of its own.
-pub fn line(label: &[u8], tried: Tried) {
-    let given = tried.answer;
-    text(label);
-    answer(given);
-    if exchange::refusal_of(given) == 0 {
-        text(b"\n");
-    } else if tried.kept {
-        text(b", nothing changed\n");
-    } else {
-        text(b", CHANGED\n");
+pub fn whole_line<T: Display + Drop>(
+    rt: &impl Print,
+    label: &str,
+    answer: Result<T, Refusal>,
+    kept: bool,
+) -> io::Result<()> {
+    match answer {
+        Ok(said) => println!(rt; "{label}{said}"),
+        Err(refusal) => {
+            let left = if kept { "nothing changed" } else { "CHANGED" };
+            println!(rt; "{label}refused {}, {left}", u32::from(refusal))
+        }
     }
 }
 
 // In a line with others: a refusal is its number alone.
-pub fn short(tried: Tried) {
-    let given = tried.answer;
-    let refusal = exchange::refusal_of(given);
-    if refusal == 0 {
-        text(b" ");
-        answer(given);
-    } else if tried.kept {
-        number(b" ", refusal);
-    } else {
-        number(b" CHANGED ", refusal);
+pub fn in_line<T: Display + Drop>(
+    rt: &impl Print,
+    answer: Result<T, Refusal>,
+    kept: bool,
+) -> io::Result<()> {
+    match answer {
+        Ok(said) => print!(rt; " {said}"),
+        Err(refusal) => {
+            let left = if kept { "" } else { "CHANGED " };
+            print!(rt; " {left}{}", u32::from(refusal))
+        }
     }
+}
+
+pub fn line(rt: &impl Print, label: &str, tried: Tried) -> io::Result<()> {
+    whole_line(rt, label, tried.answer, tried.kept)
+}
+
+pub fn short(rt: &impl Print, tried: Tried) -> io::Result<()> {
+    in_line(rt, tried.answer, tried.kept)
 }

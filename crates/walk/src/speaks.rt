@@ -8,14 +8,16 @@ use crate::calls::{FILLER, Tried, plain_speak, speak};
 use crate::five::speak_on;
 use crate::say::line;
 use crate::{states, tapes};
+use rules::state::FIRST;
+use std::io;
 
-fn turns() {
-    line(b"speak, asleep: ", speak_on(states::asleep(), 0, 1));
-    line(b"speak, idle: ", speak_on(states::idle(), 0, 1));
-    line(b"speak, number 1: ", speak_on(states::opened(), 1, 1));
-    line(b"speak, round 0: ", speak_on(states::opened(), 0, 0));
-    line(b"speak, round 2: ", speak_on(states::opened(), 0, 2));
-    line(b"speak, hear 1 due: ", speak_on(states::spoken(), 0, 1));
+fn turns(rt: &impl Print) -> io::Result<()> {
+    line(rt, "speak, asleep: ", speak_on(FIRST, 0, 1))?;
+    line(rt, "speak, idle: ", speak_on(states::idle(), 0, 1))?;
+    line(rt, "speak, number 1: ", speak_on(states::opened(), 1, 1))?;
+    line(rt, "speak, round 0: ", speak_on(states::opened(), 0, 0))?;
+    line(rt, "speak, round 2: ", speak_on(states::opened(), 0, 2))?;
+    line(rt, "speak, hear 1 due: ", speak_on(states::spoken(), 0, 1))
 }
 
 // The speak that is due, lent this tape.
@@ -27,32 +29,34 @@ fn on_tape(tape: &[u32]) -> Tried
     speak(states::opened(), 0, 1, tape, &work, &mut out)
 }
 
-fn tapes_lent() {
+fn tapes_lent(rt: &impl Print) -> io::Result<()> {
     let short = tapes::short();
     let other = tapes::plain(2, 0);
     let high = tapes::changed(141, 7);
-    line(b"speak, tape of 148 words: ", on_tape(&short));
-    line(b"speak, the other box's tape: ", on_tape(&other));
-    line(b"speak, last body word 7: ", on_tape(&high));
+    line(rt, "speak, tape of 148 words: ", on_tape(&short))?;
+    line(rt, "speak, the other box's tape: ", on_tape(&other))?;
+    line(rt, "speak, last body word 7: ", on_tape(&high))
 }
 
-fn rooms() {
+fn rooms(rt: &impl Print) -> io::Result<()> {
     let work = [0u32; 100];
     let less = [0u32; 99];
     let mut out = [FILLER; 33];
     let mut short = [FILLER; 32];
     line(
-        b"speak, work of 99 words: ",
+        rt,
+        "speak, work of 99 words: ",
         plain_speak(states::opened(), 0, 1, 1, 0, &less, &mut out),
-    );
+    )?;
     line(
-        b"speak, out of 32 words: ",
+        rt,
+        "speak, out of 32 words: ",
         plain_speak(states::opened(), 0, 1, 1, 0, &work, &mut short),
-    );
+    )
 }
 
-pub fn lines() {
-    turns();
-    tapes_lent();
-    rooms();
+pub fn lines(rt: &impl Print) -> io::Result<()> {
+    turns(rt)?;
+    tapes_lent(rt)?;
+    rooms(rt)
 }

@@ -6,9 +6,10 @@ ghost use Rattle.walk.specs.Walk.{idle_state, box_tape, fresh_tally, Answered};
 
 use crate::calls::{Tried, plain_start, start};
 use crate::five::start_on;
-use crate::say::{bytes, line, text};
+use crate::say::{bytes, line};
 use crate::{states, tallies, tapes};
-use rules::state::State;
+use rules::state::{FIRST, State};
+use std::io;
 
 // With a fresh tally.
 fn on_number(state: State, number: u32) -> Tried
@@ -17,18 +18,20 @@ fn on_number(state: State, number: u32) -> Tried
     start_on(state, number, [255u8; 16])
 }
 
-fn states_and_numbers() {
-    line(b"start, asleep: ", on_number(states::asleep(), 0));
-    line(b"start, in a job: ", on_number(states::opened(), 0));
+fn states_and_numbers(rt: &impl Print) -> io::Result<()> {
+    line(rt, "start, asleep: ", on_number(FIRST, 0))?;
+    line(rt, "start, in a job: ", on_number(states::opened(), 0))?;
     line(
-        b"start, tally of 20 bytes at wake, now of 16: ",
+        rt,
+        "start, tally of 20 bytes at wake, now of 16: ",
         on_number(states::longer(states::idle()), 0),
-    );
-    line(b"start, number 4: ", on_number(states::idle(), 4));
+    )?;
+    line(rt, "start, number 4: ", on_number(states::idle(), 4))?;
     line(
-        b"start, number 4294967295: ",
+        rt,
+        "start, number 4294967295: ",
         on_number(states::idle(), 4294967295),
-    );
+    )
 }
 
 // A start on tape 0 with those marks.
@@ -39,33 +42,42 @@ pub fn on_marks(tally: [u8; 16]) -> Tried
 }
 
 // One byte is enough to spend a tape, first or last of its mark.
-fn spent_marks() {
-    line(b"start, byte 0 00: ", on_marks(tallies::one_byte(0, 0)));
-    line(b"start, byte 3 FE: ", on_marks(tallies::one_byte(3, 254)));
+fn spent_marks(rt: &impl Print) -> io::Result<()> {
+    line(rt, "start, byte 0 00: ", on_marks(tallies::one_byte(0, 0)))?;
     line(
-        b"start, tapes 0 and 2 spent, number 0: ",
+        rt,
+        "start, byte 3 FE: ",
+        on_marks(tallies::one_byte(3, 254)),
+    )?;
+    line(
+        rt,
+        "start, tapes 0 and 2 spent, number 0: ",
         on_marks(tallies::spent()),
-    );
+    )
 }
 
 // Around the highest spent number, and far below it. Of the four only number 1 is fresh and late.
-fn around_spent() {
+fn around_spent(rt: &impl Print) -> io::Result<()> {
     line(
-        b"start, tapes 0 and 2 spent, number 1: ",
+        rt,
+        "start, tapes 0 and 2 spent, number 1: ",
         start_on(states::idle(), 1, tallies::spent()),
-    );
+    )?;
     line(
-        b"start, tapes 0 and 2 spent, number 2: ",
+        rt,
+        "start, tapes 0 and 2 spent, number 2: ",
         start_on(states::idle(), 2, tallies::spent()),
-    );
+    )?;
     line(
-        b"start, tapes 0 and 2 spent, number 3: ",
+        rt,
+        "start, tapes 0 and 2 spent, number 3: ",
         start_on(states::idle(), 3, tallies::spent()),
-    );
+    )?;
     line(
-        b"start, byte 15 00, number 0: ",
+        rt,
+        "start, byte 15 00, number 0: ",
         on_marks(tallies::one_byte(15, 0)),
-    );
+    )
 }
 
 // A start with those shares, and that work.
@@ -75,12 +87,12 @@ fn on_shares(x: u32, y: u32, work: &[u32]) -> Tried
     plain_start(states::idle(), 0, x, y, 1, 0, work, [255u8; 16])
 }
 
-fn shares_and_room() {
+fn shares_and_room(rt: &impl Print) -> io::Result<()> {
     let work = [0u32; 100];
     let short = [0u32; 99];
-    line(b"start, x 7: ", on_shares(7, 1, &work));
-    line(b"start, y 7: ", on_shares(5, 7, &work));
-    line(b"start, work of 99 words: ", on_shares(5, 1, &short));
+    line(rt, "start, x 7: ", on_shares(7, 1, &work))?;
+    line(rt, "start, y 7: ", on_shares(5, 7, &work))?;
+    line(rt, "start, work of 99 words: ", on_shares(5, 1, &short))
 }
 
 // A start on number 0 that is lent this tape.
@@ -91,11 +103,11 @@ fn on_tape(tape: &[u32]) -> Tried
     start(states::idle(), 0, 5, 1, tape, &work, [255u8; 16])
 }
 
-fn tape_lengths() {
+fn tape_lengths(rt: &impl Print) -> io::Result<()> {
     let short = tapes::short();
     let long = tapes::long();
-    line(b"start, tape of 148 words: ", on_tape(&short));
-    line(b"start, tape of 150 words: ", on_tape(&long));
+    line(rt, "start, tape of 148 words: ", on_tape(&short))?;
+    line(rt, "start, tape of 150 words: ", on_tape(&long))
 }
 
 // Another word in one place of the tape.
@@ -108,17 +120,26 @@ pub fn on_changed(place: usize, word: u32) -> Tried
 }
 
 // Distances that did not grow with the last group; then whose tape it is.
-fn trailers() {
+fn trailers(rt: &impl Print) -> io::Result<()> {
     line(
-        b"start, distance to the squares 141: ",
+        rt,
+        "start, distance to the squares 141: ",
         on_changed(142, 141),
-    );
-    line(b"start, distance to the powers 87: ", on_changed(143, 87));
-    line(b"start, distance to the triples 51: ", on_changed(144, 51));
-    line(b"start, tape of pair 6: ", on_changed(145, 6));
-    line(b"start, tape of side 2: ", on_changed(146, 2));
-    line(b"start, tape of number 1: ", on_changed(147, 1));
-    line(b"start, tape of n 5: ", on_changed(148, 5));
+    )?;
+    line(
+        rt,
+        "start, distance to the powers 87: ",
+        on_changed(143, 87),
+    )?;
+    line(
+        rt,
+        "start, distance to the triples 51: ",
+        on_changed(144, 51),
+    )?;
+    line(rt, "start, tape of pair 6: ", on_changed(145, 6))?;
+    line(rt, "start, tape of side 2: ", on_changed(146, 2))?;
+    line(rt, "start, tape of number 1: ", on_changed(147, 1))?;
+    line(rt, "start, tape of n 5: ", on_changed(148, 5))
 }
 
 // The tally after a start on that tape.
@@ -127,29 +148,30 @@ fn tally_after(number: u32, tally: [u8; 16]) -> [u8; 16]
 {
     let tape = tapes::plain(1, number);
     let work = [0u32; 100];
+    let mut state = states::idle();
     let mut after = tally;
-    limit_box::start(states::idle(), number, 5, 1, &tape, &work, &mut after);
+    let _ = limit_box::start(&mut state, number, 5, 1, &tape, &work, &mut after);
     after
 }
 
 // A start that is taken marks its tape's four bytes, and no other: its neighbours below are spent and half written, the one above is fresh.
-fn mark() {
+fn mark(rt: &impl Print) -> io::Result<()> {
     let half = tallies::with_mark([255; 16], 1, [255, 255, 255, 0]);
     let before = tallies::with_mark(half, 0, [0, 0, 0, 0]);
-    text(b"start on tape 2, the tally before it:");
-    bytes(&before);
+    print!(rt; "start on tape 2, the tally before it:")?;
+    bytes(rt, &before)?;
     let after = tally_after(2, before);
-    text(b"\nstart on tape 2, the tally after it:");
-    bytes(&after);
-    text(b"\n");
+    print!(rt; "\nstart on tape 2, the tally after it:")?;
+    bytes(rt, &after)?;
+    println!(rt)
 }
 
-pub fn lines() {
-    states_and_numbers();
-    spent_marks();
-    around_spent();
-    shares_and_room();
-    tape_lengths();
-    trailers();
-    mark();
+pub fn lines(rt: &impl Print) -> io::Result<()> {
+    states_and_numbers(rt)?;
+    spent_marks(rt)?;
+    around_spent(rt)?;
+    shares_and_room(rt)?;
+    tape_lengths(rt)?;
+    trailers(rt)?;
+    mark(rt)
 }

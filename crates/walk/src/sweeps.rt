@@ -7,10 +7,11 @@ ghost use Rattle.walk.specs.Sweeps.{places_of, RightAt, Counted};
 
 use crate::calls::is_refused;
 use crate::hears::{changed, of_changed};
-use crate::say::text;
 use crate::starts::on_marks;
 use crate::tallies::one_byte;
 use crate::zeros::as_zeros;
+use refusals::Refusal;
+use std::io;
 
 #[derive(Clone, Copy)]
 pub enum Sweep {
@@ -40,10 +41,16 @@ fn right_at(sweep: Sweep, place: usize) -> bool
     ensures { (result ≡ true → RightAt sweep place) × (RightAt sweep place → result ≡ true) }
 {
     match sweep {
-        Sweep::Bytes => is_refused(on_marks(one_byte(place / 255, (place % 255) as u8)), 8),
-        Sweep::Above => is_refused(on_marks(one_byte(4 + place / 255, (place % 255) as u8)), 15),
-        Sweep::Body => is_refused(crate::starts::on_changed(place, 7), 10),
-        Sweep::Words => is_refused(of_changed(place, 8), 13),
+        Sweep::Bytes => is_refused(
+            on_marks(one_byte(place / 255, (place % 255) as u8)),
+            Refusal::Spent,
+        ),
+        Sweep::Above => is_refused(
+            on_marks(one_byte(4 + place / 255, (place % 255) as u8)),
+            Refusal::Late,
+        ),
+        Sweep::Body => is_refused(crate::starts::on_changed(place, 7), Refusal::Tape),
+        Sweep::Words => is_refused(of_changed(place, 8), Refusal::Word),
         Sweep::Zeros => as_zeros(crate::states::box2_hearing(), 2, 1, changed(place, 7)),
     }
 }
@@ -52,42 +59,38 @@ fn right_at(sweep: Sweep, place: usize) -> bool
 fn count(sweep: Sweep) -> usize
     ensures { Counted (RightAt sweep) (places_of sweep) result }
 {
-    let all = places(sweep);
     let mut right = 0;
-    let mut place = 0;
-    while place < all {
+    for place in 0..places(sweep) {
         if right_at(sweep, place) {
             right += 1;
         }
-        place += 1;
     }
     right
 }
 
-fn line(label: &[u8], sweep: Sweep, end: &[u8]) {
-    text(label);
-    io::print_decimal(1, count(sweep) as u64);
-    text(b" of ");
-    io::print_decimal(1, places(sweep) as u64);
-    text(end);
+fn line(rt: &impl Print, label: &str, sweep: Sweep, end: &str) -> io::Result<()> {
+    println!(rt; "{label}{} of {} {end}", count(sweep), places(sweep))
 }
 
-pub fn lines() {
+pub fn lines(rt: &impl Print) -> io::Result<()> {
     line(
-        b"start, a byte of its mark not FF: ",
+        rt,
+        "start, a byte of its mark not FF: ",
         Sweep::Bytes,
-        b" refused 8\n",
-    );
+        "refused 8",
+    )?;
     line(
-        b"start, a byte above its mark not FF: ",
+        rt,
+        "start, a byte above its mark not FF: ",
         Sweep::Above,
-        b" refused 15\n",
-    );
+        "refused 15",
+    )?;
     line(
-        b"start, a body word 7: ",
+        rt,
+        "start, a body word 7: ",
         Sweep::Body,
-        b" places refused 10\n",
-    );
-    line(b"hear, a word 8: ", Sweep::Words, b" places refused 13\n");
-    line(b"hear, a word 7: ", Sweep::Zeros, b" places heard as 0\n");
+        "places refused 10",
+    )?;
+    line(rt, "hear, a word 8: ", Sweep::Words, "places refused 13")?;
+    line(rt, "hear, a word 7: ", Sweep::Zeros, "places heard as 0")
 }

@@ -4,17 +4,20 @@ ghost use Rattle.lists.specs.Tabulate.{tabulate};
 ghost use Rattle.tape.specs.Layout.{trailer};
 ghost use Rattle.walk.specs.Walk.{box_tape, threes_tape};
 
+use field::Width;
+
 pub const PAIR: u32 = 5;
 
 // The body's words: 54 of squares, 36 of powers, 45 of triples, 7 of the last group. The trailer follows.
 pub const BODY: usize = 142;
 
 // A box's tape of a tape number.
+#[tactic(auto, unfolding(field::specs::Width::listed))]
 pub fn plain(side: u32, number: u32) -> [u32; 149]
     ensures { (length result ≡ 149) × (result ≡ box_tape side number) }
 {
     let mut tape = [0u32; 149];
-    dealer::plain(3, PAIR, side, number, &mut tape);
+    dealer::plain(Width { bits: 3 }, PAIR, side, number, &mut tape);
     tape
 }
 

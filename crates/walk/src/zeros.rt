@@ -2,27 +2,18 @@
 ghost use Rattle.std.specs.Prelude.{◌≡◌, true, ◌≤◌};
 ghost use Rattle.lists.specs.Tabulate.{tabulate};
 ghost use Rattle.protocol.specs.Rounds.{last_round};
-ghost use Rattle.rules.specs.Answers.{reply_of};
 ghost use Rattle.walk.specs.Walk.{HeardAsZeros};
 
+use crate::progress;
 use crate::progress::BoxMemory;
-use crate::say::{number, text};
-use crate::{progress, states};
+use std::io;
 
 // Whether two boxes gave the same answer, and have the same state and work.
 fn same(a: BoxMemory, b: BoxMemory) -> bool
-    ensures { (result ≡ true → (reply_of a.answer ≡ reply_of b.answer) × (a.state ≡ b.state) × (a.work ≡ b.work))
-        × (reply_of a.answer ≡ reply_of b.answer → a.state ≡ b.state → a.work ≡ b.work → result ≡ true) }
+    ensures { (result ≡ true → (a.answer ≡ b.answer) × (a.state ≡ b.state) × (a.work ≡ b.work))
+        × (a.answer ≡ b.answer → a.state ≡ b.state → a.work ≡ b.work → result ≡ true) }
 {
-    let answer1 = a.answer;
-    let answer2 = b.answer;
-    let state1 = a.state;
-    let state2 = b.state;
-    let work1 = a.work;
-    let work2 = b.work;
-    crate::answers::same(answer1, answer2)
-        && states::same(state1, state2)
-        && states::same_words(&work1, &work2)
+    a.answer == b.answer && a.state == b.state && a.work == b.work
 }
 
 // Whether a box's hear of these words is taken, and is its hear of zeros: the same answer, state and work. The tape is one on
@@ -32,10 +23,11 @@ pub fn as_zeros(b: BoxMemory, side: u32, round: u32, incoming: [u32; 33]) -> boo
         × (HeardAsZeros b.state side round b.work incoming → result ≡ true) }
 {
     let tape = crate::tapes::threes(side);
-    let after = progress::heard(b, &tape, round, incoming);
-    let zeros = progress::heard(b, &tape, round, [0; 33]);
-    let answer = after.answer;
-    exchange::refusal_of(answer) == 0 && same(after, zeros)
+    let mut after = b;
+    let mut zeros = b;
+    after.hear(&tape, round, incoming);
+    zeros.hear(&tape, round, [0; 33]);
+    after.answer.is_ok() && same(after, zeros)
 }
 
 // The same of sevens.
@@ -47,41 +39,36 @@ fn sevens_as_zeros(b: BoxMemory, side: u32, round: u32) -> bool
 }
 
 // Says so: only of a box of which it is so.
-fn tell_as_zeros(b: BoxMemory, side: u32, round: u32)
+fn tell_as_zeros(rt: &impl Print, b: BoxMemory, side: u32, round: u32) -> io::Result<()>
     requires { HeardAsZeros b.state side round b.work (tabulate 33 (λ k. 7)) }
 {
-    text(b" as of zeros");
+    print!(rt; " as of zeros")
 }
 
-fn told(b: BoxMemory, side: u32, round: u32) {
-    number(b"box ", side);
+fn told(rt: &impl Print, b: BoxMemory, side: u32, round: u32) -> io::Result<()> {
+    print!(rt; "box {side}")?;
     if sevens_as_zeros(b, side, round) {
-        tell_as_zeros(b, side, round);
+        tell_as_zeros(rt, b, side, round)
     } else {
-        text(b" NOT as of zeros");
+        print!(rt; " NOT as of zeros")
     }
 }
 
 // Both boxes have spoken, and hear as many words as the round has.
-fn line(round: u32)
+fn line(rt: &impl Print, round: u32) -> io::Result<()>
     requires { round ≤ last_round }
 {
     let pair = progress::reached(2 * round);
-    let box1 = pair.box1;
-    let box2 = pair.box2;
-    number(b"hear ", round);
-    number(b", ", crate::five::words(round) as u32);
-    text(b" words 7: ");
-    told(box1, 1, round);
-    text(b", ");
-    told(box2, 2, round);
-    text(b"\n");
+    print!(rt; "hear {round}, {} words 7: ", crate::five::words(round))?;
+    told(rt, pair.box1, 1, round)?;
+    print!(rt; ", ")?;
+    told(rt, pair.box2, 2, round)?;
+    println!(rt)
 }
 
-pub fn lines() {
-    let mut round = 1;
-    while round <= compare::words::LAST_ROUND {
-        line(round);
-        round += 1;
+pub fn lines(rt: &impl Print) -> io::Result<()> {
+    for round in 1..compare::words::LAST_ROUND + 1 {
+        line(rt, round)?;
     }
+    Ok(())
 }

@@ -1,8 +1,6 @@
 -- `walk::dealing::sized` meets its contract: the front of a buffer full of filler is full of it.
-use Prim.Native.Nat.{ℕ}
-use mathlib.Core.Path.{◌≡◌, sym, ap, ◌∙◌}
-use mathlib.Core.List.{List}
-use lib.ListN.{length, take, length-replicate}
+use mathlib.Core.Path.{◌≡◌}
+use lib.ListN.{take}
 use Rattle.walk.specs.Walk.{filler}
 use Rattle.walk.proofs.Deals.{front, told_same, whole}
 use Rattle.walk.proofs.dealing.sized.Goals.{After-buffer-t1, After-buffer-t2}
@@ -15,19 +13,10 @@ cut1 b = front _ _ b.requires.0 b.buffer-t1.ensures.1
 cut2 : (b : After-buffer-t2) → take b.args.words2 b.buffer-t2.result ≡ filler b.args.words2
 cut2 b = front _ _ b.requires.1 b.buffer-t2.ensures.1
 
-long : {l : List ℕ} (count : ℕ) → l ≡ filler count → length l ≡ count
-long count e = ap length e ∙ length-replicate count 9
-
 pub returns : goal.returns
 returns c =
     let a = c.args in
     told_same _ a.seed a.n _ _ _ _ c.deal.ensures (cut1 (goal.at.returns c).After-buffer-t1) (cut2 (goal.at.returns c).After-buffer-t2)
-
-pub slice_bounds-deal-end : goal.slice_bounds-deal-end
-slice_bounds-deal-end c = sym (long c.args.words1 (cut1 (goal.at.slice_bounds-deal-end c).After-buffer-t1))
-
-pub slice_bounds-deal-end-2 : goal.slice_bounds-deal-end-2
-slice_bounds-deal-end-2 c = sym (long c.args.words2 (cut2 (goal.at.slice_bounds-deal-end-2 c).After-buffer-t2))
 
 pub deal-requires : goal.deal-requires
 deal-requires c =

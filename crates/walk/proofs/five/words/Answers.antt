@@ -6,10 +6,6 @@ use Rattle.protocol.specs.Rounds.{round_words}
 use Rattle.protocol.proofs.Lengths.{most_words}
 use Rattle.walk.proofs.five.words.Goals as goal
 
-pub words_of-requires : goal.words_of-requires
-unfolding listed
-words_of-requires c = refl
-
 pub returns : goal.returns
 unfolding listed round_words
 returns c = (omega (arith, c.words_of.ensures, most_words 3 c.args.round refl), c.words_of.ensures)

@@ -5,4 +5,4 @@ use Rattle.walk.proofs.starts.tally_after.Goals as goal
 
 pub returns : goal.returns
 returns c =
-    ap (λ (r : Result). r.buffer) (rw (c.plain-tape.ensures.1, c.idle.ensures) at c.start.ensures)
+    ap (λ (r : Result). r.buffer) (rw (c.plain-tape.ensures.1, c.idle-state.ensures) at c.start.ensures)

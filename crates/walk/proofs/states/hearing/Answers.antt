@@ -5,6 +5,6 @@ use Rattle.walk.proofs.states.hearing.Goals as goal
 
 pub returns : goal.returns
 returns c =
-    let s = c.started.ensures in
-    let h = c.spoken.ensures in
+    let s = c.started-memory.ensures in
+    let h = c.speak.ensures in
     (h.0.state ∙ rw (s.0, s.1, s.2) spoken_four, h.2 ∙ s.1)

@@ -4,4 +4,4 @@ use Rattle.walk.proofs.Reached.{woken_four}
 use Rattle.walk.proofs.states.idle.Goals as goal
 
 pub returns : goal.returns
-returns c = c.woken-woken.ensures.0.state ∙ woken_four
+returns c = c.woken.ensures.0.state ∙ woken_four

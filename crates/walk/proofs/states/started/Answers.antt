@@ -5,6 +5,6 @@ use Rattle.walk.proofs.states.started.Goals as goal
 
 pub returns : goal.returns
 returns c =
-    let w = c.woken.ensures in
-    let s = c.started.ensures in
+    let w = c.woken-memory.ensures in
+    let s = c.start.ensures in
     (s.0.state ∙ rw (w.0.state ∙ woken_four, w.0.left ∙ woken_tally, w.1) opened_four, s.1 ∙ w.1, s.2 ∙ w.2)

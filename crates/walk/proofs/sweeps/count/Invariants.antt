@@ -1,11 +1,8 @@
 -- `walk::sweeps::count` meets its contract: each turn counts one place.
-use Prim.Native.Nat.{◌-◌, ◌≤◌}
+use Prim.Native.Nat.{◌≤◌}
 use Rattle.walk.specs.Sweeps.{RightAt, Counted}
 use Rattle.walk.proofs.sweeps.count.Given as goal
 
 abbrev pub invariant-loop-place : goal.invariant-loop-place
 invariant-loop-place l =
-    (l.place ≤ l.all) × (l.right ≤ l.place) × Counted (RightAt l.sweep) l.place l.right
-
-abbrev pub decreases-loop-place : goal.decreases-loop-place
-decreases-loop-place l = l.all - l.place
+    (l.right ≤ l.place) × Counted (RightAt l.sweep) l.place l.right

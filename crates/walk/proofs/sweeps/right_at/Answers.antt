@@ -9,21 +9,6 @@ use Rattle.walk.specs.Walk.{idle_state, job_state, box_tape, fresh_tally, filler
 use Rattle.walk.proofs.Refused.{start_refused, hear_refused, tells}
 use Rattle.walk.proofs.sweeps.right_at.Goals as goal
 
-pub one_byte-requires : goal.one_byte-requires
-one_byte-requires c = omega (arith, rw c.in-Bytes.is at c.requires)
-
-pub one_byte-requires-in-Above : goal.one_byte-requires-in-Above
-one_byte-requires-in-Above c = omega (arith, rw c.in-Above.is at c.requires)
-
-pub on_changed-requires : goal.on_changed-requires
-on_changed-requires c = omega (arith, rw c.in-Body.is at c.requires)
-
-pub of_changed-requires : goal.of_changed-requires
-of_changed-requires c = omega (arith, rw c.in-Words.is at c.requires)
-
-pub changed-requires : goal.changed-requires
-changed-requires c = omega (arith, rw c.in-Zeros.is at c.requires)
-
 pub returns-in-Bytes : goal.returns-in-Bytes
 returns-in-Bytes c =
     let p = c.args.place in

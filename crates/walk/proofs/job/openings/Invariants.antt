@@ -1,9 +1,0 @@
--- `walk::job::openings` ends: no round has more words than the first.
-use Prim.Native.Nat.{◌-◌, ◌≤◌}
-use Rattle.walk.proofs.job.openings.Given as goal
-
-abbrev pub invariant-loop-k : goal.invariant-loop-k
-invariant-loop-k l = l.k ≤ l.count
-
-abbrev pub decreases-loop-k : goal.decreases-loop-k
-decreases-loop-k l = l.count - l.k
