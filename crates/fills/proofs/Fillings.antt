@@ -35,17 +35,17 @@ blank_cut k m fits =
     (λ i l. get_or-take k (blank m) i 0 (omega (arith, long)) ∙ blank_at m i (omega (arith, long)) ∙ sym (blank_at k i (omega (arith, long))))
 
 module _ (job : Job) (tape : List ℕ) where
-  pub job_length : length (message_of job tape) ≡ round_words job.n 1
-  job_length = message_length (party job.n job.side job.x job.y tape) [] 1
+  pub job_length : length (message_of job tape) ≡ round_words job.n.bits 1
+  job_length = message_length (party job.n.bits job.side job.x job.y tape) [] 1
 
   -- whatever work there is, all of a buffer of the message's length is the message
-  pub spoken_whole : (work words : List ℕ) → length words ≡ round_words job.n 1
-      → sets words 0 (message (party job.n job.side job.x job.y tape) work 1) ≡ message_of job tape
+  pub spoken_whole : (work words : List ℕ) → length words ≡ round_words job.n.bits 1
+      → sets words 0 (message (party job.n.bits job.side job.x job.y tape) work 1) ≡ message_of job tape
   unfolding message
   spoken_whole work words long = sets_whole words (message_of job tape) (job_length ∙ sym long)
 
   -- what was found of a filling
-  pub looked : (words old new : List ℕ) (count : ℕ) (found : Bool) → words ≡ message_of job tape → old ≡ blank (round_words job.n 1 + 3)
+  pub looked : (words old new : List ℕ) (count : ℕ) (found : Bool) → words ≡ message_of job tape → old ≡ blank (round_words job.n.bits 1 + 3)
       → new ≡ filled old (message_of job tape) count → found ≡ as_due new words count → found ≡ fill_agrees job tape count
   unfolding fill_agrees
   looked words old new count found message before after told = told ∙ rw (after, before, message) refl

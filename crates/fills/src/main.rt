@@ -7,6 +7,7 @@ ghost use Rattle.std.specs.Prelude.{◌≡◌, true, ◌+◌, ◌-◌, ◌≤◌
 ghost use Rattle.lists.specs.Tabulate.{sum};
 ghost use Rattle.fills.specs.Fillings.{message_of, fill_agrees, right_at, Lent};
 
+use field::Width;
 use places::Job;
 
 mod places;
@@ -15,7 +16,7 @@ mod tapes;
 // How a line begins.
 fn tell_box(job: Job, what: &[u8]) {
     io::write_all(1, b"width ");
-    io::print_decimal(1, job.n as u64);
+    io::print_decimal(1, job.n.bits as u64);
     io::write_all(1, b", box ");
     io::print_decimal(1, job.side as u64);
     io::write_all(1, what);
@@ -24,11 +25,9 @@ fn tell_box(job: Job, what: &[u8]) {
 // The message, word by word.
 fn tell_message(job: Job, words: &[u32]) {
     tell_box(job, b": message");
-    let mut j = 0;
-    while j < words.len() {
+    for word in words {
         io::write_all(1, b" ");
-        io::print_decimal(1, words[j] as u64);
-        j += 1;
+        io::print_decimal(1, *word as u64);
     }
     io::write_all(1, b"\n");
 }
@@ -48,13 +47,11 @@ fn tell_counts(job: Job, tape: &[u32], words: &[u32], first: usize, last: usize)
     ensures all { result ≡ last + 1 - first }
 {
     let mut right: u64 = 0;
-    let mut count = first;
-    while count <= last {
+    for count in first..last + 1 {
         if places::agrees(job, tape, words, count) {
             tell_count(job, tape, count);
             right += 1;
         }
-        count += 1;
     }
     right
 }
@@ -70,7 +67,7 @@ fn tell_right(right: u64, all: u64) {
 
 // Every count of width 3.
 fn run_3(job: Job, tape: &[u32])
-    requires { (job.n ≡ 3) × Lent job tape.now }
+    requires { (job.n.bits ≡ 3) × Lent job tape.now }
 {
     let mut words = [0u32; 33];
     places::spoken(job, tape, &mut words);
@@ -81,7 +78,7 @@ fn run_3(job: Job, tape: &[u32])
 
 // Some of width 31: 6 words are alpha * beta's, 31 a level's.
 fn run_31(job: Job, tape: &[u32])
-    requires { (job.n ≡ 31) × Lent job tape.now }
+    requires { (job.n.bits ≡ 31) × Lent job tape.now }
 {
     let mut words = [0u32; 2889];
     places::spoken(job, tape, &mut words);
@@ -94,18 +91,20 @@ fn run_31(job: Job, tape: &[u32])
     tell_right(right, 12);
 }
 
+#[tactic(auto, unfolding(field::specs::Width::listed))]
 fn width_3() {
     let mut t1 = [0u32; 149];
     let mut t2 = [0u32; 149];
-    tapes::deal(3, &mut t1, &mut t2);
+    let n = Width { bits: 3 };
+    tapes::deal(n, &mut t1, &mut t2);
     let box1 = Job {
-        n: 3,
+        n,
         side: 1,
         x: 5,
         y: 1,
     };
     let box2 = Job {
-        n: 3,
+        n,
         side: 2,
         x: 2,
         y: 4,
@@ -114,18 +113,20 @@ fn width_3() {
     run_3(box2, &t2);
 }
 
+#[tactic(auto, unfolding(field::specs::Width::listed))]
 fn width_31() {
     let mut t1 = [0u32; 9053];
     let mut t2 = [0u32; 9053];
-    tapes::deal(31, &mut t1, &mut t2);
+    let n = Width { bits: 31 };
+    tapes::deal(n, &mut t1, &mut t2);
     let box1 = Job {
-        n: 31,
+        n,
         side: 1,
         x: 1518500249,
         y: 271828182,
     };
     let box2 = Job {
-        n: 31,
+        n,
         side: 2,
         x: 314159265,
         y: 1202056903,

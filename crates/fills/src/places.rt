@@ -4,13 +4,16 @@ ghost use Rattle.protocol.specs.Rounds.{round_words};
 ghost use Rattle.fills.specs.Due.{blank, due_at, as_due};
 ghost use Rattle.fills.specs.Fillings.{message_of, fill_agrees, Lent};
 
+use compare::Party;
+use field::Width;
+
 // What out holds at first: no word of a message.
 const FILLER: u32 = 4294967295;
 
 // What a box has of a job, beside its tape.
 #[derive(Clone, Copy)]
 pub struct Job {
-    pub n: u32,
+    pub n: Width,
     pub side: u32,
     pub x: u32,
     pub y: u32,
@@ -18,11 +21,18 @@ pub struct Job {
 
 // The message, as speak puts it at the front of a buffer that has just its length.
 pub fn spoken(job: Job, tape: &[u32], words: &mut [u32])
-    requires { Lent job tape.now × (length words.old ≡ round_words job.n 1) }
+    requires { Lent job tape.now × (length words.old ≡ round_words job.n.bits 1) }
     ensures { words.new ≡ message_of job tape.now }
 {
     let work = [0u32; 436];
-    compare::speaking::speak(job.n, job.side, 1, job.x, job.y, tape, &work, words);
+    let party = Party {
+        n: job.n,
+        side: job.side,
+        x: job.x,
+        y: job.y,
+        tape,
+    };
+    party.speak(1, &work, words);
 }
 
 // What place j must hold once the last `count` words are filled in.
@@ -43,12 +53,10 @@ fn as_due(out: &[u32], words: &[u32], count: usize) -> bool
     requires { count ≤ length words.now }
     ensures { result ≡ as_due out.now words.now count }
 {
-    let mut j = 0;
-    while j < out.len() {
+    for j in 0..out.len() {
         if out[j] != due_at(words, count, j) {
             return false;
         }
-        j += 1;
     }
     true
 }
@@ -63,11 +71,18 @@ fn blank_words() -> [u32; 2892]
 // Whether a filling of that many words leaves every place of out so, none of which was written to before.
 fn filled_as_due(job: Job, tape: &[u32], words: &[u32], count: usize, out: &mut [u32]) -> bool
     requires lent { Lent job tape.now × (words.now ≡ message_of job tape.now) × (count ≤ length words.now) }
-    requires out_value { out.old ≡ blank (round_words job.n 1 + 3) }
+    requires out_value { out.old ≡ blank (round_words job.n.bits 1 + 3) }
     ensures value { result ≡ fill_agrees job tape.now count }
     ensures all { result ≡ true }
 {
-    compare::filling::fill(job.n, job.side, job.x, job.y, tape, count, &mut *out);
+    let party = Party {
+        n: job.n,
+        side: job.side,
+        x: job.x,
+        y: job.y,
+        tape,
+    };
+    party.fill(count, &mut *out);
     as_due(&*out, words, count)
 }
 

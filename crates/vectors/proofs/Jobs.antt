@@ -1,7 +1,8 @@
 -- When a text tells a job, by what was found of it.
 use Prim.Native.Nat.{ℕ}
-use mathlib.Core.Path.{◌≡◌, sym, ap, ◌∙◌}
-use mathlib.Core.Bool.{Bool, true, false, ◌&&◌, false≢true}
+use mathlib.Core.Path.{◌≡◌, refl, sym, ap, ◌∙◌}
+use native.Mathlib.Omega.{arith}
+use mathlib.Core.Bool.{Bool, true, false, not, ◌&&◌, false≢true, true≢false}
 use mathlib.Core.List.{List}
 use borrow.Author.Tests.{eq-eqb, ne_eqb}
 use lib.Dec.{eqb}
@@ -10,10 +11,14 @@ use Rattle.lists.proofs.Tests.{and_left, and_right, and-false}
 use Rattle.field.specs.Width.{listed}
 use Rattle.tape.specs.Layout.{tape_length}
 use Rattle.protocol.specs.Products.{Party, party}
-use Rattle.rules.specs.Answers.{reply_of}
+use Rattle.std.specs.Prelude.{Ok, Err, is_err, ⊤, Result as Answer}
+use Rattle.refusals.specs.Numbers.{number_of}
+use Rattle.refusals.specs.declared.Refusal.{Refusal}
+use Rattle.refusals.proofs.Numbers.{numbered}
+use Rattle.rules.specs.Answers.{started, reply_of}
 use Rattle.rules.specs.Calls.{Result, outcome}
-use Rattle.rules.specs.declared.state.Outcome.{Outcome}
-use Rattle.exchange.specs.Opening.{refusal_of, begun}
+use Rattle.rules.specs.declared.state.State.{State}
+use Rattle.exchange.specs.Opening.{first_state, refusal_of, begun}
 use Rattle.exchange.specs.Boxes.{works}
 use Rattle.exchange.specs.Memory.{blank_work}
 use Rattle.vectors.specs.declared.numbers.Cursor.{Cursor}
@@ -24,13 +29,23 @@ use Rattle.vectors.specs.Job.{transcript, unused_tally, comes, job_told, tapes_t
 pub untold_says : {A : Type 0} (agrees : Bool) → agrees ≡ false → agrees ≡ true → A
 untold_says agrees untold told = absurd (false≢true (sym untold ∙ told))
 
--- a box that came to the job, with the number of its refusal
-pub begun_comes : (n side pair number x y : ℕ) (tape work tally : List ℕ) (a : Outcome) (tally' : List ℕ) (k : ℕ)
-    → work ≡ blank_work → tally ≡ unused_tally → outcome a tally' ≡ begun n side pair number x y tape work tally
-    → k ≡ refusal_of (reply_of a.answer) → comes n side pair number x y tape ≡ eqb k 0
-begun_comes n side pair number x y tape work tally a tally' k w t e refusal =
-    let same : begun n side pair number x y tape work tally ≡ begun n side pair number x y tape blank_work unused_tally = rw (w, t) in
-    ap (λ (j : ℕ). eqb j 0) (sym (refusal ∙ ap (λ (r : Result). refusal_of r.reply) (e ∙ same)))
+-- what a start answered
+went : (answer : Answer ⊤ Refusal) → eqb (refusal_of (reply_of (λ _. started) answer)) 0 ≡ not (is_err answer)
+went (Ok _) = refl
+went (Err refusal) = ne_eqb (number_of refusal) 0 (λ zero. omega (arith, zero, numbered refusal))
+
+pub no_refusal : (answer : Answer ⊤ Refusal) → is_err answer ≡ false → refusal_of (reply_of (λ _. started) answer) ≡ 0
+no_refusal (Ok _) e = refl
+no_refusal (Err refusal) e = absurd (true≢false e)
+
+-- a box came to the job if it was not refused
+pub begun_comes : (n side pair number x y : ℕ) (tape work tally : List ℕ) (answer : Answer ⊤ Refusal) (s : State) (tally' : List ℕ)
+    → work ≡ blank_work → tally ≡ unused_tally
+    → outcome (reply_of (λ _. started) answer) s tally' ≡ begun first_state n side pair number x y tape work tally
+    → comes n side pair number x y tape ≡ not (is_err answer)
+begun_comes n side pair number x y tape work tally answer s tally' w t e =
+    let same : begun first_state n side pair number x y tape work tally ≡ begun first_state n side pair number x y tape blank_work unused_tally = rw (w, t) in
+    ap (λ (r : Result). eqb (refusal_of r.reply) 0) (sym (e ∙ same)) ∙ went answer
 
 -- of the same boxes and work
 pub told_same : (text : List ℕ) (from : ℕ) {p1 p2 q1 q2 : Party} {w1 w2 v1 v2 : List ℕ} → p1 ≡ q1 → p2 ≡ q2 → w1 ≡ v1 → w2 ≡ v2

@@ -6,7 +6,7 @@ use Rattle.protocol.specs.Products.{Party, party}
 use Rattle.protocol.specs.Rounds.{last_round, message}
 use Rattle.protocol.specs.Exchange.{Both, exchanged, answer_own, answer_others}
 use Rattle.tally.specs.Tally.{longest_tally}
-use Rattle.exchange.specs.Opening.{refusal_of, begun}
+use Rattle.exchange.specs.Opening.{first_state, refusal_of, begun}
 use Rattle.exchange.specs.Boxes.{works}
 use Rattle.exchange.specs.Memory.{blank_work}
 use Rattle.vectors.specs.Numbers.{numbers_from, read_to, spelled}
@@ -30,7 +30,7 @@ unused_tally = replicate longest_tally 255
 
 -- a box comes to the job and is not refused
 abbrev pub comes : ℕ → ℕ → ℕ → ℕ → ℕ → ℕ → List ℕ → Bool
-comes n side pair number x y tape = eqb (refusal_of (begun n side pair number x y tape blank_work unused_tally).reply) 0
+comes n side pair number x y tape = eqb (refusal_of (begun first_state n side pair number x y tape blank_work unused_tally).reply) 0
 
 -- both do, and the text goes on with what they send and answer
 unfoldable pub job_told : List ℕ → ℕ → ℕ → ℕ → ℕ → ℕ → ℕ → ℕ → ℕ → List ℕ → List ℕ → Bool

@@ -2,6 +2,7 @@
 ghost use Rattle.std.specs.Prelude.{◌≡◌, true, false};
 ghost use Rattle.vectors.specs.Deal.{deal_told, deal_agreed, headed, AgreeingDeal};
 
+use field::Width;
 use std::rt::Files;
 
 // What came of a deal's file: whether it agrees, and the numbers that its text names.
@@ -63,10 +64,10 @@ fn run(text: &[u8]) -> Agreement
 fn dealt_same(text: &[u8], from: usize, seed: u32, n: u32, pair: u32, number: u32) -> bool
     ensures { result ≡ deal_told text.now from seed n pair number }
 {
-    if !field::is_listed(n) {
+    let Some(width) = Width::new(n) else {
         return false;
-    }
-    let len = tape::tape_words(n);
+    };
+    let len = tape::tape_words(width);
     let mut t1 = exchange::memory::blank_tape();
     let mut t2 = exchange::memory::blank_tape();
     if deals::deal(seed, n, pair, number, &mut t1[..len], &mut t2[..len]).is_err() {

@@ -1,9 +1,8 @@
 // Jobs of both boxes against the words of their files.
 ghost use Rattle.std.specs.Prelude.{◌≡◌, true, false, [], ◌∷◌, length};
-ghost use Rattle.field.specs.Width.{listed};
 ghost use Rattle.shares.specs.Reading.{delivered};
 ghost use Rattle.protocol.specs.Rounds.{last_round, message};
-ghost use Rattle.rules.specs.Answers.{reply_of};
+ghost use Rattle.rules.specs.Answers.{heard_or_share, reply_of};
 ghost use Rattle.tally.specs.Tally.{longest_tally};
 ghost use Rattle.rules.specs.Calls.{outcome, party_of};
 ghost use Rattle.exchange.specs.Opening.{share_of};
@@ -15,7 +14,11 @@ ghost use Rattle.vectors.specs.Sent.{respelled_in, job_sent, tapes_sent, sent, A
 
 use crate::numbers::Cursor;
 use compare::words::LAST_ROUND;
-use exchange::{Boxes, Heard, Shares};
+use exchange::{Heard, Shares};
+use field::Width;
+use refusals::Refusal;
+use rules::state;
+use rules::state::State;
 use std::rt::Files;
 
 // The file of a width's job: job-WW-K.txt.
@@ -134,10 +137,10 @@ fn on_tapes(
     ensures zeros { result.agrees ≡ true
         → result.zeros ≡ respelled_in board (tapes_sent text.now from n box1.x box1.y box2.x box2.y) }
 {
-    if !field::is_listed(n) {
+    let Some(width) = Width::new(n) else {
         return untold();
-    }
-    let len = tape::tape_words(n);
+    };
+    let len = tape::tape_words(width);
     let mut t1 = exchange::memory::blank_tape();
     let mut t2 = exchange::memory::blank_tape();
     let read1 = crate::numbers::fill(text, from, &mut t1[..len]);
@@ -191,20 +194,17 @@ fn opened(
     let mut w2 = exchange::memory::blank_work();
     let mut k1 = unused_tally();
     let mut k2 = unused_tally();
-    let begun1 = exchange::begin(n, 1, pair, number, box1, t1, &w1, &mut k1);
-    let answer1 = begun1.answer;
-    if exchange::refusal_of(answer1) != 0 {
+    let mut s1 = state::FIRST;
+    let mut s2 = state::FIRST;
+    if exchange::begin(&mut s1, n, 1, pair, number, box1, t1, &w1, &mut k1).is_err() {
         return untold();
     }
-    let begun2 = exchange::begin(n, 2, pair, number, box2, t2, &w2, &mut k2);
-    let answer2 = begun2.answer;
-    if exchange::refusal_of(answer2) != 0 {
+    if exchange::begin(&mut s2, n, 2, pair, number, box2, t2, &w2, &mut k2).is_err() {
         return untold();
     }
-    let s1 = begun1.state;
-    let s2 = begun2.state;
-    let boxes = Boxes { box1: s1, box2: s2 };
-    exchanged(text, from, number, boxes, t1, t2, &mut w1, &mut w2, board)
+    exchanged(
+        text, from, number, &mut s1, &mut s2, t1, t2, &mut w1, &mut w2, board,
+    )
 }
 
 // Every round, each message against the text, then the answer shares, which the last round gives.
@@ -212,44 +212,47 @@ fn exchanged(
     text: &[u8],
     from: usize,
     number: u32,
-    boxes: Boxes,
+    s1: &mut State,
+    s2: &mut State,
     t1: &[u32],
     t2: &[u32],
     w1: &mut [u32],
     w2: &mut [u32],
     board: bool,
 ) -> Told
-    requires { Due number 1 boxes.box1 boxes.box2 t1.now t2.now w1.old w2.old }
+    requires { Due number 1 s1.old s2.old t1.now t2.now w1.old w2.old }
     ensures agrees_value { result.agrees
         ≡ (spelled text.now from
-        (transcript (party_of boxes.box1 t1.now) (party_of boxes.box2 t2.now) (works w1.old w2.old))).ok }
+        (transcript (party_of s1.old t1.now) (party_of s2.old t2.now) (works w1.old w2.old))).ok }
     ensures zeros { result.agrees ≡ true → result.zeros
         ≡ respelled_in board
-        (messages_to (party_of boxes.box1 t1.now) (party_of boxes.box2 t2.now)
+        (messages_to (party_of s1.old t1.now) (party_of s2.old t2.now)
         (works w1.old w2.old) last_round) }
 {
-    let mut due = boxes;
     let mut at = from;
     let mut zeros = 0;
-    let mut heard: u32 = 0;
-    while heard < exchange::EARLIER_ROUNDS {
-        let k = heard + 1;
-        let r = compared(text, at, number, k, due, t1, t2, &mut *w1, &mut *w2, board);
+    for heard in 0..exchange::EARLIER_ROUNDS {
+        let r = compared(
+            text,
+            at,
+            number,
+            heard + 1,
+            &mut *s1,
+            &mut *s2,
+            t1,
+            t2,
+            &mut *w1,
+            &mut *w2,
+            board,
+        );
         let c = r.read;
         if !c.ok {
             return untold();
         }
         at = c.at;
         zeros += r.zeros;
-        let both = r.heard;
-        let heard1 = both.box1;
-        let heard2 = both.box2;
-        let box1 = heard1.state;
-        let box2 = heard2.state;
-        due = Boxes { box1, box2 };
-        heard = k;
     }
-    let last = compared(text, at, number, LAST_ROUND, due, t1, t2, w1, w2, board);
+    let last = compared(text, at, number, LAST_ROUND, s1, s2, t1, t2, w1, w2, board);
     let c = last.read;
     if !c.ok {
         return untold();
@@ -274,37 +277,41 @@ fn compared(
     from: usize,
     number: u32,
     round: u32,
-    boxes: Boxes,
+    s1: &mut State,
+    s2: &mut State,
     t1: &[u32],
     t2: &[u32],
     w1: &mut [u32],
     w2: &mut [u32],
     board: bool,
 ) -> Round
-    requires { Due number round boxes.box1 boxes.box2 t1.now t2.now w1.old w2.old }
+    requires { Due number round s1.old s2.old t1.now t2.now w1.old w2.old }
     ensures read { result.read
         ≡ spelled text.now from
-        (messages (party_of boxes.box1 t1.now) (party_of boxes.box2 t2.now) (works w1.old w2.old) round) }
-    ensures box1 { outcome result.heard.box1 w1.new
-        ≡ heard_after boxes.box1 t1.now w1.old round (message (party_of boxes.box2 t2.now) w2.old round) }
-    ensures box2 { outcome result.heard.box2 w2.new
-        ≡ heard_after boxes.box2 t2.now w2.old round (message (party_of boxes.box1 t1.now) w1.old round) }
+        (messages (party_of s1.old t1.now) (party_of s2.old t2.now) (works w1.old w2.old) round) }
+    ensures box1 { outcome (reply_of heard_or_share result.heard.0) s1.new w1.new
+        ≡ heard_after s1.old t1.now w1.old round (message (party_of s2.old t2.now) w2.old round) }
+    ensures box2 { outcome (reply_of heard_or_share result.heard.1) s2.new w2.new
+        ≡ heard_after s2.old t2.now w2.old round (message (party_of s1.old t1.now) w1.old round) }
     ensures zeros { result.zeros
         ≡ respelled_in board
-        (messages (party_of boxes.box1 t1.now) (party_of boxes.box2 t2.now) (works w1.old w2.old) round) }
+        (messages (party_of s1.old t1.now) (party_of s2.old t2.now) (works w1.old w2.old) round) }
 {
     let mut o1 = exchange::memory::blank_words();
     let mut o2 = exchange::memory::blank_words();
-    let s1 = boxes.box1;
-    let words = compare::words::words_of(s1.n, round);
-    let due = exchange::both_speak(number, round, boxes, t1, t2, &*w1, &*w2, &mut o1, &mut o2);
+    let n = Width { bits: s1.n };
+    let words = compare::words::words_of(n, round);
+    exchange::both_speak(
+        number, round, &mut *s1, &mut *s2, t1, t2, &*w1, &*w2, &mut o1, &mut o2,
+    );
     let read = crate::numbers::both_same(text, from, words, &o1, &o2);
-    let zeros1 = carry(s1.n, &mut o1[..words], board);
-    let zeros2 = carry(s1.n, &mut o2[..words], board);
+    let zeros1 = carry(n, &mut o1[..words], board);
+    let zeros2 = carry(n, &mut o2[..words], board);
     let heard = exchange::both_hear(
         number,
         round,
-        due,
+        s1,
+        s2,
         t1,
         t2,
         w1,
@@ -320,10 +327,9 @@ fn compared(
 }
 
 // A message on its way to the other box: as it is, or every zero spelled p. Answers how many were respelled.
-fn carry(n: u32, words: &mut [u32], respell: bool) -> usize
-    requires { listed n ≡ true }
+fn carry(n: Width, words: &mut [u32], respell: bool) -> usize
     ensures value { result ≡ respelled_in respell words.old }
-    ensures carried { words.new ≡ delivered n (λ i. respell) words.old }
+    ensures carried { words.new ≡ delivered n.bits (λ i. respell) words.old }
 {
     if !respell {
         return 0;
@@ -331,16 +337,23 @@ fn carry(n: u32, words: &mut [u32], respell: bool) -> usize
     board::respell(n, words)
 }
 
+// The answer share that a hear gave, and 0 where it gave none.
+fn share_in(heard: Result<Option<u32>, Refusal>) -> u32
+    ensures { result ≡ share_of (reply_of heard_or_share heard) }
+{
+    match heard {
+        Ok(Some(share)) => share,
+        Ok(None) | Err(_) => 0,
+    }
+}
+
 // Whether the next numbers are the shares of what both boxes answered.
 fn answers_same(text: &[u8], from: usize, heard: Heard) -> bool
     ensures { result
-        ≡ (spelled text.now from (share_of (reply_of heard.box1.answer) ∷ share_of (reply_of heard.box2.answer) ∷ [])).ok }
+        ≡ (spelled text.now from
+        (share_of (reply_of heard_or_share heard.0) ∷ share_of (reply_of heard_or_share heard.1) ∷ [])).ok }
 {
-    let heard1 = heard.box1;
-    let heard2 = heard.box2;
-    let answer1 = heard1.answer;
-    let answer2 = heard2.answer;
-    let answers = [exchange::share_of(answer1), exchange::share_of(answer2)];
+    let answers = [share_in(heard.0), share_in(heard.1)];
     let c = crate::numbers::same(text, from, &answers);
     c.ok
 }

@@ -3,8 +3,6 @@
 // (document 02, P3), and how many there were is said.
 #![tactic(auto)]
 
-ghost use Rattle.std.specs.Prelude.{◌≡◌, true};
-ghost use Rattle.field.specs.Width.{listed};
 ghost use Rattle.vectors.specs.Deal.{AgreeingDeal};
 
 mod data;
@@ -12,17 +10,16 @@ mod deal;
 mod job;
 mod numbers;
 
+use field::Width;
 use std::rt::Files;
 
 // How the line of a width begins: what is tried.
-fn tell_width(w: u32, board: bool)
-    requires { listed w ≡ true }
-{
+fn tell_width(n: Width, board: bool) {
     io::write_all(1, b"width ");
-    io::print_decimal(1, w as u64);
+    io::print_decimal(1, n.bits as u64);
     if board {
         io::write_all(1, b", every zero spelled ");
-        io::print_decimal(1, field::modulus_of(w) as u64);
+        io::print_decimal(1, n.modulus() as u64);
     }
     io::write_all(1, b": tapes");
 }
@@ -41,16 +38,14 @@ fn tell_jobs(agreed: u64, count: u8, board: bool, zeros: u64) {
     io::write_all(1, b"\n");
 }
 
-fn run_width(rt: &impl Files, w: u32, count: u8, board: bool)
-    requires { listed w ≡ true }
-{
-    tell_width(w, board);
+fn run_width(rt: &impl Files, n: Width, count: u8, board: bool) {
+    tell_width(n, board);
     let mut agreed: u64 = 0;
     let mut zeros: u64 = 0;
     let mut k: u8 = 0;
     while k < count {
         k += 1;
-        let told = job::compared_with(rt, w, k, board);
+        let told = job::compared_with(rt, n.bits, k, board);
         if told.agrees {
             io::write_all(1, b" ");
             io::print_decimal(1, told.number as u64);
@@ -62,14 +57,15 @@ fn run_width(rt: &impl Files, w: u32, count: u8, board: bool)
 }
 
 // Every job: the words go from box to box as they are, or every zero spelled p.
+#[tactic(auto, unfolding(field::specs::Width::listed))]
 fn run_widths(rt: &impl Files, board: bool) {
-    run_width(rt, 3, 5, board);
-    run_width(rt, 5, 4, board);
-    run_width(rt, 7, 3, board);
-    run_width(rt, 13, 2, board);
-    run_width(rt, 17, 2, board);
-    run_width(rt, 19, 2, board);
-    run_width(rt, 31, 2, board);
+    run_width(rt, Width { bits: 3 }, 5, board);
+    run_width(rt, Width { bits: 5 }, 4, board);
+    run_width(rt, Width { bits: 7 }, 3, board);
+    run_width(rt, Width { bits: 13 }, 2, board);
+    run_width(rt, Width { bits: 17 }, 2, board);
+    run_width(rt, Width { bits: 19 }, 2, board);
+    run_width(rt, Width { bits: 31 }, 2, board);
 }
 
 // Says that a deal agrees, and which: only of one that does.

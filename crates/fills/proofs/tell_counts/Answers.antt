@@ -12,7 +12,7 @@ pub loop-count-init : goal.loop-count-init
 loop-count-init c =
     let first = c.args.first in
     let none : first - first ≡ 0 = omega arith in
-    (omega arith, omega arith, rw none refl)
+    (omega arith, rw none refl)
 
 pub agrees-requires : goal.agrees-requires
 agrees-requires c =
@@ -25,19 +25,19 @@ tell_count-requires c = sym c.agrees.ensures.value ∙ c.if-agrees.true
 pub overflow_add-right : goal.overflow_add-right
 overflow_add-right c =
     let a = c.args in
-    omega (arith, c.loop-count.invariant.2, all_right a.job a.tape.now a.first (c.loop-count.count - a.first))
+    omega (arith, c.loop-count.invariant.1, all_right a.job a.tape.now a.first (c.loop-count.count - a.first))
 
 pub loop-count-preserved : goal.loop-count-preserved
 loop-count-preserved c =
     let a = c.args in
     let told = c.agrees.ensures.value in
-    let more = one_more a.job a.tape.now a.first c.loop-count.count c.loop-count.right c.loop-count.invariant.0 c.loop-count.invariant.2 in
-    elim c.if-agrees.branch [ then-agrees w ↦ (omega arith, omega (arith, c.loop-count-test.true), omega (arith, w.right-is, more, ap indicator (sym told ∙ w.if-agrees.true))) | else-agrees w ↦ (omega arith, omega (arith, c.loop-count-test.true), omega (arith, w.right-is, more, ap indicator (sym told ∙ w.if-agrees.false))) ]
+    let more = one_more a.job a.tape.now a.first c.loop-count.count c.loop-count.right c.loop-count.invariant.0 c.loop-count.invariant.1 in
+    elim c.if-agrees.branch [ then-agrees w ↦ (omega arith, omega (arith, w.right-is, more, ap indicator (sym told ∙ w.if-agrees.true))) | else-agrees w ↦ (omega arith, omega (arith, w.right-is, more, ap indicator (sym told ∙ w.if-agrees.false))) ]
 
 pub returns : goal.returns
 returns c =
     let l = c.loop-count in
     let a = c.args in
-    let end : l.count ≡ a.last + 1 = omega (arith, l.invariant.1, c.loop-count-test.false) in
-    let counted = l.invariant.2 ∙ ap (λ (k : ℕ). sum (k - a.first) (right_at a.job a.tape.now a.first)) end in
+    let end : l.count ≡ a.last + 1 = omega arith in
+    let counted = l.invariant.1 ∙ ap (λ (k : ℕ). sum (k - a.first) (right_at a.job a.tape.now a.first)) end in
     record { value = counted; all = counted ∙ all_right a.job a.tape.now a.first (a.last + 1 - a.first) }

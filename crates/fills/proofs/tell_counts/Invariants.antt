@@ -1,5 +1,5 @@
 -- `fills::tell_counts` meets its contract. The loop's invariant: the counts passed that agree are counted.
-use Prim.Native.Nat.{◌+◌, ◌-◌, ◌≤◌}
+use Prim.Native.Nat.{◌-◌, ◌≤◌}
 use mathlib.Core.Path.{◌≡◌}
 use Rattle.lists.specs.Tabulate.{sum}
 use Rattle.fills.specs.Fillings.{right_at}
@@ -7,7 +7,4 @@ use Rattle.fills.proofs.tell_counts.Given as goal
 
 abbrev pub invariant-loop-count : goal.invariant-loop-count
 invariant-loop-count l =
-    (l.first ≤ l.count) × (l.count ≤ l.last + 1) × (l.right ≡ sum (l.count - l.first) (right_at l.job l.tape l.first))
-
-abbrev pub decreases-loop-count : goal.decreases-loop-count
-decreases-loop-count l = l.last + 1 - l.count
+    (l.first ≤ l.count) × (l.right ≡ sum (l.count - l.first) (right_at l.job l.tape l.first))

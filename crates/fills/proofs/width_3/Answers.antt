@@ -1,13 +1,12 @@
 -- `fills::width_3` meets its contract: the width is listed, the shares are below p.
 use mathlib.Core.Path.{refl}
 use native.Mathlib.Omega.{arith}
-use Rattle.field.specs.Width.{listed, modulus}
+use Rattle.field.specs.Width.{modulus}
 use Rattle.shares.specs.Side.{is_side}
 use Rattle.fills.proofs.width_3.Goals as goal
 
 pub deal-requires : goal.deal-requires
-unfolding listed
-deal-requires c = (refl, refl, refl)
+deal-requires c = (refl, refl)
 
 pub run_3-requires : goal.run_3-requires
 unfolding is_side modulus

@@ -13,11 +13,11 @@ use Rattle.fills.proofs.places.agrees.Goals.{Start}
 use Rattle.fills.proofs.places.agrees.Goals as goal
 
 -- the words lent are as many as the message has
-whole : (s : Start) → length s.args.words.now ≡ round_words s.args.job.n 1
+whole : (s : Start) → length s.args.words.now ≡ round_words s.args.job.n.bits 1
 whole s = ap length s.requires.1 ∙ job_length s.args.job s.args.tape.now
 
 fits : (s : Start) → length s.args.words.now + 3 ≤ 2892
-fits s = omega (arith, whole s, words_most s.args.job.n 1 s.requires.0.readable.width)
+fits s = omega (arith, whole s, words_most s.args.job.n.bits 1 s.requires.0.readable.width)
 
 pub slice_bounds-out-end : goal.slice_bounds-out-end
 slice_bounds-out-end c = omega (arith, fits (goal.at.slice_bounds-out-end c).Start, c.blank_words-out.ensures.0)

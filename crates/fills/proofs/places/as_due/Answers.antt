@@ -16,7 +16,7 @@ abbrev holds : List ℕ → List ℕ → ℕ → ℕ → Bool
 holds out words count j = eqb (get_or out j 0) (due_at words count j)
 
 pub loop-j-init : goal.loop-j-init
-loop-j-init c = (omega arith, below_none _)
+loop-j-init c = below_none _
 
 pub returns-then-out-j : goal.returns-then-out-j
 unfolding as_due
@@ -27,8 +27,7 @@ returns-then-out-j c =
     (ne_eqb _ _ (λ e. c.if-out-j.true (e ∙ sym c.due_at.ensures))))
 
 pub loop-j-preserved : goal.loop-j-preserved
-loop-j-preserved c =
-    (omega arith, below_more _ _ c.loop-j.invariant.1 (c.if-out-j.false ∙ c.due_at.ensures))
+loop-j-preserved c = below_more _ _ c.loop-j.invariant (c.if-out-j.false ∙ c.due_at.ensures)
 
 pub returns : goal.returns
 unfolding as_due
@@ -36,4 +35,4 @@ returns c =
     let a = c.args in
     sym
     (every_intro (length a.out.now) (holds a.out.now a.words.now a.count)
-    (λ i less. eq-eqb _ _ (c.loop-j.invariant.1 i (omega arith))))
+    (λ i less. eq-eqb _ _ (c.loop-j.invariant i (omega arith))))

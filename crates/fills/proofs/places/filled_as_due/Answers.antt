@@ -11,14 +11,13 @@ use Rattle.fills.proofs.places.filled_as_due.Goals.{Start}
 use Rattle.fills.proofs.places.filled_as_due.Goals as goal
 
 -- the words lent are as many as the message has
-whole : (s : Start) → length s.args.words.now ≡ round_words s.args.job.n 1
+whole : (s : Start) → length s.args.words.now ≡ round_words s.args.job.n.bits 1
 whole s = ap length s.requires.lent.1 ∙ job_length s.args.job s.args.tape.now
 
 pub fill-requires : goal.fill-requires
 fill-requires c =
-    let l = c.requires.lent.0 in
-    let room = ap length c.requires.out_value ∙ blank_length (round_words c.args.job.n 1 + 3) in
-    record { side_value = (l.side, l.x, l.y, l.readable); count_bound = (omega (arith, c.requires.lent.2, whole (goal.at.fill-requires c).Start), omega (arith, room)) }
+    let room = ap length c.requires.out_value ∙ blank_length (round_words c.args.job.n.bits 1 + 3) in
+    (omega (arith, c.requires.lent.2, whole (goal.at.fill-requires c).Start), omega (arith, room))
 
 pub returns : goal.returns
 returns c =

@@ -11,7 +11,7 @@ slice_bounds-speak-end c = refl
 pub speak-requires : goal.speak-requires
 speak-requires c =
     let l = c.requires.0 in
-    record { side_value = (l.side, l.x, l.y, l.readable); n_in_bounds = (omega (arith, small l.readable.width), omega (arith, c.requires.1)) }
+    (omega (arith, small l.readable.width), omega (arith, c.requires.1))
 
 pub returns : goal.returns
 returns c =

@@ -2,11 +2,12 @@
 use Prim.Native.Nat.{ℕ}
 use mathlib.Core.Bool.{true}
 use mathlib.Core.List.{List, ◌++◌}
-use mathlib.Core.Path.{◌≡◌, sym, ap₂, ◌∙◌}
+use mathlib.Core.Path.{◌≡◌, sym, ap, ap₂, ◌∙◌}
 use native.Mathlib.Omega.{arith}
 use lib.ListN.{length, take, drop}
 use lib.Seq.{length_front, take_at}
 use Rattle.field.specs.Width.{listed}
+use Rattle.tape.specs.Layout.{tape_length}
 use Rattle.exchange.proofs.Cut.{Cut, cut}
 use Rattle.vectors.specs.Numbers.{spelled}
 use Rattle.vectors.proofs.Deals.{deal_unlisted, deal_refused, deal_told_lem}
@@ -16,13 +17,13 @@ use Rattle.vectors.proofs.deal.dealt_same.Goals as goal
 -- both tapes are cut to their length
 module _ (b : After-blank_tape-t2) where
   width : listed b.args.n ≡ true
-  width = sym b.is_listed.ensures ∙ b.if-not-is_listed.false
+  width = sym b.in-Some.ensures.listed
 
   cut1 : Cut b.args.n b.tape_words-len.result b.blank_tape-t1.result
-  cut1 = cut _ _ _ width b.tape_words-len.ensures b.blank_tape-t1.ensures
+  cut1 = cut _ _ _ width (b.tape_words-len.ensures ∙ ap tape_length b.in-Some.ensures.bits) b.blank_tape-t1.ensures
 
   cut2 : Cut b.args.n b.tape_words-len.result b.blank_tape-t2.result
-  cut2 = cut _ _ _ width b.tape_words-len.ensures b.blank_tape-t2.ensures
+  cut2 = cut _ _ _ width (b.tape_words-len.ensures ∙ ap tape_length b.in-Some.ensures.bits) b.blank_tape-t2.ensures
 
 module _ (d : After-deal) where
   abbrev words : ℕ
@@ -65,10 +66,10 @@ returns c =
     c.deal.result (new1 d) (new2 d) c.deal.ensures v.text.now v.from c.both_same-c.result (sym c.is_err.ensures.value ∙ c.if-is_err.false)
     (c.both_same-c.ensures ∙ ap₂ (λ (x y : List ℕ). spelled v.text.now v.from (x ++ y)) (front1 d (cut1 b)) (front2 d (cut2 b)))
 
-pub returns-then-not-is_listed : goal.returns-then-not-is_listed
-returns-then-not-is_listed c =
+pub returns-in_default : goal.returns-in_default
+returns-in_default c =
     let v = c.args in
-    deal_unlisted v.text.now v.from v.seed v.n v.pair v.number (sym c.is_listed.ensures ∙ c.if-not-is_listed.true)
+    deal_unlisted v.text.now v.from v.seed v.n v.pair v.number (sym c.in_default.ensures.listed)
 
 pub returns-then-is_err : goal.returns-then-is_err
 returns-then-is_err c =
@@ -77,9 +78,6 @@ returns-then-is_err c =
     let d = (goal.at.returns-then-is_err c).After-deal in
     deal_refused v.seed v.n v.pair v.number _ _ (width b) (cut1 b).whole (cut2 b).whole
     c.deal.result (new1 d) (new2 d) c.deal.ensures v.text.now v.from (sym c.is_err.ensures.value ∙ c.if-is_err.true)
-
-pub tape_words-len-requires : goal.tape_words-len-requires
-tape_words-len-requires c = sym c.is_listed.ensures ∙ c.if-not-is_listed.false
 
 pub slice_bounds-t1-end : goal.slice_bounds-t1-end
 slice_bounds-t1-end c = (cut1 (goal.at.slice_bounds-t1-end c).After-blank_tape-t2).fits

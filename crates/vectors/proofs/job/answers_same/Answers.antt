@@ -9,5 +9,5 @@ use Rattle.vectors.proofs.job.answers_same.Goals as goal
 pub returns : goal.returns
 returns c =
     let a = c.args in
-    let shares = ap₂ (λ (x y : ℕ). spelled a.text.now a.from (x ∷ y ∷ [])) c.share_of.ensures c.share_of-2.ensures in
+    let shares = ap₂ (λ (x y : ℕ). spelled a.text.now a.from (x ∷ y ∷ [])) c.share_in.ensures c.share_in-2.ensures in
     ap (λ (d : Cursor). d.ok) (c.same-c.ensures ∙ shares)

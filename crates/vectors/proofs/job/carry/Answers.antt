@@ -6,7 +6,7 @@ pub returns-then-not-respell : goal.returns-then-not-respell
 returns-then-not-respell c =
     let v = c.args in
     let as_is = c.if-not-respell.true in
-    record { value = rw as_is; carried = rw as_is (delivered_as_is v.n v.words.now) }
+    record { value = rw as_is; carried = rw as_is (delivered_as_is v.n.bits v.words.now) }
 
 pub returns : goal.returns
 returns c =

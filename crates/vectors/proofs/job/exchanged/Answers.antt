@@ -32,10 +32,10 @@ reached d ok = rw (sym ok) refl
 module _ (l : At-loop-heard) where
   -- the two boxes, and what they held first
   abbrev box1 : Party
-  box1 = party_of l.args.boxes.box1 l.args.t1.now
+  box1 = party_of l.args.s1.now l.args.t1.now
 
   abbrev box2 : Party
-  box2 = party_of l.args.boxes.box2 l.args.t2.now
+  box2 = party_of l.args.s2.now l.args.t2.now
 
   abbrev first : Both
   first = works l.args.w1.now l.args.w2.now
@@ -44,12 +44,12 @@ module _ (l : At-loop-heard) where
   abbrev Course1 : ℕ → Type 0
   Course1 k =
       let v = l.args in
-      Course v.boxes.box1 v.number v.t1.now k (exchanged box1 box2 first k).own l.loop-heard.due.box1 l.loop-heard.w1
+      Course v.s1.now v.number v.t1.now k (exchanged box1 box2 first k).own l.loop-heard.s1 l.loop-heard.w1
 
   abbrev Course2 : ℕ → Type 0
   Course2 k =
       let v = l.args in
-      Course v.boxes.box2 v.number v.t2.now k (exchanged box1 box2 first k).others l.loop-heard.due.box2 l.loop-heard.w2
+      Course v.s2.now v.number v.t2.now k (exchanged box1 box2 first k).others l.loop-heard.s2 l.loop-heard.w2
 
   abbrev ToldAt : ℕ → Type 0
   ToldAt k = up_to l.loop-heard.at ≡ read l.args.text.now l.args.from box1 box2 first k
@@ -60,37 +60,37 @@ module _ (l : At-loop-heard) where
   -- where the loop ends, all rounds but the last are heard
   module _ (end : earlier_rounds ≤ l.loop-heard.heard) where
     all_heard : l.loop-heard.heard ≡ earlier_rounds
-    all_heard = omega (arith, end, l.loop-heard.invariant.0)
+    all_heard = omega (arith, end)
 
     ended1 : Course1 earlier_rounds
-    ended1 = subst Course1 all_heard l.loop-heard.invariant.1
+    ended1 = subst Course1 all_heard l.loop-heard.invariant.box1
 
     ended2 : Course2 earlier_rounds
-    ended2 = subst Course2 all_heard l.loop-heard.invariant.2
+    ended2 = subst Course2 all_heard l.loop-heard.invariant.box2
 
     told : ToldAt earlier_rounds
-    told = subst ToldAt all_heard l.loop-heard.invariant.5
+    told = subst ToldAt all_heard l.loop-heard.invariant.told
 
     counted : CountedAt earlier_rounds
-    counted = subst CountedAt all_heard l.loop-heard.invariant.6
+    counted = subst CountedAt all_heard l.loop-heard.invariant.counted
 
   -- the two have one width
-  one_width : l.loop-heard.due.box1.n ≡ l.loop-heard.due.box2.n
-  one_width = let inv = l.loop-heard.invariant in course_width inv.1 ∙ l.requires.width ∙ sym (course_width inv.2)
+  one_width : l.loop-heard.s1.n ≡ l.loop-heard.s2.n
+  one_width = let inv = l.loop-heard.invariant in course_width inv.box1 ∙ l.requires.width ∙ sym (course_width inv.box2)
 
   -- so many rounds' zeros fit a word
   zeros_small : (k : ℕ) → zeros_to l.args.board box1 box2 first k ≤ k * 5778
   zeros_small k =
       let v = l.args in
-      let width1 = (ranged v.boxes.box1 l.requires.box1.ranged).width in
-      let width2 = (ranged v.boxes.box2 l.requires.box2.ranged).width in
+      let width1 = (ranged v.s1.now l.requires.box1.ranged).width in
+      let width2 = (ranged v.s2.now l.requires.box2.ranged).width in
       zeros_fit v.board box1 box2 first width1 width2 k
 
   -- a round's messages are those that the exchange has
   abbrev due_sends : ℕ → List ℕ
   due_sends round =
       let v = l.args in
-      messages (party_of l.loop-heard.due.box1 v.t1.now) (party_of l.loop-heard.due.box2 v.t2.now) (works l.loop-heard.w1 l.loop-heard.w2) round
+      messages (party_of l.loop-heard.s1 v.t1.now) (party_of l.loop-heard.s2 v.t2.now) (works l.loop-heard.w1 l.loop-heard.w2) round
 
   abbrev sent : ℕ → ℕ → List ℕ
   sent k round = messages box1 box2 (exchanged box1 box2 first k) round
@@ -114,19 +114,17 @@ module _ (l : At-loop-heard) where
 pub loop-heard-init : goal.loop-heard-init
 unfolding messages_to spelled exchanged
 loop-heard-init c =
-    let v = c.args in (
-      omega arith,
-      course_first v.boxes.box1 v.number v.t1.now v.w1.now c.requires.box1,
-      course_first v.boxes.box2 v.number v.t2.now v.w2.now c.requires.box2,
-      refl,
-      refl,
-      refl,
-      zeros_none v.board (party_of v.boxes.box1 v.t1.now) (party_of v.boxes.box2 v.t2.now) (works v.w1.now v.w2.now),
-    )
+    let v = c.args in
+    record {
+      box1 = course_first v.s1.now v.number v.t1.now v.w1.now c.requires.box1;
+      box2 = course_first v.s2.now v.number v.t2.now v.w2.now c.requires.box2;
+      told = refl;
+      counted = zeros_none v.board (party_of v.s1.now v.t1.now) (party_of v.s2.now v.t2.now) (works v.w1.now v.w2.now);
+    }
 
 pub compared-r-requires : goal.compared-r-requires
 compared-r-requires c =
-    record { box1 = c.loop-heard.invariant.1.due; box2 = c.loop-heard.invariant.2.due; width = one_width (goal.at.compared-r-requires c).At-loop-heard }
+    record { box1 = c.loop-heard.invariant.box1.due; box2 = c.loop-heard.invariant.box2.due; width = one_width (goal.at.compared-r-requires c).At-loop-heard }
 
 pub returns-then-not-c : goal.returns-then-not-c
 returns-then-not-c c =
@@ -134,8 +132,8 @@ returns-then-not-c c =
     let less = c.loop-heard-test.true in
     let inv = c.loop-heard.invariant in
     let k = c.loop-heard.heard in
-    let reads = round_read l k inv.1 inv.2 (k + 1) c.compared-r.result c.compared-r.ensures.read in
-    let fails = told_fails c.args.text.now c.args.from (box1 l) (box2 l) (first l) k c.loop-heard.at inv.5
+    let reads = round_read l k inv.box1 inv.box2 (k + 1) c.compared-r.result c.compared-r.ensures.read in
+    let fails = told_fails c.args.text.now c.args.from (box1 l) (box2 l) (first l) k c.loop-heard.at inv.told
     c.compared-r.result.read reads (omega (arith, less)) (not-true _ c.if-not-c.true) in
     record { agrees_value = c.untold.ensures ∙ fails; zeros = untold_says _ c.untold.ensures }
 
@@ -144,8 +142,8 @@ overflow_add-zeros c =
     let l = (goal.at.overflow_add-zeros c).At-loop-heard in
     let inv = c.loop-heard.invariant in
     let k = c.loop-heard.heard in
-    let here = round_zeros l k inv.1 inv.2 (k + 1) c.compared-r.result c.compared-r.ensures.zeros in
-    omega (arith, more_zeros l k inv.6 c.compared-r.result here, zeros_small l (k + 1), c.loop-heard-test.true)
+    let here = round_zeros l k inv.box1 inv.box2 (k + 1) c.compared-r.result c.compared-r.ensures.zeros in
+    omega (arith, more_zeros l k inv.counted c.compared-r.result here, zeros_small l (k + 1), c.loop-heard-test.true)
 
 pub loop-heard-preserved : goal.loop-heard-preserved
 loop-heard-preserved c =
@@ -155,19 +153,17 @@ loop-heard-preserved c =
     let k = c.loop-heard.heard in
     let r = c.compared-r.result in
     let ok = not-false r.read.ok c.if-not-c.false in
-    let reads = round_read l k inv.1 inv.2 (k + 1) r c.compared-r.ensures.read in
-    let here = round_zeros l k inv.1 inv.2 (k + 1) r c.compared-r.ensures.zeros in
-    let more = told_more c.args.text.now c.args.from (box1 l) (box2 l) (first l) k c.loop-heard.at inv.5 r.read reads in
+    let reads = round_read l k inv.box1 inv.box2 (k + 1) r c.compared-r.ensures.read in
+    let here = round_zeros l k inv.box1 inv.box2 (k + 1) r c.compared-r.ensures.zeros in
+    let more = told_more c.args.text.now c.args.from (box1 l) (box2 l) (first l) k c.loop-heard.at inv.told r.read reads in
     let own = more_own (box1 l) (box2 l) (first l) k in
-    let others = more_others (box1 l) (box2 l) (first l) k in (
-      omega (arith, less),
-      course_next inv.1 _ _ (course_sends inv.2 (k + 1)) r.heard.box1 _ less c.compared-r.ensures.box1 _ own,
-      course_next inv.2 _ _ (course_sends inv.1 (k + 1)) r.heard.box2 _ less c.compared-r.ensures.box2 _ others,
-      omega (arith, c.compared-r.auto.w1, inv.3),
-      omega (arith, c.compared-r.auto.w2, inv.4),
-      reached r.read ok ∙ more,
-      more_zeros l k inv.6 r here,
-    )
+    let others = more_others (box1 l) (box2 l) (first l) k in
+    record {
+      box1 = course_next inv.box1 _ _ (course_sends inv.box2 (k + 1)) _ c.compared-r.new.s1 _ less c.compared-r.ensures.box1 _ own;
+      box2 = course_next inv.box2 _ _ (course_sends inv.box1 (k + 1)) _ c.compared-r.new.s2 _ less c.compared-r.ensures.box2 _ others;
+      told = reached r.read ok ∙ more;
+      counted = more_zeros l k inv.counted r here;
+    }
 
 pub compared-last-requires : goal.compared-last-requires
 compared-last-requires c =
@@ -205,8 +201,8 @@ returns c =
     let reads = round_read l earlier_rounds on1 on2 last_round r c.compared-last.ensures.read in
     let here = round_zeros l earlier_rounds on1 on2 last_round r c.compared-last.ensures.zeros in
     let more = told_more v.text.now v.from (box1 l) (box2 l) (first l) earlier_rounds c.loop-heard.at (told l end) r.read reads in
-    let share1 = course_last on1 _ _ (course_sends on2 last_round) r.heard.box1 _ refl c.compared-last.ensures.box1 in
-    let share2 = course_last on2 _ _ (course_sends on1 last_round) r.heard.box2 _ refl c.compared-last.ensures.box2 in
+    let share1 = course_last on1 _ _ (course_sends on2 last_round) _ c.compared-last.new.s1 _ refl c.compared-last.ensures.box1 in
+    let share2 = course_last on2 _ _ (course_sends on1 last_round) _ c.compared-last.new.s2 _ refl c.compared-last.ensures.box2 in
     let own = ap share_of (share1 ∙ ap share (sym (last_own (box1 l) (box2 l) (first l)))) in
     let others = ap share_of (share2 ∙ ap share (sym (last_others (box1 l) (box2 l) (first l)))) in
     let shares = ap₂ (λ (x y : ℕ). (spelled v.text.now r.read.at (x ∷ y ∷ [])).ok) own others in

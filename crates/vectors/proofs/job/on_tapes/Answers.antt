@@ -23,13 +23,13 @@ use Rattle.vectors.proofs.job.on_tapes.Goals as goal
 -- both tapes are cut to their length
 module _ (b : After-blank_tape-t2) where
   width : listed b.args.n ≡ true
-  width = sym b.is_listed.ensures ∙ b.if-not-is_listed.false
+  width = sym b.in-Some.ensures.listed
 
   cut1 : Cut b.args.n b.tape_words-len.result b.blank_tape-t1.result
-  cut1 = cut _ _ _ width b.tape_words-len.ensures b.blank_tape-t1.ensures
+  cut1 = cut _ _ _ width (b.tape_words-len.ensures ∙ ap tape_length b.in-Some.ensures.bits) b.blank_tape-t1.ensures
 
   cut2 : Cut b.args.n b.tape_words-len.result b.blank_tape-t2.result
-  cut2 = cut _ _ _ width b.tape_words-len.ensures b.blank_tape-t2.ensures
+  cut2 = cut _ _ _ width (b.tape_words-len.ensures ∙ ap tape_length b.in-Some.ensures.bits) b.blank_tape-t2.ensures
 
 -- and a tape still fits when its front is filled
 front_fits : (n : ℕ) (l front : List ℕ) → n ≤ length l → length front ≡ length (take n l) → n ≤ length (front ++ drop n l)
@@ -40,15 +40,12 @@ read_tape : {n words : ℕ} {tape : List ℕ} → Cut n words tape → (text : L
     → read ≡ read_to (length (take words tape)) text from → read ≡ read_to (tape_length n) text from
 read_tape cut text from read is = is ∙ ap (λ (k : ℕ). read_to k text from) cut.whole
 
-pub returns-then-not-is_listed : goal.returns-then-not-is_listed
-returns-then-not-is_listed c =
+pub returns-in_default : goal.returns-in_default
+returns-in_default c =
     let v = c.args in
     let unlisted = tapes_unlisted v.text.now v.from v.n v.pair v.number v.box1.x v.box1.y v.box2.x v.box2.y
-    (sym c.is_listed.ensures ∙ c.if-not-is_listed.true) in
+    (sym c.in_default.ensures.listed) in
     record { agrees_value = c.untold.ensures ∙ unlisted; zeros = untold_says _ c.untold.ensures }
-
-pub tape_words-len-requires : goal.tape_words-len-requires
-tape_words-len-requires c = sym c.is_listed.ensures ∙ c.if-not-is_listed.false
 
 pub slice_bounds-t1-end : goal.slice_bounds-t1-end
 slice_bounds-t1-end c = (cut1 (goal.at.slice_bounds-t1-end c).After-blank_tape-t2).fits
@@ -79,7 +76,7 @@ returns c =
     let read2 = read_tape (cut2 b) v.text.now c.fill-read1.result.at c.fill-read2.result c.fill-read2.ensures.value in
     let ok1 = not-false c.fill-read1.result.ok c.if-not-read1.false in
     let ok2 = not-false c.fill-read2.result.ok c.if-not-read2.false in
-    let count = c.tape_words-len.ensures in
+    let count = c.tape_words-len.ensures ∙ ap tape_length c.in-Some.ensures.bits in
     let t1 = filled_front v.text.now v.from _ _ c.fill-read1.new.into c.fill-read1.result (cut1 b).fits c.fill-read1.ensures.value ok1 c.fill-read1.ensures.filled in
     let t2 = filled_front v.text.now c.fill-read1.result.at _ _ c.fill-read2.new.into c.fill-read2.result (cut2 b).fits c.fill-read2.ensures.value ok2 c.fill-read2.ensures.filled in
     let tape1 = t1 ∙ ap (λ (k : ℕ). numbers_from k v.text.now v.from) count in
