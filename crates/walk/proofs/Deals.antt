@@ -1,15 +1,10 @@
 -- What is told of a deal is its rule's: both buffers are full of filler before it, so they are kept where they are full of it after.
 use Prim.Native.Nat.{ℕ, zero, suc, ◌≤◌}
-use Rattle.std.specs.Prelude.{Result, ⊤}
 use mathlib.Core.Path.{◌≡◌, refl, sym, ap, ◌∙◌}
-use mathlib.Core.Bool.{Bool, true, ◌&&◌}
 use mathlib.Core.List.{List, ◌∷◌}
 use native.Mathlib.Nat.{le_of_suc-le-suc}
 use native.Mathlib.Omega.{arith}
 use lib.ListN.{length, take, length-replicate}
-use Rattle.lists.proofs.Tests.{and_left, and_right, and_both}
-use Rattle.refusals.specs.declared.Refusal.{Refusal}
-use Rattle.deals.specs.Deals.{Deal, outcome}
 use Rattle.walk.specs.Walk.{filler}
 use Rattle.walk.specs.declared.dealing.Attempt.{Attempt}
 use Rattle.walk.specs.Deals.{dealt, Told}

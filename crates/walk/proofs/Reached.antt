@@ -2,11 +2,11 @@
 use Prim.Native.Nat.{ℕ, zero, suc, ◌+◌, ◌%◌, ◌<◌}
 use mathlib.Core.Path.{◌≡◌, refl, sym, ap, ◌∙◌}
 use mathlib.Core.Bool.{Bool, true, false, cond, false≢true}
-use mathlib.Core.List.{List, ◌++◌}
+use mathlib.Core.List.{◌++◌}
 use native.Mathlib.Omega.{arith}
 use borrow.Author.Tests.{ne_eqb}
 use lib.Dec.{eqb}
-use lib.ListN.{length, replicate}
+use lib.ListN.{replicate}
 use Rattle.lists.specs.Tabulate.{tabulate}
 use Rattle.field.specs.Width.{listed, modulus}
 use Rattle.shares.specs.Side.{is_side}
@@ -16,21 +16,14 @@ use Rattle.protocol.specs.Rounds.{round_words}
 use Rattle.tally.specs.Tally.{tally_fits, tapes_of, is_fresh, late, marked}
 use Rattle.rules.specs.Modes.{in_range, mode_of}
 use Rattle.rules.specs.Grounds.{wake_ground, start_ground, speak_ground}
-use Rattle.std.specs.Prelude.{Result as Answer}
-use Rattle.refusals.specs.declared.Refusal.{Refusal}
-use Rattle.rules.specs.Answers.{Reply, reply_of}
-use Rattle.rules.specs.Calls.{Result, outcome, wake_rule, start_rule, speak_rule}
+use Rattle.rules.specs.Calls.{wake_rule, start_rule, speak_rule}
 use Rattle.rules.specs.declared.state.Turn.TheVariants.{Speak as SpeakDue, Hear as HearDue}
-use Rattle.rules.specs.declared.state.State.{State}
 use Rattle.exchange.specs.Opening.{first_state}
-use Rattle.walk.specs.declared.answers.Said.{Said}
 use Rattle.walk.specs.declared.job_steps.Step.{Step}
 use Rattle.walk.specs.declared.job_steps.Step.TheVariants.{Wake, Start, Speak, Hear}
-use Rattle.walk.specs.Said.{as_reply}
 use Rattle.walk.specs.JobSteps.{step_at}
-use Rattle.walk.specs.declared.calls.Tried.{Tried}
 use Rattle.walk.specs.declared.progress.BoxMemory.{BoxMemory}
-use Rattle.walk.specs.Walk.{idle_state, job_state, box_tape, filler, fresh_tally, tally_after, Answered, After}
+use Rattle.walk.specs.Walk.{idle_state, job_state, box_tape, fresh_tally, tally_after, After}
 
 -- ---- box 1 wakes, starts its job on tape 0 and speaks
 

@@ -7,7 +7,6 @@ use Rattle.protocol.specs.Rounds.{round_words}
 use Rattle.rules.specs.Answers.{reply_of}
 use Rattle.rules.specs.Calls.{Result, hear_rule}
 use Rattle.rules.specs.declared.state.Turn.{Turn}
-use Rattle.rules.specs.declared.state.Turn.TheVariants.{Speak, Hear}
 use Rattle.rules.specs.declared.state.Phase.TheVariants.{Idle, Job}
 use Rattle.rules.specs.declared.state.State.{State}
 use Rattle.exchange.specs.Opening.{refusal_of}

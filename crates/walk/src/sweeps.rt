@@ -13,6 +13,7 @@ use crate::zeros::as_zeros;
 use refusals::Refusal;
 use std::io;
 
+// An enum and not a closure for each test: the theorem on the counts is stated over the sweeps, so every closure would need its sweep's clause beside it.
 #[derive(Clone, Copy)]
 pub enum Sweep {
     Bytes,
