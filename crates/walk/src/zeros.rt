@@ -9,6 +9,7 @@ use crate::progress::BoxMemory;
 use std::io;
 
 // Whether two boxes gave the same answer, and have the same state and work.
+// Part by part: with a derived == on the whole box the proof of the caller was tried and did not close.
 fn same(a: BoxMemory, b: BoxMemory) -> bool
     ensures { (result ≡ true → (a.answer ≡ b.answer) × (a.state ≡ b.state) × (a.work ≡ b.work))
         × (a.answer ≡ b.answer → a.state ≡ b.state → a.work ≡ b.work → result ≡ true) }
