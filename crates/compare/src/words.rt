@@ -7,7 +7,7 @@ use field::Width;
 
 pub const LAST_ROUND: u32 = 5;
 
-// How many words a round opens.
+// How many words a round opens. Here and in speak and hear a match on the round's number, the form that document 01's list of forms asks for.
 #[tactic(auto, using(tape::proofs::Sizes::small), unfolding(protocol::specs::Rounds::round_words))]
 pub fn words_of(n: Width, round: u32) -> usize
     ensures { result ≡ round_words n.bits round }

@@ -55,6 +55,8 @@ pub fn begin(
     limit_box::start(state, number, own.x, own.y, tape, work, tally)
 }
 
+// Here and below both boxes' states and buffers go side by side: a round writes some of them and reads others, and each clause is of one box, so a struct
+// of what a box is lent would be no plainer.
 // Both boxes speak, and have the hear due then. The words of each stand at the front of its out.
 pub fn both_speak(
     number: u32,

@@ -1,4 +1,5 @@
-// Memory for jobs of any width: room for the longest tape, work and message, and a job with buffers of its own.
+// Memory for jobs of any width: room for the longest tape, work and message, and a job with buffers of its own. There is no heap, so a job of a narrower
+// width uses the first words of each.
 ghost use Rattle.std.specs.Prelude.{◌≡◌, true, ◌+◌, ◌%◌, ◌<◌, ◌&&◌, eqb, ltb, length};
 ghost use Rattle.field.specs.Width.{modulus};
 ghost use Rattle.tape.specs.Dealt.{Dealt};

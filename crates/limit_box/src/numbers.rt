@@ -4,6 +4,7 @@ ghost use Rattle.std.specs.Prelude.{◌≡◌};
 
 use refusals::Refusal;
 
+// A call's error is the enum; its number is asked for here alone, since document 01 gives refusals by number.
 pub fn number_of(refusal: Refusal) -> u32
     ensures { result ≡ number_of refusal }
 {

@@ -74,6 +74,7 @@ const NOT_NUMBERS: [&str; 13] = [
     "1111111111111111111111111111111111111111111111111111111111111111111111111111111111111111111111 5 4 1 2\n",
 ];
 
+// As plancases has it, but for the function and the room of its text: one for both would be a crate of its own for eight lines.
 fn show(rt: &impl Print, title: &str, lines: &[&str]) -> io::Result<()> {
     println!(rt; "{title}")?;
     for line in lines {

@@ -56,6 +56,7 @@ const NOT_NUMBERS: [&str; 11] = [
     "3 1111111111111111111111111111111111111111111111111111111111111111111111111111111111111111111111\n",
 ];
 
+// As plaincases has it, but for the function and the room of its text: one for both would be a crate of its own for eight lines.
 fn show(rt: &impl Print, title: &str, lines: &[&str]) -> io::Result<()> {
     println!(rt; "{title}")?;
     for line in lines {
