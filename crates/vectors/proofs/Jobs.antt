@@ -2,7 +2,7 @@
 use Prim.Native.Nat.{ℕ}
 use mathlib.Core.Path.{◌≡◌, refl, sym, ap, ◌∙◌}
 use native.Mathlib.Omega.{arith}
-use mathlib.Core.Bool.{Bool, true, false, not, ◌&&◌, false≢true, true≢false}
+use mathlib.Core.Bool.{Bool, true, false, not, ◌&&◌, true≢false}
 use mathlib.Core.List.{List}
 use borrow.Author.Tests.{eq-eqb, ne_eqb}
 use lib.Dec.{eqb}
@@ -11,7 +11,9 @@ use Rattle.lists.proofs.Tests.{and_left, and_right, and-false}
 use Rattle.field.specs.Width.{listed}
 use Rattle.tape.specs.Layout.{tape_length}
 use Rattle.protocol.specs.Products.{Party, party}
-use Rattle.std.specs.Prelude.{Ok, Err, is_err, ⊤, Result as Answer}
+use Rattle.std.specs.Prelude.{Ok, Err, is_err, IfSome, ⊤, Result as Answer}
+use Rattle.std.specs.Option.{is_some}
+use Rattle.std.specs.Bool.{then_some}
 use Rattle.refusals.specs.Numbers.{number_of}
 use Rattle.refusals.specs.declared.Refusal.{Refusal}
 use Rattle.refusals.proofs.Numbers.{numbered}
@@ -25,9 +27,17 @@ use Rattle.vectors.specs.declared.numbers.Cursor.{Cursor}
 use Rattle.vectors.specs.Numbers.{numbers_from, read_to, spelled}
 use Rattle.vectors.specs.Job.{transcript, unused_tally, comes, job_told, tapes_told, agreed}
 
--- of what doesn't agree nothing is said
-pub untold_says : {A : Type 0} (agrees : Bool) → agrees ≡ false → agrees ≡ true → A
-untold_says agrees untold told = absurd (false≢true (sym untold ∙ told))
+-- a number that is given where a test holds
+pub some_if : {test told : Bool} (v : ℕ) → test ≡ told → is_some (then_some test v) ≡ told
+some_if {test} {told} v e = go test ∙ e
+  where
+    go : (t : Bool) → is_some (then_some t v) ≡ t
+    go true = refl
+    go false = refl
+
+pub some_is : (test : Bool) {v right : ℕ} → v ≡ right → IfSome (then_some test v) (λ given. given ≡ right)
+some_is true e = e
+some_is false e = tt
 
 -- what a start answered
 went : (answer : Answer ⊤ Refusal) → eqb (refusal_of (reply_of (λ _. started) answer)) 0 ≡ not (is_err answer)

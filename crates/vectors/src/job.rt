@@ -1,5 +1,6 @@
 // Jobs of both boxes against the words of their files.
-ghost use Rattle.std.specs.Prelude.{◌≡◌, true, false, [], ◌∷◌, length};
+ghost use Rattle.std.specs.Prelude.{◌≡◌, [], ◌∷◌, length, IfSome};
+ghost use Rattle.std.specs.Option.{is_some};
 ghost use Rattle.shares.specs.Reading.{delivered};
 ghost use Rattle.protocol.specs.Rounds.{last_round, message};
 ghost use Rattle.rules.specs.Answers.{heard_or_share, reply_of};
@@ -43,52 +44,39 @@ fn name_of(w: u32, k: u8) -> [u8; 12]
     ]
 }
 
-// What came of a file's job: whether it agrees, the tape number that its text names, and how many zeros of its messages were respelled.
-#[derive(Clone, Copy)]
+// A file's job, both of whose boxes agree with it: the tape number that its text names, and how many zeros of its messages were respelled.
+#[derive(Clone, Copy, Debug, PartialEq, Eq)]
 pub struct Agreement {
-    pub agrees: bool,
     pub number: u32,
     pub zeros: usize,
 }
 
-// Of a file that is not there or has no job of the width.
-fn none() -> Agreement
-    ensures { result.agrees ≡ false }
-{
-    Agreement {
-        agrees: false,
-        number: 0,
-        zeros: 0,
-    }
-}
-
-// Whether a width's file is there and every word of its job is as the boxes give it; with a board between the boxes every zero of a message
+// Of a width's file that is there and has every word of its job as the boxes give it; with a board between the boxes every zero of a message
 // comes to the other as p. Which text was read cannot be said, only that one that agrees has that tape number and so many zeros: both are printed,
 // so that a file read in another's place shows, and a zero that was left as it is.
-pub fn compared_with(rt: &impl Files, w: u32, k: u8, board: bool) -> Agreement
-    ensures { result.agrees ≡ true → Agreeing w board result.number result.zeros }
+pub fn compared_with(rt: &impl Files, w: u32, k: u8, board: bool) -> Option<Agreement>
+    ensures { IfSome result (λ told. Agreeing w board told.number told.zeros) }
 {
     let name = name_of(w, k);
     let mut text = [0u8; 262144];
-    let Some(len) = crate::data::read(rt, &name, &mut text) else {
-        return none();
-    };
+    let len = crate::data::read(rt, &name, &mut text)?;
     run(&text[..len], w, board)
 }
 
 // A text has n, which is the width asked for, pair and tape number, the shares x1 y1 x2 y2, both tapes, both messages of each
 // round, both answer shares.
-fn run(text: &[u8], w: u32, board: bool) -> Agreement
-    ensures agrees_value { (result.agrees ≡ agreed w text.now) × (result.agrees ≡ true → result.number ≡ tape_number text.now) }
-    ensures zeros { result.agrees ≡ true → result.zeros ≡ respelled_in board (sent text.now) }
+fn run(text: &[u8], w: u32, board: bool) -> Option<Agreement>
+    ensures agrees { is_some result ≡ agreed w text.now }
+    ensures number { IfSome result (λ told. told.number ≡ tape_number text.now) }
+    ensures zeros { IfSome result (λ told. told.zeros ≡ respelled_in board (sent text.now)) }
 {
     let mut head = [0u32; 7];
     let c = crate::numbers::fill(text, 0, &mut head);
     if !c.ok {
-        return none();
+        return None;
     }
     if head[0] != w {
-        return none();
+        return None;
     }
     let box1 = Shares {
         x: head[3],
@@ -98,31 +86,16 @@ fn run(text: &[u8], w: u32, board: bool) -> Agreement
         x: head[5],
         y: head[6],
     };
-    let told = on_tapes(text, c.at, head[0], head[1], head[2], box1, box2, board);
-    Agreement {
-        agrees: told.agrees,
+    let Some(zeros) = on_tapes(text, c.at, head[0], head[1], head[2], box1, box2, board) else {
+        return None;
+    };
+    Some(Agreement {
         number: head[2],
-        zeros: told.zeros,
-    }
+        zeros,
+    })
 }
 
-// Whether a job agrees, and how many zeros of its messages were respelled.
-#[derive(Clone, Copy)]
-struct Told {
-    agrees: bool,
-    zeros: usize,
-}
-
-// Of a job that doesn't agree.
-fn untold() -> Told
-    ensures { result.agrees ≡ false }
-{
-    Told {
-        agrees: false,
-        zeros: 0,
-    }
-}
-
+// How many zeros of a job's messages were respelled, if the job agrees.
 fn on_tapes(
     text: &[u8],
     from: usize,
@@ -132,24 +105,23 @@ fn on_tapes(
     box1: Shares,
     box2: Shares,
     board: bool,
-) -> Told
-    ensures agrees_value { result.agrees ≡ tapes_told text.now from n pair number box1.x box1.y box2.x box2.y }
-    ensures zeros { result.agrees ≡ true
-        → result.zeros ≡ respelled_in board (tapes_sent text.now from n box1.x box1.y box2.x box2.y) }
+) -> Option<usize>
+    ensures agrees { is_some result ≡ tapes_told text.now from n pair number box1.x box1.y box2.x box2.y }
+    ensures zeros { IfSome result (λ zeros. zeros ≡ respelled_in board (tapes_sent text.now from n box1.x box1.y box2.x box2.y)) }
 {
     let Some(width) = Width::new(n) else {
-        return untold();
+        return None;
     };
     let len = tape::tape_words(width);
     let mut t1 = exchange::memory::blank_tape();
     let mut t2 = exchange::memory::blank_tape();
     let read1 = crate::numbers::fill(text, from, &mut t1[..len]);
     if !read1.ok {
-        return untold();
+        return None;
     }
     let read2 = crate::numbers::fill(text, read1.at, &mut t2[..len]);
     if !read2.ok {
-        return untold();
+        return None;
     }
     opened(
         text,
@@ -184,11 +156,10 @@ fn opened(
     t1: &[u32],
     t2: &[u32],
     board: bool,
-) -> Told
-    ensures agrees_value { result.agrees
+) -> Option<usize>
+    ensures agrees { is_some result
         ≡ job_told text.now from n pair number box1.x box1.y box2.x box2.y t1.now t2.now }
-    ensures zeros { result.agrees ≡ true
-        → result.zeros ≡ respelled_in board (job_sent n box1.x box1.y box2.x box2.y t1.now t2.now) }
+    ensures zeros { IfSome result (λ zeros. zeros ≡ respelled_in board (job_sent n box1.x box1.y box2.x box2.y t1.now t2.now)) }
 {
     let mut w1 = exchange::memory::blank_work();
     let mut w2 = exchange::memory::blank_work();
@@ -197,10 +168,10 @@ fn opened(
     let mut s1 = state::FIRST;
     let mut s2 = state::FIRST;
     if exchange::begin(&mut s1, n, 1, pair, number, box1, t1, &w1, &mut k1).is_err() {
-        return untold();
+        return None;
     }
     if exchange::begin(&mut s2, n, 2, pair, number, box2, t2, &w2, &mut k2).is_err() {
-        return untold();
+        return None;
     }
     exchanged(
         text, from, number, &mut s1, &mut s2, t1, t2, &mut w1, &mut w2, board,
@@ -219,15 +190,14 @@ fn exchanged(
     w1: &mut [u32],
     w2: &mut [u32],
     board: bool,
-) -> Told
+) -> Option<usize>
     requires { Due number 1 s1.old s2.old t1.now t2.now w1.old w2.old }
-    ensures agrees_value { result.agrees
+    ensures agrees { is_some result
         ≡ (spelled text.now from
         (transcript (party_of s1.old t1.now) (party_of s2.old t2.now) (works w1.old w2.old))).ok }
-    ensures zeros { result.agrees ≡ true → result.zeros
-        ≡ respelled_in board
+    ensures zeros { IfSome result (λ zeros. zeros ≡ respelled_in board
         (messages_to (party_of s1.old t1.now) (party_of s2.old t2.now)
-        (works w1.old w2.old) last_round) }
+        (works w1.old w2.old) last_round)) }
 {
     let mut at = from;
     let mut zeros = 0;
@@ -247,7 +217,7 @@ fn exchanged(
         );
         let c = r.read;
         if !c.ok {
-            return untold();
+            return None;
         }
         at = c.at;
         zeros += r.zeros;
@@ -255,12 +225,9 @@ fn exchanged(
     let last = compared(text, at, number, LAST_ROUND, s1, s2, t1, t2, w1, w2, board);
     let c = last.read;
     if !c.ok {
-        return untold();
+        return None;
     }
-    Told {
-        agrees: answers_same(text, c.at, last.heard),
-        zeros: zeros + last.zeros,
-    }
+    answers_same(text, c.at, last.heard).then_some(zeros + last.zeros)
 }
 
 // After a round: what both boxes heard, how far the text was read, whether it had both messages, and how many of their zeros were respelled.

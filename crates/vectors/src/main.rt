@@ -45,8 +45,7 @@ fn run_width(rt: &impl Files, n: Width, count: u8, board: bool) {
     let mut k: u8 = 0;
     while k < count {
         k += 1;
-        let told = job::compared_with(rt, n.bits, k, board);
-        if told.agrees {
+        if let Some(told) = job::compared_with(rt, n.bits, k, board) {
             io::write_all(1, b" ");
             io::print_decimal(1, told.number as u64);
             agreed += 1;
@@ -69,7 +68,7 @@ fn run_widths(rt: &impl Files, board: bool) {
 }
 
 // Says that a deal agrees, and which: only of one that does.
-fn tell_deal(told: deal::Agreement)
+fn tell_deal(told: deal::Deal)
     requires { AgreeingDeal told.seed told.width told.pair told.number }
 {
     io::write_all(1, b": width ");
@@ -85,12 +84,12 @@ fn tell_deal(told: deal::Agreement)
 
 fn run_deal(rt: &impl Files, name: &[u8]) {
     io::write_all(1, name);
-    let told = deal::compared_with(rt, name);
-    if !told.agrees {
-        io::write_all(1, b": does not agree\n");
-        return;
+    match deal::compared_with(rt, name) {
+        Some(told) => tell_deal(told),
+        None => {
+            io::write_all(1, b": does not agree\n");
+        }
     }
-    tell_deal(told);
 }
 
 fn main(rt: HostRuntime) {

@@ -4,7 +4,7 @@ use Rattle.vectors.proofs.Sent.{agreeing_small}
 use Rattle.vectors.proofs.run_width.Goals as goal
 
 pub overflow_add-zeros : goal.overflow_add-zeros
-overflow_add-zeros g c = omega (arith, agreeing_small (c.compared_with-told.ensures c.if-told.true), c.loop-k.invariant, c.loop-k-test.true)
+overflow_add-zeros g c = omega (arith, agreeing_small (c.in-Some.ensures), c.loop-k.invariant, c.loop-k-test.true)
 
-pub loop-k-preserved-then-told : goal.loop-k-preserved-then-told
-loop-k-preserved-then-told g c = omega (arith, agreeing_small (c.compared_with-told.ensures c.if-told.true), c.loop-k.invariant, c.loop-k-test.true)
+pub loop-k-preserved-in-Some : goal.loop-k-preserved-in-Some
+loop-k-preserved-in-Some g c = omega (arith, agreeing_small (c.in-Some.ensures), c.loop-k.invariant, c.loop-k-test.true)

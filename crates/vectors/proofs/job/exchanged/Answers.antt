@@ -19,7 +19,7 @@ use Rattle.vectors.specs.declared.job.Round.{Round}
 use Rattle.vectors.specs.Numbers.{spelled}
 use Rattle.vectors.specs.Job.{messages, messages_to}
 use Rattle.vectors.specs.Sent.{respelled_in}
-use Rattle.vectors.proofs.Jobs.{untold_says}
+use Rattle.vectors.proofs.Jobs.{some_if, some_is}
 use Rattle.vectors.proofs.Sent.{zeros_to, zeros_none, zeros_more, zeros_fit}
 use Rattle.vectors.proofs.Transcripts.{up_to, read, told_more, told_fails, told_last}
 use Rattle.vectors.proofs.job.exchanged.Goals.{At-loop-heard}
@@ -126,16 +126,16 @@ pub compared-r-requires : goal.compared-r-requires
 compared-r-requires c =
     record { box1 = c.loop-heard.invariant.box1.due; box2 = c.loop-heard.invariant.box2.due; width = one_width (goal.at.compared-r-requires c).At-loop-heard }
 
-pub returns-then-not-c : goal.returns-then-not-c
-returns-then-not-c c =
-    let l = (goal.at.returns-then-not-c c).At-loop-heard in
+pub returns-then-not-c-clause-agrees : goal.returns-then-not-c-clause-agrees
+returns-then-not-c-clause-agrees c =
+    let l = (goal.at.returns-then-not-c-clause-agrees c).At-loop-heard in
     let less = c.loop-heard-test.true in
     let inv = c.loop-heard.invariant in
     let k = c.loop-heard.heard in
     let reads = round_read l k inv.box1 inv.box2 (k + 1) c.compared-r.result c.compared-r.ensures.read in
     let fails = told_fails c.args.text.now c.args.from (box1 l) (box2 l) (first l) k c.loop-heard.at inv.told
     c.compared-r.result.read reads (omega (arith, less)) (not-true _ c.if-not-c.true) in
-    record { agrees_value = c.untold.ensures ∙ fails; zeros = untold_says _ c.untold.ensures }
+    fails
 
 pub overflow_add-zeros : goal.overflow_add-zeros
 overflow_add-zeros c =
@@ -171,19 +171,19 @@ compared-last-requires c =
     let end = c.loop-heard-test.false in
     record { box1 = (ended1 l end).due; box2 = (ended2 l end).due; width = one_width l }
 
-pub returns-then-not-c-2 : goal.returns-then-not-c-2
-returns-then-not-c-2 c =
-    let l = (goal.at.returns-then-not-c-2 c).At-loop-heard in
+pub returns-then-not-c-2-clause-agrees : goal.returns-then-not-c-2-clause-agrees
+returns-then-not-c-2-clause-agrees c =
+    let l = (goal.at.returns-then-not-c-2-clause-agrees c).At-loop-heard in
     let end = c.loop-heard-test.false in
     let r = c.compared-last.result in
     let reads = round_read l earlier_rounds (ended1 l end) (ended2 l end) last_round r c.compared-last.ensures.read in
     let fails = told_fails c.args.text.now c.args.from (box1 l) (box2 l) (first l) earlier_rounds c.loop-heard.at (told l end)
     r.read reads (omega arith) (not-true _ c.if-not-c-2.true) in
-    record { agrees_value = c.untold-then-not-c-2.ensures ∙ fails; zeros = untold_says _ c.untold-then-not-c-2.ensures }
+    fails
 
-pub overflow_add-result : goal.overflow_add-result
-overflow_add-result c =
-    let l = (goal.at.overflow_add-result c).At-loop-heard in
+pub overflow_add-zeros-2 : goal.overflow_add-zeros-2
+overflow_add-zeros-2 c =
+    let l = (goal.at.overflow_add-zeros-2 c).At-loop-heard in
     let end = c.loop-heard-test.false in
     let r = c.compared-last.result in
     let here = round_zeros l earlier_rounds (ended1 l end) (ended2 l end) last_round r c.compared-last.ensures.zeros in
@@ -207,7 +207,10 @@ returns c =
     let others = ap share_of (share2 ∙ ap share (sym (last_others (box1 l) (box2 l) (first l)))) in
     let shares = ap₂ (λ (x y : ℕ). (spelled v.text.now r.read.at (x ∷ y ∷ [])).ok) own others in
     let all = told_last v.text.now v.from (box1 l) (box2 l) (first l) r.read.at (reached r.read ok ∙ more) in
-    record {
-      agrees_value = c.answers_same.ensures ∙ shares ∙ ap (λ (d : Cursor). d.ok) all;
-      zeros = λ _. more_zeros l earlier_rounds (counted l end) r here;
-    }
+    let total = more_zeros l earlier_rounds (counted l end) r here in
+    rw c.then_some.ensures (
+      record {
+        agrees = some_if _ (c.answers_same.ensures ∙ shares ∙ ap (λ (d : Cursor). d.ok) all);
+        zeros = some_is c.answers_same.result total;
+      }
+    )

@@ -13,9 +13,8 @@ use Rattle.exchange.proofs.Cut.{Cut, cut}
 use Rattle.vectors.specs.declared.numbers.Cursor.{Cursor}
 use Rattle.vectors.specs.Numbers.{numbers_from, read_to}
 use Rattle.vectors.specs.Job.{job_told}
-use Rattle.vectors.specs.Sent.{respelled_in}
 use Rattle.vectors.proofs.Readings.{filled_front}
-use Rattle.vectors.proofs.Jobs.{untold_says, tapes_unlisted, tapes_box1, tapes_box2, tapes_told_lem}
+use Rattle.vectors.proofs.Jobs.{tapes_unlisted, tapes_box1, tapes_box2, tapes_told_lem}
 use Rattle.vectors.proofs.Sent.{tapes_sent_lem}
 use Rattle.vectors.proofs.job.on_tapes.Goals.{After-blank_tape-t2}
 use Rattle.vectors.proofs.job.on_tapes.Goals as goal
@@ -40,12 +39,12 @@ read_tape : {n words : ℕ} {tape : List ℕ} → Cut n words tape → (text : L
     → read ≡ read_to (length (take words tape)) text from → read ≡ read_to (tape_length n) text from
 read_tape cut text from read is = is ∙ ap (λ (k : ℕ). read_to k text from) cut.whole
 
-pub returns-in_default : goal.returns-in_default
-returns-in_default c =
+pub returns-in_default-clause-agrees : goal.returns-in_default-clause-agrees
+returns-in_default-clause-agrees c =
     let v = c.args in
     let unlisted = tapes_unlisted v.text.now v.from v.n v.pair v.number v.box1.x v.box1.y v.box2.x v.box2.y
     (sym c.in_default.ensures.listed) in
-    record { agrees_value = c.untold.ensures ∙ unlisted; zeros = untold_says _ c.untold.ensures }
+    unlisted
 
 pub slice_bounds-t1-end : goal.slice_bounds-t1-end
 slice_bounds-t1-end c = (cut1 (goal.at.slice_bounds-t1-end c).After-blank_tape-t2).fits
@@ -53,14 +52,14 @@ slice_bounds-t1-end c = (cut1 (goal.at.slice_bounds-t1-end c).After-blank_tape-t
 pub slice_bounds-fill-end : goal.slice_bounds-fill-end
 slice_bounds-fill-end c = (cut1 (goal.at.slice_bounds-fill-end c).After-blank_tape-t2).long
 
-pub returns-then-not-read1 : goal.returns-then-not-read1
-returns-then-not-read1 c =
+pub returns-then-not-read1-clause-agrees : goal.returns-then-not-read1-clause-agrees
+returns-then-not-read1-clause-agrees c =
     let v = c.args in
-    let b = (goal.at.returns-then-not-read1 c).After-blank_tape-t2 in
+    let b = (goal.at.returns-then-not-read1-clause-agrees c).After-blank_tape-t2 in
     let read1 = read_tape (cut1 b) v.text.now v.from c.fill-read1.result c.fill-read1.ensures.value in
     let short = tapes_box1 v.text.now v.from v.n v.pair v.number v.box1.x v.box1.y v.box2.x v.box2.y
     c.fill-read1.result read1 (not-true _ c.if-not-read1.true) in
-    record { agrees_value = c.untold-then-not-read1.ensures ∙ short; zeros = untold_says _ c.untold-then-not-read1.ensures }
+    short
 
 pub slice_bounds-t2-end : goal.slice_bounds-t2-end
 slice_bounds-t2-end c = (cut2 (goal.at.slice_bounds-t2-end c).After-blank_tape-t2).fits
@@ -86,17 +85,17 @@ returns c =
     c.fill-read1.result read1 c.fill-read2.result read2 (width b) ok1 ok2 in
     let messages = tapes_sent_lem v.n v.box1.x v.box1.y v.box2.x v.box2.y v.text.now v.from _ _
     c.fill-read1.result read1 tape1 tape2 in
-    record { agrees_value = c.opened.ensures.agrees_value ∙ ap₂ job tape1 tape2 ∙ told; zeros = λ agrees. c.opened.ensures.zeros agrees ∙ ap (respelled_in v.board) messages }
+    record { agrees = c.opened.ensures.agrees ∙ ap₂ job tape1 tape2 ∙ told; zeros = rw (← messages) c.opened.ensures.zeros }
 
-pub returns-then-not-read2 : goal.returns-then-not-read2
-returns-then-not-read2 c =
+pub returns-then-not-read2-clause-agrees : goal.returns-then-not-read2-clause-agrees
+returns-then-not-read2-clause-agrees c =
     let v = c.args in
-    let b = (goal.at.returns-then-not-read2 c).After-blank_tape-t2 in
+    let b = (goal.at.returns-then-not-read2-clause-agrees c).After-blank_tape-t2 in
     let read1 = read_tape (cut1 b) v.text.now v.from c.fill-read1.result c.fill-read1.ensures.value in
     let read2 = read_tape (cut2 b) v.text.now c.fill-read1.result.at c.fill-read2.result c.fill-read2.ensures.value in
     let short = tapes_box2 v.text.now v.from v.n v.pair v.number v.box1.x v.box1.y v.box2.x v.box2.y
     c.fill-read1.result read1 c.fill-read2.result read2 (not-true _ c.if-not-read2.true) in
-    record { agrees_value = c.untold-then-not-read2.ensures ∙ short; zeros = untold_says _ c.untold-then-not-read2.ensures }
+    short
 
 pub slice_bounds-t1-end-2 : goal.slice_bounds-t1-end-2
 slice_bounds-t1-end-2 c =

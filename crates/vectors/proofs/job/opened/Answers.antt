@@ -5,8 +5,7 @@ use Rattle.rules.specs.Calls.{party_of}
 use Rattle.rules.specs.declared.state.State.{State}
 use Rattle.exchange.proofs.Begun.{Begun, begin_ready}
 use Rattle.vectors.specs.Job.{comes}
-use Rattle.vectors.specs.Sent.{respelled_in}
-use Rattle.vectors.proofs.Jobs.{untold_says, begun_comes, no_refusal, told_same, job_box1, job_box2, job_told_lem}
+use Rattle.vectors.proofs.Jobs.{begun_comes, no_refusal, told_same, job_box1, job_box2, job_told_lem}
 use Rattle.vectors.proofs.Sent.{job_sent_lem}
 use Rattle.vectors.proofs.job.opened.Goals.{After-is_err, After-is_err-2, Else-is_err, Else-is_err-2}
 use Rattle.vectors.proofs.job.opened.Goals as goal
@@ -49,19 +48,19 @@ came2 e =
     begin_ready v.n 2 v.pair v.number v.box2.x v.box2.y v.t2.now _ _
     _ e.begin-2.new.state _ e.begin-2.ensures (no_refusal _ (sym e.is_err-2.ensures.value ∙ e.if-is_err-2.false))
 
-pub returns-then-is_err : goal.returns-then-is_err
-returns-then-is_err c =
+pub returns-then-is_err-clause-agrees : goal.returns-then-is_err-clause-agrees
+returns-then-is_err-clause-agrees c =
     let v = c.args in
     let refused = job_box1 v.text.now v.from v.n v.pair v.number v.box1.x v.box1.y v.box2.x v.box2.y
-    v.t1.now v.t2.now (comes1 (goal.at.returns-then-is_err c).After-is_err ∙ ap not c.if-is_err.true) in
-    record { agrees_value = c.untold.ensures ∙ refused; zeros = untold_says _ c.untold.ensures }
+    v.t1.now v.t2.now (comes1 (goal.at.returns-then-is_err-clause-agrees c).After-is_err ∙ ap not c.if-is_err.true) in
+    refused
 
-pub returns-then-is_err-2 : goal.returns-then-is_err-2
-returns-then-is_err-2 c =
+pub returns-then-is_err-2-clause-agrees : goal.returns-then-is_err-2-clause-agrees
+returns-then-is_err-2-clause-agrees c =
     let v = c.args in
     let refused = job_box2 v.text.now v.from v.n v.pair v.number v.box1.x v.box1.y v.box2.x v.box2.y
-    v.t1.now v.t2.now (comes2 (goal.at.returns-then-is_err-2 c).After-is_err-2 ∙ ap not c.if-is_err-2.true) in
-    record { agrees_value = c.untold-then-is_err-2.ensures ∙ refused; zeros = untold_says _ c.untold-then-is_err-2.ensures }
+    v.t1.now v.t2.now (comes2 (goal.at.returns-then-is_err-2-clause-agrees c).After-is_err-2 ∙ ap not c.if-is_err-2.true) in
+    refused
 
 pub slice_bounds-exchanged-end : goal.slice_bounds-exchanged-end
 slice_bounds-exchanged-end c =
@@ -89,4 +88,4 @@ returns c =
     let told = job_told_lem v.text.now v.from v.n v.pair v.number v.box1.x v.box1.y v.box2.x v.box2.y
     v.t1.now v.t2.now (comes1 (goal.at.returns c).After-is_err ∙ ap not c.if-is_err.false) (comes2 (goal.at.returns c).After-is_err-2 ∙ ap not c.if-is_err-2.false) in
     let messages = job_sent_lem v.n v.box1.x v.box1.y v.box2.x v.box2.y v.t1.now v.t2.now party1 party2 work1 work2 in
-    let r = c.exchanged in record { agrees_value = r.ensures.agrees_value ∙ told_same v.text.now v.from party1 party2 work1 work2 ∙ told; zeros = λ agrees. r.ensures.zeros agrees ∙ ap (respelled_in v.board) messages }
+    let r = c.exchanged in record { agrees = r.ensures.agrees ∙ told_same v.text.now v.from party1 party2 work1 work2 ∙ told; zeros = rw (← messages) r.ensures.zeros }
