@@ -3,96 +3,95 @@
 // the message is said too.
 #![tactic(auto)]
 
-ghost use Rattle.std.specs.Prelude.{◌≡◌, true, ◌+◌, ◌-◌, ◌≤◌, length};
+ghost use Rattle.std.specs.Prelude.{◌≡◌, true, ◌+◌, ◌-◌, ◌≤◌, length, IfOk};
 ghost use Rattle.lists.specs.Tabulate.{sum};
 ghost use Rattle.fills.specs.Fillings.{message_of, fill_agrees, right_at, Lent};
 
 use field::Width;
 use places::Job;
+use std::io;
 
 mod places;
 mod tapes;
 
 // How a line begins.
-fn tell_box(job: Job, what: &[u8]) {
-    io::write_all(1, b"width ");
-    io::print_decimal(1, job.n.bits as u64);
-    io::write_all(1, b", box ");
-    io::print_decimal(1, job.side as u64);
-    io::write_all(1, what);
+fn tell_box(rt: &impl Print, job: Job, what: &str) -> io::Result<()> {
+    print!(rt; "width {}, box {}: {what}", job.n.bits, job.side)
 }
 
 // The message, word by word.
-fn tell_message(job: Job, words: &[u32]) {
-    tell_box(job, b": message");
+fn tell_message(rt: &impl Print, job: Job, words: &[u32]) -> io::Result<()> {
+    tell_box(rt, job, "message")?;
     for word in words {
-        io::write_all(1, b" ");
-        io::print_decimal(1, *word as u64);
+        print!(rt; " {word}")?;
     }
-    io::write_all(1, b"\n");
+    println!(rt)
 }
 
 // Says a count: only one whose filling is as it must be.
-fn tell_count(job: Job, tape: &[u32], count: usize)
+fn tell_count(rt: &impl Print, job: Job, tape: &[u32], count: usize) -> io::Result<()>
     requires { fill_agrees job tape.now count ≡ true }
 {
-    io::write_all(1, b" ");
-    io::print_decimal(1, count as u64);
+    print!(rt; " {count}")
 }
 
 // Says those of the counts from `first` to `last` that agree, and answers how many they are.
-fn tell_counts(job: Job, tape: &[u32], words: &[u32], first: usize, last: usize) -> u64
+fn tell_counts(
+    rt: &impl Print,
+    job: Job,
+    tape: &[u32],
+    words: &[u32],
+    first: usize,
+    last: usize,
+) -> io::Result<u64>
     requires { Lent job tape.now × (words.now ≡ message_of job tape.now) × (first ≤ last) × (last ≤ length words.now) }
-    ensures value { result ≡ sum (last + 1 - first) (right_at job tape.now first) }
-    ensures all { result ≡ last + 1 - first }
+    ensures value { IfOk result (λ right. right ≡ sum (last + 1 - first) (right_at job tape.now first)) }
+    ensures all { IfOk result (λ right. right ≡ last + 1 - first) }
 {
     let mut right: u64 = 0;
     for count in first..last + 1 {
         if places::agrees(job, tape, words, count) {
-            tell_count(job, tape, count);
+            tell_count(rt, job, tape, count)?;
             right += 1;
         }
     }
-    right
+    Ok(right)
 }
 
 // How the line of the counts ends.
-fn tell_right(right: u64, all: u64) {
-    io::write_all(1, b" as they must be, ");
-    io::print_decimal(1, right);
-    io::write_all(1, b" of ");
-    io::print_decimal(1, all);
-    io::write_all(1, b"\n");
+fn tell_right(rt: &impl Print, right: u64, all: u64) -> io::Result<()> {
+    println!(rt; " as they must be, {right} of {all}")
 }
 
 // Every count of width 3.
-fn run_3(job: Job, tape: &[u32])
+fn run_3(rt: &impl Print, job: Job, tape: &[u32]) -> io::Result<()>
     requires { (job.n.bits ≡ 3) × Lent job tape.now }
 {
     let mut words = [0u32; 33];
     places::spoken(job, tape, &mut words);
-    tell_message(job, &words);
-    tell_box(job, b": counts");
-    tell_right(tell_counts(job, tape, &words, 0, 33), 34);
+    tell_message(rt, job, &words)?;
+    tell_box(rt, job, "counts")?;
+    let right = tell_counts(rt, job, tape, &words, 0, 33)?;
+    tell_right(rt, right, 34)
 }
 
 // Some of width 31: 6 words are alpha * beta's, 31 a level's.
-fn run_31(job: Job, tape: &[u32])
+fn run_31(rt: &impl Print, job: Job, tape: &[u32]) -> io::Result<()>
     requires { (job.n.bits ≡ 31) × Lent job tape.now }
 {
     let mut words = [0u32; 2889];
     places::spoken(job, tape, &mut words);
-    tell_box(job, b": counts");
-    let mut right = tell_counts(job, tape, &words, 0, 1);
-    right += tell_counts(job, tape, &words, 5, 7);
-    right += tell_counts(job, tape, &words, 36, 38);
-    right += tell_counts(job, tape, &words, 50, 50);
-    right += tell_counts(job, tape, &words, 2887, 2889);
-    tell_right(right, 12);
+    tell_box(rt, job, "counts")?;
+    let mut right = tell_counts(rt, job, tape, &words, 0, 1)?;
+    right += tell_counts(rt, job, tape, &words, 5, 7)?;
+    right += tell_counts(rt, job, tape, &words, 36, 38)?;
+    right += tell_counts(rt, job, tape, &words, 50, 50)?;
+    right += tell_counts(rt, job, tape, &words, 2887, 2889)?;
+    tell_right(rt, right, 12)
 }
 
 #[tactic(auto, unfolding(field::specs::Width::listed))]
-fn width_3() {
+fn width_3(rt: &impl Print) -> io::Result<()> {
     let mut t1 = [0u32; 149];
     let mut t2 = [0u32; 149];
     let n = Width { bits: 3 };
@@ -109,12 +108,12 @@ fn width_3() {
         x: 2,
         y: 4,
     };
-    run_3(box1, &t1);
-    run_3(box2, &t2);
+    run_3(rt, box1, &t1)?;
+    run_3(rt, box2, &t2)
 }
 
 #[tactic(auto, unfolding(field::specs::Width::listed))]
-fn width_31() {
+fn width_31(rt: &impl Print) -> io::Result<()> {
     let mut t1 = [0u32; 9053];
     let mut t2 = [0u32; 9053];
     let n = Width { bits: 31 };
@@ -131,12 +130,12 @@ fn width_31() {
         x: 314159265,
         y: 1202056903,
     };
-    run_31(box1, &t1);
-    run_31(box2, &t2);
+    run_31(rt, box1, &t1)?;
+    run_31(rt, box2, &t2)
 }
 
 // At each box the low bits of the three tests are 1, 0, 1 or 0, 1, 1.
-fn main() {
-    width_3();
-    width_31();
+fn main(rt: HostRuntime) -> io::Result<()> {
+    width_3(&rt)?;
+    width_31(&rt)
 }

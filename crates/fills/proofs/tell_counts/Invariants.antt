@@ -6,5 +6,5 @@ use Rattle.fills.specs.Fillings.{right_at}
 use Rattle.fills.proofs.tell_counts.Given as goal
 
 abbrev pub invariant-loop-count : goal.invariant-loop-count
-invariant-loop-count l =
+invariant-loop-count g l =
     (l.first ≤ l.count) × (l.right ≡ sum (l.count - l.first) (right_at l.job l.tape l.first))

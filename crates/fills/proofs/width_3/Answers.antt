@@ -6,12 +6,12 @@ use Rattle.shares.specs.Side.{is_side}
 use Rattle.fills.proofs.width_3.Goals as goal
 
 pub deal-requires : goal.deal-requires
-deal-requires c = (refl, refl)
+deal-requires g c = (refl, refl)
 
 pub run_3-requires : goal.run_3-requires
 unfolding is_side modulus
-run_3-requires c = (refl, record { side = refl; x = omega arith; y = omega arith; readable = c.deal.ensures.readable.0 })
+run_3-requires g c = (refl, record { side = refl; x = omega arith; y = omega arith; readable = c.deal.ensures.readable.0 })
 
 pub run_3-requires-2 : goal.run_3-requires-2
 unfolding is_side modulus
-run_3-requires-2 c = (refl, record { side = refl; x = omega arith; y = omega arith; readable = c.deal.ensures.readable.1 })
+run_3-requires-2 g c = (refl, record { side = refl; x = omega arith; y = omega arith; readable = c.deal.ensures.readable.1 })
