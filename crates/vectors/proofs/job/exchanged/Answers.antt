@@ -209,8 +209,8 @@ returns c =
     let all = told_last v.text.now v.from (box1 l) (box2 l) (first l) r.read.at (reached r.read ok ∙ more) in
     let total = more_zeros l earlier_rounds (counted l end) r here in
     rw c.then_some.ensures (
-      record {
-        agrees = some_if _ (c.answers_same.ensures ∙ shares ∙ ap (λ (d : Cursor). d.ok) all);
-        zeros = some_is c.answers_same.result total;
-      }
+    record {
+      agrees = some_if _ (c.answers_same.ensures ∙ shares ∙ ap (λ (d : Cursor). d.ok) all);
+      zeros = some_is c.answers_same.result total;
+    }
     )
