@@ -2,6 +2,7 @@
 // width uses the first words of each.
 ghost use Rattle.std.specs.Prelude.{◌≡◌, true, ◌+◌, ◌%◌, ◌<◌, ◌&&◌, eqb, ltb, length};
 ghost use Rattle.field.specs.Width.{modulus};
+ghost use Rattle.tape.specs.Layout.{tape_length};
 ghost use Rattle.tape.specs.Dealt.{Dealt};
 ghost use Rattle.encoding.specs.Matching.{indicator};
 ghost use Rattle.refusals.specs.Checks.{ground_of};
@@ -20,6 +21,15 @@ pub fn blank_tape() -> [u32; 9053]
     ensures { length result ≡ 9053 }
 {
     [0; 9053]
+}
+
+// The first words of such room, as many as a tape of this width has.
+#[tactic(auto, using(tape::proofs::Sizes::small))]
+pub fn tape_room(n: Width, room: &mut [u32; 9053]) -> &mut [u32]
+    ensures { length result.now ≡ tape_length n.bits }
+{
+    let len = tape::tape_words(n);
+    &mut room[..len]
 }
 
 // Zeros to work in.
