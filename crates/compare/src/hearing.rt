@@ -1,5 +1,5 @@
 // What a box works out when it has heard a round's words.
-ghost use Rattle.std.specs.Prelude.{◌≡◌, ◌+◌, ◌*◌, ◌%◌, ◌<◌, ◌≤◌, length, get_or};
+ghost use Rattle.std.specs.Prelude.{◌≡◌, ◌+◌, ◌*◌, ◌%◌, ◌<◌, ◌≤◌, length, get_or, IfSome};
 ghost use Rattle.std.proofs.lemmas.List.Edits.{sets};
 ghost use Rattle.lists.specs.Tabulate.{tabulate};
 ghost use Rattle.field.specs.Width.{modulus};
@@ -8,7 +8,7 @@ ghost use Rattle.protocol.specs.Words.{Below, FromLine};
 ghost use Rattle.protocol.specs.Tests.{complement, exclusive};
 ghost use Rattle.protocol.specs.Work.{work_length};
 ghost use Rattle.protocol.specs.Products.{closed};
-ghost use Rattle.protocol.specs.Rounds.{round_words, after_hearing, reply_to};
+ghost use Rattle.protocol.specs.Rounds.{round_words, answer_share, after_hearing, share_after};
 
 use crate::Party;
 use field::Width;
@@ -136,39 +136,40 @@ impl Party<'_> {
     // The answer share, from round 5.
     fn answer(self, work: &[u32], incoming: &[u32]) -> u32
         requires { (work_length self.n.bits ≤ length work.now) × FromLine self.n.bits (round_words self.n.bits 5) incoming.now }
-        ensures value { result ≡ reply_to (party_of self.entry) work.now 5 incoming.now }
+        ensures value { result ≡ answer_share (party_of self.entry) work.now incoming.now }
         ensures below { result < modulus self.entry.n.bits }
     {
         let halves = crate::factors::halves(self.n, work);
         self.triples().answer(self.side, halves, incoming)
     }
 
-    // Takes in the other box's words. The answer share comes back after the last round, and 0 before.
-    pub fn hear(self, round: u32, work: &mut [u32], incoming: &[u32]) -> u32
+    // Takes in the other box's words. The answer share comes back after the last round.
+    #[tactic(auto, unfolding(protocol::specs::Rounds::share_after))]
+    pub fn hear(self, round: u32, work: &mut [u32], incoming: &[u32]) -> Option<u32>
         requires { (work_length self.n.bits ≤ length work.old) × FromLine self.n.bits (round_words self.n.bits round) incoming.now }
-        ensures value { (result ≡ reply_to (party_of self.entry) work.old round incoming.now)
+        ensures value { (result ≡ share_after (party_of self.entry) work.old round incoming.now)
             × (work.new ≡ after_hearing (party_of self.entry) work.old round incoming.now) }
-        ensures below { result < modulus self.entry.n.bits }
+        ensures below { IfSome result (λ share. share < modulus self.entry.n.bits) }
     {
         match round {
             1 => {
                 self.hear_first(work, incoming);
-                0
+                None
             }
             2 => {
                 self.hear_masked(work, incoming);
-                0
+                None
             }
             3 => {
                 self.hear_levels(work, incoming);
-                0
+                None
             }
             4 => {
                 self.hear_wraps(work, incoming);
-                0
+                None
             }
-            5 => self.answer(&*work, incoming),
-            _ => 0,
+            5 => Some(self.answer(&*work, incoming)),
+            _ => None,
         }
     }
 }

@@ -9,18 +9,18 @@ ghost use Rattle.tape.specs.Layout.{body_length, tape_length, trailer as tail};
 ghost use Rattle.tape.specs.Plain.{plain_word, plain_tape};
 
 use field::Width;
-use tape::Section;
+use tape::{Label, Section};
 
 // The box whose power words are 1 on a plain tape.
 const ONES_AT: u32 = 1;
 
 // The seven words after the body.
-pub fn trailer(n: Width, pair: u32, side: u32, number: u32, tape: &mut [u32])
+pub fn trailer(n: Width, label: Label, tape: &mut [u32])
     requires { tape_length n.bits ≤ length tape.old }
-    ensures { tape.new ≡ sets tape.old (body_length n.bits) (tail n.bits pair side number) }
+    ensures { tape.new ≡ sets tape.old (body_length n.bits) (tail n.bits label.pair label.side label.number) }
 {
     let body = tape::body_words(n);
-    let words = tape::trailer_of(n, pair, side, number);
+    let words = tape::trailer_of(n, label);
     tape[body..body + tape::TRAILER].copy_from_slice(&words);
 }
 
@@ -39,10 +39,10 @@ fn plain_body(n: Width, side: u32, tape: &mut [u32])
 }
 
 // The plain tape of a box.
-pub fn plain(n: Width, pair: u32, side: u32, number: u32, tape: &mut [u32])
+pub fn plain(n: Width, label: Label, tape: &mut [u32])
     requires { length tape.old ≡ tape_length n.bits }
-    ensures { tape.new ≡ plain_tape n.bits pair side number }
+    ensures { tape.new ≡ plain_tape n.bits label.pair label.side label.number }
 {
-    plain_body(n, side, &mut *tape);
-    trailer(n, pair, side, number, tape);
+    plain_body(n, label.side, &mut *tape);
+    trailer(n, label, tape);
 }

@@ -11,6 +11,7 @@ ghost use Rattle.deals.specs.Deals.{dealt_body, dealt_tape, deal_ground, deal_ru
 use field::Width;
 use kinds::Kind;
 use refusals::Refusal;
+use tape::Label;
 
 mod groups;
 mod kinds;
@@ -54,8 +55,13 @@ pub fn write(seed: u32, n: Width, pair: u32, number: u32, t1: &mut [u32], t2: &m
     ensures box2 { t2.new ≡ dealt_tape seed n.bits pair 2 number }
 {
     bodies(seed, n, &mut *t1, &mut *t2);
-    dealer::trailer(n, pair, 1, number, t1);
-    dealer::trailer(n, pair, 2, number, t2);
+    let box1 = Label {
+        pair,
+        side: 1,
+        number,
+    };
+    dealer::trailer(n, box1, t1);
+    dealer::trailer(n, Label { side: 2, ..box1 }, t2);
 }
 
 // Writes both tapes, or refuses and changes nothing.

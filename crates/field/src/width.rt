@@ -13,6 +13,17 @@ pub struct Width {
 }
 
 impl Width {
+    // All of them, from the narrowest on.
+    pub const ALL: [Width; 7] = [
+        Width { bits: 3 },
+        Width { bits: 5 },
+        Width { bits: 7 },
+        Width { bits: 13 },
+        Width { bits: 17 },
+        Width { bits: 19 },
+        Width { bits: 31 },
+    ];
+
     // The width of that number, if it is a listed one.
     #[tactic(auto, unfolding(crate::specs::Width::listed))]
     pub fn new(n: u32) -> Option<Width>

@@ -1,13 +1,17 @@
-// Each call's grounds of refusal, in document 01's order: the first that holds counts. A check reads what the call was lent and writes nothing.
-ghost use Rattle.std.specs.Prelude.{◌≡◌};
+// Each call's grounds of refusal, in document 01's order: the first that holds counts. A check reads what the call was lent and writes nothing. Where
+// none holds, a speak's and a hear's check give the box as the rounds know it, with what they showed of it.
+ghost use Rattle.std.specs.Prelude.{◌≡◌, IfOk};
 ghost use Rattle.refusals.specs.Grounds.{earliest_of};
 ghost use Rattle.refusals.specs.Checks.{ground_of};
+ghost use Rattle.compare.specs.Parties.{party_of as given};
+ghost use Rattle.rules.specs.Calls.{party_of};
 ghost use Rattle.rules.specs.Grounds.{turn_grounds, wake_ground, start_ground, speak_ground, hear_ground, drop_ground};
 
 use crate::grounds::{
     asleep_check, idle_check, job_check, mark_check, message_check, room_check, share_check,
     tape_check, when, word_check,
 };
+use compare::Party;
 use field::Width;
 use refusals::Refusal;
 use rules::state::{State, Turn};
@@ -44,59 +48,73 @@ pub fn start_check(
 }
 
 #[tactic(auto, unfolding(rules::specs::Grounds::speak_ground))]
-pub fn speak_check(
+#[inline(always)]
+pub fn speak_check<'a>(
     state: State,
     number: u32,
     round: u32,
-    tape: &[u32],
+    tape: &'a [u32],
     work: &[u32],
     out: &[u32],
-) -> Result<(), Refusal>
-    ensures { ground_of result ≡ speak_ground state number round tape.now work.now out.now }
+) -> Result<Party<'a>, Refusal>
+    ensures ground { ground_of result ≡ speak_ground state number round tape.now work.now out.now }
+    ensures party { IfOk result (λ party. given party ≡ party_of state tape.now) }
 {
     turn_check(state, number, Turn::Speak(round), tape, work, out)
 }
 
 #[tactic(auto, unfolding(rules::specs::Grounds::hear_ground))]
-pub fn hear_check(
+#[inline(always)]
+pub fn hear_check<'a>(
     state: State,
     number: u32,
     round: u32,
-    tape: &[u32],
+    tape: &'a [u32],
     work: &[u32],
     incoming: &[u32],
-) -> Result<(), Refusal>
-    ensures { ground_of result ≡ hear_ground state number round tape.now work.now incoming.now }
+) -> Result<Party<'a>, Refusal>
+    ensures ground { ground_of result ≡ hear_ground state number round tape.now work.now incoming.now }
+    ensures party { IfOk result (λ party. given party ≡ party_of state tape.now) }
 {
-    turn_check(state, number, Turn::Hear(round), tape, work, incoming)?;
-    let n = Width { bits: state.n };
-    word_check(n, incoming)
+    let party = turn_check(state, number, Turn::Hear(round), tape, work, incoming)?;
+    word_check(party.n, incoming)?;
+    Ok(party)
 }
 
 #[tactic(auto, unfolding(rules::specs::Grounds::drop_ground))]
 pub fn drop_check(state: State) -> Result<(), Refusal>
     ensures { ground_of result ≡ drop_ground state }
 {
-    job_check(crate::modes::mode_of(state))
+    job_check(crate::modes::mode_of(state))?;
+    Ok(())
 }
 
 // What a speak and a hear have in common: the turn that is due, the tape and the room. The buffer is out or incoming. Inlined, so that the state
 // is not copied on its way here.
 #[inline(always)]
-fn turn_check(
+fn turn_check<'a>(
     state: State,
     number: u32,
     turn: Turn,
-    tape: &[u32],
+    tape: &'a [u32],
     work: &[u32],
     buffer: &[u32],
-) -> Result<(), Refusal>
-    ensures { ground_of result ≡ earliest_of (turn_grounds state number turn tape.now work.now buffer.now) }
+) -> Result<Party<'a>, Refusal>
+    ensures ground { ground_of result ≡ earliest_of (turn_grounds state number turn tape.now work.now buffer.now) }
+    ensures party { IfOk result (λ party. given party ≡ party_of state tape.now) }
 {
     let mode = crate::modes::mode_of(state);
-    job_check(mode)?;
+    let (x, y) = job_check(mode)?;
     when(!crate::modes::is_due(mode, number, turn), Refusal::Turn)?;
     tape_check(state, number, tape)?;
     let n = Width { bits: state.n };
-    message_check(n, turn, work, buffer)
+    message_check(n, turn, work, buffer)?;
+    let side = state.side;
+    Ok(Party {
+        n,
+        side,
+        x,
+        y,
+        tape,
+    })
 }

@@ -1,9 +1,10 @@
 // What a call's checks look at, one thing each.
-ghost use Rattle.std.specs.Prelude.{◌≡◌, true, not, [], ◌∷◌, length};
+ghost use Rattle.std.specs.Prelude.{◌≡◌, true, not, [], ◌∷◌, length, IfOk};
 ghost use Rattle.field.specs.Width.{listed};
 ghost use Rattle.refusals.specs.declared.Refusal.TheVariants.{Busy};
 ghost use Rattle.refusals.specs.Grounds.{◌when◌, earliest_of};
 ghost use Rattle.refusals.specs.Checks.{ground_of};
+ghost use Rattle.rules.specs.Calls.{x_of, y_of};
 ghost use Rattle.rules.specs.Modes.{is_asleep};
 ghost use Rattle.rules.specs.Grounds.{message_fits};
 ghost use Rattle.rules.specs.Grounds.{idle_grounds, job_grounds, mark_grounds, share_grounds, tape_grounds, room_grounds, word_grounds};
@@ -11,6 +12,7 @@ ghost use Rattle.rules.specs.Grounds.{idle_grounds, job_grounds, mark_grounds, s
 use field::Width;
 use refusals::Refusal;
 use rules::state::{Phase, State, Turn};
+use tape::Label;
 
 // One ground.
 pub fn when(holds: bool, refusal: Refusal) -> Result<(), Refusal>
@@ -40,14 +42,15 @@ pub fn idle_check(mode: Phase) -> Result<(), Refusal>
     }
 }
 
-// The box is in a job.
-pub fn job_check(mode: Phase) -> Result<(), Refusal>
-    ensures { ground_of result ≡ earliest_of (job_grounds mode) }
+// The box is in a job: its shares of x and y.
+pub fn job_check(mode: Phase) -> Result<(u32, u32), Refusal>
+    ensures ground { ground_of result ≡ earliest_of (job_grounds mode) }
+    ensures shares { IfOk result (λ shares. (shares.0 ≡ x_of mode) × (shares.1 ≡ y_of mode)) }
 {
     match mode {
         Phase::Asleep => Err(Refusal::Asleep),
         Phase::Idle => Err(Refusal::NoJob),
-        Phase::Job { .. } => Ok(()),
+        Phase::Job { x, y, .. } => Ok((x, y)),
     }
 }
 
@@ -76,8 +79,12 @@ pub fn share_check(n: Width, x: u32, y: u32) -> Result<(), Refusal>
 pub fn tape_check(state: State, number: u32, tape: &[u32]) -> Result<(), Refusal>
     ensures { ground_of result ≡ earliest_of (tape_grounds state number tape.now) }
 {
-    let in_order = tape::in_order(tape, state.n, state.pair, state.side, number);
-    when(!in_order, Refusal::Tape)
+    let label = Label {
+        pair: state.pair,
+        side: state.side,
+        number,
+    };
+    when(!tape::in_order(tape, state.n, label), Refusal::Tape)
 }
 
 // Work has its room, and the call's other buffer fits.

@@ -6,7 +6,6 @@ ghost use Rattle.rules.specs.Answers.{fresh, started, spoke, heard_or_share, dro
 ghost use Rattle.rules.specs.Calls.{outcome, wake_rule, start_rule, speak_rule, hear_rule, drop_rule};
 
 use compare::Party;
-use field::Width;
 use refusals::Refusal;
 use rules::state::{Phase, State, Turn};
 
@@ -64,19 +63,8 @@ pub fn speak(
 ) -> Result<usize, Refusal>
     ensures { outcome (reply_of spoke result) state.new out.new ≡ speak_rule state.old number round tape.now work.now out.old }
 {
-    checks::speak_check(*state, number, round, tape, work, &*out)?;
-    let Phase::Job { x, y, .. } = state.phase else {
-        unreachable!()
-    };
-    let n = Width { bits: state.n };
-    let side = state.side;
-    let party = Party {
-        n,
-        side,
-        x,
-        y,
-        tape,
-    };
+    let party = checks::speak_check(*state, number, round, tape, work, &*out)?;
+    let Party { n, x, y, .. } = party;
     party.speak(round, work, out);
     let turn = Turn::Hear(round);
     state.phase = Phase::Job { turn, number, x, y };
@@ -95,27 +83,17 @@ pub fn hear(
 ) -> Result<Option<u32>, Refusal>
     ensures { outcome (reply_of heard_or_share result) state.new work.new ≡ hear_rule state.old number round tape.now work.old incoming.now }
 {
-    checks::hear_check(*state, number, round, tape, &*work, incoming)?;
-    let Phase::Job { x, y, .. } = state.phase else {
-        unreachable!()
-    };
-    let n = Width { bits: state.n };
-    let side = state.side;
-    let party = Party {
-        n,
-        side,
-        x,
-        y,
-        tape,
-    };
+    let party = checks::hear_check(*state, number, round, tape, &*work, incoming)?;
     let share = party.hear(round, work, incoming);
-    if round == compare::words::LAST_ROUND {
-        state.phase = Phase::Idle;
-        return Ok(Some(share));
-    }
-    let turn = Turn::Speak(round + 1);
-    state.phase = Phase::Job { turn, number, x, y };
-    Ok(None)
+    state.phase = match share {
+        Some(_) => Phase::Idle,
+        None => {
+            let turn = Turn::Speak(round + 1);
+            let Party { x, y, .. } = party;
+            Phase::Job { turn, number, x, y }
+        }
+    };
+    Ok(share)
 }
 
 // Closes the job. Its tape remains spent.

@@ -4,7 +4,7 @@ ghost use Rattle.std.specs.Prelude.{◌≡◌};
 
 use refusals::Refusal;
 
-// A call's error is the enum; its number is asked for here alone, since document 01 gives refusals by number.
+// Document 01 gives refusals by number; the calls answer the enum.
 pub fn number_of(refusal: Refusal) -> u32
     ensures { result ≡ number_of refusal }
 {

@@ -8,8 +8,9 @@ use native.Mathlib.Nat.{le_of_suc-le-suc, eq-or-lt_of_le}
 use borrow.Author.Tests.{ne_eqb}
 use native.Mathlib.Omega.{arith}
 use lib.ListN.{length, get_or}
+use Rattle.std.specs.Prelude.{None}
 use Rattle.protocol.specs.Products.{Party}
-use Rattle.protocol.specs.Rounds.{last_round, at_round, word_table, round_words, message_table, message, hearing_table, after_hearing, reply_to}
+use Rattle.protocol.specs.Rounds.{last_round, at_round, word_table, round_words, message_table, message, hearing_table, after_hearing, share_after}
 
 -- every entry
 abbrev pub Each : {A : Type 0} → (A → Type 0) → List A → Type 0
@@ -93,6 +94,6 @@ module _ (round : ℕ) (out : Outside last_round round) where
     unfolding after_hearing
     no_hearing incoming = no_round (hearing_table b work incoming) work round out
 
-    pub no_reply : (incoming : List ℕ) → reply_to b work round incoming ≡ 0
-    unfolding reply_to
-    no_reply incoming = rw (ne_eqb round last_round out.1) refl
+    pub no_share : (incoming : List ℕ) → share_after b work round incoming ≡ None
+    unfolding share_after
+    no_share incoming = rw (ne_eqb round last_round out.1) refl

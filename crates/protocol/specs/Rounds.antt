@@ -1,5 +1,5 @@
 -- The five rounds, by document 01 and document 02's P7: what a box sends in each, and what it holds after hearing each.
-use Rattle.std.specs.Prelude.{ℕ, suc, ◌+◌, ◌*◌, ◌%◌, cond, List, [], ◌∷◌, ◌++◌, eqb, get_or}
+use Rattle.std.specs.Prelude.{ℕ, suc, ◌+◌, ◌*◌, ◌%◌, cond, Option, Some, None, List, [], ◌∷◌, ◌++◌, eqb, get_or}
 use Rattle.std.proofs.lemmas.List.Edits.{sets}
 use Rattle.lists.specs.Tabulate.{tabulate}
 use Rattle.field.specs.Width.{modulus}
@@ -133,6 +133,6 @@ hearing_table b work incoming =
 unfoldable pub after_hearing : Party → List ℕ → ℕ → List ℕ → List ℕ
 after_hearing b work round incoming = at_round round (hearing_table b work incoming) work
 
--- what comes back: the answer share after the last round, and 0 before
-unfoldable pub reply_to : Party → List ℕ → ℕ → List ℕ → ℕ
-reply_to b work round incoming = cond (eqb round last_round) (answer_share b work incoming) 0
+-- what comes back: the answer share after the last round, and nothing before
+unfoldable pub share_after : Party → List ℕ → ℕ → List ℕ → Option ℕ
+share_after b work round incoming = cond (eqb round last_round) (Some (answer_share b work incoming)) None

@@ -18,7 +18,7 @@ use Rattle.refusals.specs.Grounds.{earliest_of}
 use Rattle.refusals.proofs.Chains.{None, none, both_none, nones}
 use Rattle.tally.specs.Tally.{tally_fits, tapes_of, is_fresh, late}
 use Rattle.rules.specs.Modes.{mode_of, is_asleep, in_job, is_due}
-use Rattle.rules.specs.Grounds.{idle_grounds, job_grounds, message_fits, room_grounds, word_grounds, words_fit, wake_grounds, start_parts, turn_parts, turn_grounds, wake_ground, start_ground, speak_ground, hear_ground}
+use Rattle.rules.specs.Grounds.{idle_grounds, job_grounds, due_grounds, tape_grounds, message_fits, room_grounds, word_grounds, words_fit, wake_grounds, start_parts, turn_parts, turn_grounds, wake_ground, start_ground, speak_ground, hear_ground}
 use Rattle.rules.specs.Calls.{x_of, y_of}
 use Rattle.rules.specs.declared.state.Turn.{Turn}
 use Rattle.rules.specs.declared.state.Turn.TheVariants.{Speak, Hear}
@@ -109,21 +109,30 @@ pub record TurnPassed (s : State) (number : ℕ) (turn : Turn) (tape : List ℕ)
   pub range : JobRange s turn (x_of s.phase) (y_of s.phase)
   pub ordered : in_order s.n s.pair s.side number tape ≡ true
 
+turn_of : (s : State) (number : ℕ) (turn : Turn) (tape : List ℕ) → None (job_grounds (mode_of s)) → None (due_grounds (mode_of s) number turn)
+    → None (tape_grounds s number tape) → TurnPassed s number turn tape
+turn_of s number turn tape job is_next ordered =
+    let awake = job.0 in
+    let due = due_job s number turn awake (not-false (is_due (mode_of s) number turn) is_next.0) in
+    record {
+      awake = awake;
+      sound = ranged s (awake_range s awake);
+      due = due;
+      range = due_range s number turn awake due;
+      ordered = not-false (in_order s.n s.pair s.side number tape) ordered.0;
+    }
+
+-- from the first three of the lists, where the room is not looked at yet
+pub turn_due : (s : State) (number : ℕ) (turn : Turn) (tape : List ℕ) → earliest_of (job_grounds (mode_of s)) ≡ 0
+    → earliest_of (due_grounds (mode_of s) number turn) ≡ 0 → earliest_of (tape_grounds s number tape) ≡ 0 → TurnPassed s number turn tape
+turn_due s number turn tape job is_next ordered =
+    turn_of s number turn tape (none (job_grounds (mode_of s)) job) (none (due_grounds (mode_of s) number turn) is_next) (none (tape_grounds s number tape) ordered)
+
 pub turn_passed : (s : State) (number : ℕ) (turn : Turn) (tape work buffer : List ℕ) → earliest_of (turn_grounds s number turn tape work buffer) ≡ 0
     → TurnPassed s number turn tape × ((work_length s.n ≤ length work) × (message_fits s.n turn (length buffer) ≡ true))
 turn_passed s number turn tape work buffer e =
     let c = nones (turn_parts s number turn tape work buffer) e in
-    let awake = c.0.0 in
-    let due = due_job s number turn awake (not-false (is_due (mode_of s) number turn) c.1.0.0) in (
-      record {
-        awake = awake;
-        sound = ranged s (awake_range s awake);
-        due = due;
-        range = due_range s number turn awake due;
-        ordered = not-false (in_order s.n s.pair s.side number tape) c.1.1.0.0;
-      },
-      room_passed s.n work (message_fits s.n turn (length buffer)) c.1.1.1.0,
-    )
+    (turn_of s number turn tape c.0 c.1.0 c.1.1.0, room_passed s.n work (message_fits s.n turn (length buffer)) c.1.1.1.0)
 
 pub record SpeakPassed (s : State) (number round : ℕ) (tape work out : List ℕ) : Type 0 where
   pub turn : TurnPassed s number (Speak round) tape

@@ -29,6 +29,14 @@ const LAST_GROUP: usize = 7;
 // The words of a block that is looked at as one.
 const BLOCK: usize = 256;
 
+// What a trailer says of a tape beside its width: the pair, the box and the tape number.
+#[derive(Clone, Copy, Debug, PartialEq, Eq)]
+pub struct Label {
+    pub pair: u32,
+    pub side: u32,
+    pub number: u32,
+}
+
 // Its place among them.
 fn place_of(section: Section) -> usize
     ensures { result ≡ place section }
@@ -86,26 +94,26 @@ fn distance_back(n: Width, section: Section) -> u32
 }
 
 // The seven words after the body: the distances back to the sections, then whose tape it is.
-pub fn trailer_of(n: Width, pair: u32, side: u32, number: u32) -> [u32; 7]
-    ensures { result ≡ trailer n.bits pair side number }
+pub fn trailer_of(n: Width, label: Label) -> [u32; 7]
+    ensures { result ≡ trailer n.bits label.pair label.side label.number }
 {
     [
         distance_back(n, Section::Squares),
         distance_back(n, Section::Powers),
         distance_back(n, Section::Triples),
-        pair,
-        side,
-        number,
+        label.pair,
+        label.side,
+        label.number,
         n.bits,
     ]
 }
 
 // Whether the last seven words are the trailer.
-fn trailer_fits(tape: &[u32], n: Width, pair: u32, side: u32, number: u32) -> bool
+fn trailer_fits(tape: &[u32], n: Width, label: Label) -> bool
     requires { length tape.now ≡ tape_length n.bits }
-    ensures { result ≡ trailer_fits n.bits pair side number tape.now }
+    ensures { result ≡ trailer_fits n.bits label.pair label.side label.number tape.now }
 {
-    let trailer = trailer_of(n, pair, side, number);
+    let trailer = trailer_of(n, label);
     tape[tape.len() - TRAILER..] == trailer[..]
 }
 
@@ -147,19 +155,19 @@ fn body_in_range(tape: &[u32], n: Width) -> bool
 }
 
 // Whether the tape is in order for this width, pair, side and number.
-pub fn in_order(tape: &[u32], n: u32, pair: u32, side: u32, number: u32) -> bool
-    ensures { result ≡ in_order n pair side number tape.now }
+pub fn in_order(tape: &[u32], n: u32, label: Label) -> bool
+    ensures { result ≡ in_order n label.pair label.side label.number tape.now }
 {
     let Some(n) = Width::new(n) else {
         return false;
     };
-    if !shares::is_side(side) {
+    if !shares::is_side(label.side) {
         return false;
     }
     if tape.len() != tape_words(n) {
         return false;
     }
-    if !trailer_fits(tape, n, pair, side, number) {
+    if !trailer_fits(tape, n, label) {
         return false;
     }
     body_in_range(tape, n)

@@ -16,9 +16,9 @@ pub returns : goal.returns
 unfolding plain_tape
 returns c =
     let a = c.args in
-    let body = tabulate (body_length a.n.bits) (plain_word a.n.bits a.side) in
-    let tail = trailer a.n.bits a.pair a.side a.number in
-    let long : length body ≡ body_length a.n.bits = length_tabulate (body_length a.n.bits) (plain_word a.n.bits a.side) in
+    let body = tabulate (body_length a.n.bits) (plain_word a.n.bits a.label.side) in
+    let tail = trailer a.n.bits a.label.pair a.label.side a.label.number in
+    let long : length body ≡ body_length a.n.bits = length_tabulate (body_length a.n.bits) (plain_word a.n.bits a.label.side) in
     c.trailer.ensures
     ∙ ap (λ (t : List ℕ). sets t (body_length a.n.bits) tail) c.plain_body.ensures
     ∙ ap (λ (m : ℕ). sets (sets a.tape.now 0 body) m tail) (sym long)

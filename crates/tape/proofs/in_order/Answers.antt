@@ -9,7 +9,7 @@ use Rattle.tape.proofs.in_order.Goals.{Else-not-is_side, Else-not-trailer_fits, 
 use Rattle.tape.proofs.in_order.Goals as goal
 
 -- what each test says where it held, and the trailer's where it failed
-box : (c : Else-not-is_side) → is_side c.args.side ≡ true
+box : (c : Else-not-is_side) → is_side c.args.label.side ≡ true
 box c = sym c.is_side.ensures ∙ not-false _ c.if-not-is_side.false-raw
 
 long : (c : Else-tape-tape_words) → length c.args.tape.now ≡ tape_length c.in-Some.n.bits
@@ -17,12 +17,12 @@ long c = c.if-tape-tape_words.false ∙ c.tape_words.ensures
 
 trailers : (c : Else-not-trailer_fits)
     → let a = c.args in
-    trailer_fits c.in-Some.n.bits a.pair a.side a.number a.tape.now ≡ true
+    trailer_fits c.in-Some.n.bits a.label.pair a.label.side a.label.number a.tape.now ≡ true
 trailers c = sym c.trailer_fits.ensures ∙ not-false _ c.if-not-trailer_fits.false-raw
 
 misfit : (c : Then-not-trailer_fits)
     → let a = c.args in
-    trailer_fits c.in-Some.n.bits a.pair a.side a.number a.tape.now ≡ false
+    trailer_fits c.in-Some.n.bits a.label.pair a.label.side a.label.number a.tape.now ≡ false
 misfit c = sym c.trailer_fits.ensures ∙ not-true _ c.if-not-trailer_fits.true-raw
 
 pub returns-in_default : goal.returns-in_default

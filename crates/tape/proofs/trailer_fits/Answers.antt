@@ -8,4 +8,4 @@ pub returns : goal.returns
 returns c =
     let a = c.args in
     let told = rw c.trailer_of-trailer.ensures at c.eq.ensures in
-    told ∙ trailer_at_end a.n.bits a.pair a.side a.number (length a.tape.now - 7) a.tape.now (body_end a.n.bits (length a.tape.now) c.requires) c.requires
+    told ∙ trailer_at_end a.n.bits a.label.pair a.label.side a.label.number (length a.tape.now - 7) a.tape.now (body_end a.n.bits (length a.tape.now) c.requires) c.requires

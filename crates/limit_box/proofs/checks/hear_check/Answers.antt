@@ -5,18 +5,12 @@ use Rattle.refusals.proofs.Numbers.{numbered}
 use Rattle.refusals.proofs.Chains.{first_some}
 use Rattle.rules.specs.Grounds.{turn_grounds, word_grounds, hear_ground}
 use Rattle.rules.specs.declared.state.Turn.TheVariants.{Hear}
-use Rattle.rules.proofs.Passed.{turn_passed}
 use Rattle.limit_box.proofs.checks.hear_check.Goals as goal
 
-pub returns-in_err-turn_check : goal.returns-in_err-turn_check
+pub returns-in_err-party-clause-ground : goal.returns-in_err-party-clause-ground
 unfolding hear_ground
-returns-in_err-turn_check c =
+returns-in_err-party-clause-ground c =
     let a = c.args in
     let p = err_from_is_err_and c.from_residual.result c.from_residual.ensures.1 in
     let turn = turn_grounds a.state a.number (Hear a.round) a.tape.now a.work.now a.incoming.now in
-    rw (p.1, p.2) (sym (first_some turn (word_grounds a.state.n a.incoming.now) _ (sym c.in_err-turn_check.ensures) (numbered _)))
-
-pub invariant_of-n : goal.invariant_of-n
-invariant_of-n c =
-    let a = c.args in
-    record { listed = (turn_passed a.state a.number (Hear a.round) a.tape.now a.work.now a.incoming.now (sym c.in_ok-turn_check.ensures)).0.sound.width }
+    rw (p.1, p.2) (sym (first_some turn (word_grounds a.state.n a.incoming.now) _ (sym c.in_err-party.ensures.ground) (numbered _)))
