@@ -8,11 +8,11 @@ use Rattle.protocol.specs.Products.{Party}
 use Rattle.protocol.specs.Rounds.{earlier_rounds, round_words, message, after_hearing, answer_share}
 use Rattle.protocol.proofs.Lengths.{most_words}
 use Rattle.rules.specs.Answers.{Reply, share}
-use Rattle.rules.specs.Calls.{outcome, party_of}
+use Rattle.rules.specs.Calls.{outcome, party_of, heard_after}
 use Rattle.rules.proofs.Ranges.{ranged}
 use Rattle.rules.specs.declared.state.Turn.TheVariants.{Speak}
 use Rattle.rules.specs.declared.state.State.{State}
-use Rattle.exchange.specs.Boxes.{Ready, heard_after}
+use Rattle.exchange.specs.Boxes.{Ready}
 use Rattle.exchange.proofs.Ready.{heard_next, heard_last}
 
 -- `first` is the box before the first round, `held` its work by the exchange after `k` rounds

@@ -11,13 +11,13 @@ use Rattle.protocol.specs.Rounds.{round_words, message}
 use Rattle.protocol.proofs.Lengths.{message_length, message_front}
 use Rattle.rules.specs.Grounds.{words_fit}
 use Rattle.rules.specs.Answers.{Reply}
-use Rattle.rules.specs.Calls.{Result, outcome, in_phase, party_of, turned, speak_rule, hear_rule}
+use Rattle.rules.specs.Calls.{Result, outcome, in_phase, party_of, turned, speak_rule, hear_rule, heard_after}
 use Rattle.rules.proofs.Ranges.{ranged}
 use Rattle.rules.proofs.Spoken.{message_fits_lem}
 use Rattle.rules.proofs.AsRead.{heard_as_read}
 use Rattle.rules.specs.declared.state.Turn.TheVariants.{Speak, Hear}
 use Rattle.rules.specs.declared.state.State.{State}
-use Rattle.exchange.specs.Boxes.{Ready, heard_after}
+use Rattle.exchange.specs.Boxes.{Ready}
 use Rattle.exchange.proofs.Ready.{speak_ready, hear_ready}
 
 module _ (s : State) (number round : ℕ) (tape work : List ℕ) (r : Ready s number (Speak round) tape work) where

@@ -14,12 +14,12 @@ use Rattle.refusals.specs.Grounds.{earliest_of}
 use Rattle.rules.specs.Answers.{Reply, spoke, share}
 use Rattle.rules.specs.Modes.{round_of, round_fits, mode_of, is_asleep, same_turn}
 use Rattle.rules.specs.Grounds.{words_fit, message_fits, turn_grounds, speak_ground, hear_ground}
-use Rattle.rules.specs.Calls.{Result, outcome, in_phase, x_of, y_of, party_of, turned, speak_rule, hear_rule}
+use Rattle.rules.specs.Calls.{Result, outcome, in_phase, x_of, y_of, party_of, turned, speak_rule, heard_after, hear_rule}
 use Rattle.rules.proofs.Ranges.{range_mode, awake_range, job_range, turned_mode}
 use Rattle.rules.specs.declared.state.Turn.{Turn}
 use Rattle.rules.specs.declared.state.Turn.TheVariants.{Speak, Hear}
 use Rattle.rules.specs.declared.state.State.{State}
-use Rattle.exchange.specs.Boxes.{Ready, heard_after}
+use Rattle.exchange.specs.Boxes.{Ready}
 use Rattle.exchange.proofs.Turned.{turned_x, turned_y, turned_twice, same_party}
 
 -- ---- a box with a turn due

@@ -1,15 +1,12 @@
 -- The two boxes of a job, box 1's words before box 2's, by the protocol's exchange.
-use Rattle.std.specs.Prelude.{ℕ, ◌+◌, ◌≤◌, ◌≡◌, true, cond, List, eqb, length}
+use Rattle.std.specs.Prelude.{ℕ, ◌≤◌, ◌≡◌, true, List, length}
 use Rattle.tape.specs.Order.{in_order}
 use Rattle.protocol.specs.Work.{work_length}
-use Rattle.protocol.specs.Rounds.{last_round, after_hearing, answer_share}
 use Rattle.protocol.specs.Exchange.{Both, exchanged, answer_own, answer_others}
-use Rattle.rules.specs.Answers.{heard, share}
 use Rattle.rules.specs.Modes.{in_range}
-use Rattle.rules.specs.Calls.{Result, in_phase, x_of, y_of, party_of, turned}
+use Rattle.rules.specs.Calls.{x_of, y_of, party_of}
 use Rattle.rules.specs.declared.state.Turn.{Turn}
-use Rattle.rules.specs.declared.state.Turn.TheVariants.{Speak}
-use Rattle.rules.specs.declared.state.Phase.TheVariants.{Idle, Job}
+use Rattle.rules.specs.declared.state.Phase.TheVariants.{Job}
 use Rattle.rules.specs.declared.state.State.{State}
 
 -- a box with that turn of a job due, lent the job's tape and room to work
@@ -18,21 +15,6 @@ pub record Ready (s : State) (number : ℕ) (turn : Turn) (tape work : List ℕ)
   pub job : s.phase ≡ Job turn number (x_of s.phase) (y_of s.phase)
   pub ordered : in_order s.n s.pair s.side number tape ≡ true
   pub room : work_length s.n ≤ length work
-
--- what a box gives after a round in which it was ready to speak and heard that message
-unfoldable pub heard_after : State → List ℕ → List ℕ → ℕ → List ℕ → Result
-heard_after s tape work round incoming =
-    cond (eqb round last_round)
-    (record {
-      reply = share (answer_share (party_of s tape) work incoming);
-      state = in_phase s Idle;
-      buffer = after_hearing (party_of s tape) work round incoming;
-    })
-    (record {
-      reply = heard;
-      state = in_phase s (turned s.phase (Speak (round + 1)));
-      buffer = after_hearing (party_of s tape) work round incoming;
-    })
 
 -- both works
 abbrev pub works : List ℕ → List ℕ → Both

@@ -9,10 +9,10 @@ ghost use Rattle.encoding.specs.Matching.{indicator};
 ghost use Rattle.protocol.specs.Rounds.{round_words, message};
 ghost use Rattle.refusals.specs.Checks.{ground_of};
 ghost use Rattle.rules.specs.Answers.{started, heard_or_share, reply_of};
-ghost use Rattle.rules.specs.Calls.{outcome, in_phase, party_of, turned, hear_rule};
+ghost use Rattle.rules.specs.Calls.{outcome, in_phase, party_of, turned, heard_after, hear_rule};
 ghost use Rattle.rules.specs.declared.state.Turn.TheVariants.{Speak, Hear};
 ghost use Rattle.exchange.specs.Opening.{begun};
-ghost use Rattle.exchange.specs.Boxes.{Ready, heard_after, answer1, answer2};
+ghost use Rattle.exchange.specs.Boxes.{Ready, answer1, answer2};
 ghost use Rattle.exchange.specs.Jobs.{lent, roomy, answer_sum, less_of, ended, job_of};
 
 use compare::words::LAST_ROUND;

@@ -18,7 +18,7 @@ use Rattle.protocol.proofs.Lengths.{after_length}
 use Rattle.rules.specs.Answers.{heard, share}
 use Rattle.rules.specs.Modes.{round_of, in_range, mode_of, is_asleep}
 use Rattle.rules.specs.Grounds.{wake_ground, start_ground, speak_ground, hear_ground, drop_ground}
-use Rattle.rules.specs.Calls.{Result, in_phase, party_of, turned, wake_rule, start_rule, speak_rule, hear_rule, drop_rule}
+use Rattle.rules.specs.Calls.{Result, in_phase, party_of, turned, wake_rule, start_rule, speak_rule, heard_after, hear_rule, drop_rule}
 use Rattle.rules.specs.declared.state.Turn.{Turn}
 use Rattle.rules.specs.declared.state.Turn.TheVariants.{Speak, Hear}
 use Rattle.rules.specs.declared.state.Phase.{Phase}
@@ -339,7 +339,7 @@ module _ (g : Setting) (book : Box → Key → Lending) where
       → (hear_ground m.state number round (tape_words g lent) m.work incoming ≡ 0
       → (lent ≡ dealt b number m.state.n) × (incoming ≡ sent_by g.tapes book (other_box b) (key_at m.state number) round))
       → Heard b m number round words (hear_rule m.state number round (tape_words g lent) m.work incoming)
-  unfolding hear_rule
+  unfolding hear_rule heard_after
   hear_holds pair orders b m number round lent incoming words h keeps =
       decide (Heard b m number round words) (hear_ground m.state number round (tape_words g lent) m.work incoming) m.state m.work _
       (λ zero_ground.

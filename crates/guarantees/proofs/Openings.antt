@@ -13,7 +13,7 @@ use Rattle.tally.proofs.Marks.{marked_spent, marked_other, marked_length, cut_ot
 use Rattle.protocol.specs.Rounds.{last_round, answer_share}
 use Rattle.rules.specs.Answers.{started, heard, share}
 use Rattle.rules.specs.Grounds.{wake_ground, start_ground, speak_ground, hear_ground, drop_ground}
-use Rattle.rules.specs.Calls.{Result, in_phase, party_of, wake_rule, start_rule, speak_rule, hear_rule, drop_rule}
+use Rattle.rules.specs.Calls.{Result, in_phase, party_of, wake_rule, start_rule, speak_rule, heard_after, hear_rule, drop_rule}
 use Rattle.rules.specs.declared.state.Turn.TheVariants.{Speak}
 use Rattle.rules.specs.declared.state.Phase.TheVariants.{Job}
 use Rattle.rules.specs.declared.state.State.{State}
@@ -40,7 +40,7 @@ speak_opens s number round tape work out =
     decide (λ r. is_opening (kind_of (replied r.reply)) ≡ false) (speak_ground s number round tape work out) s out _ (λ z. refl) refl
 
 hear_opens : (s : State) (number round : ℕ) (tape work incoming : List ℕ) → is_opening (kind_of (replied (hear_rule s number round tape work incoming).reply)) ≡ false
-unfolding hear_rule
+unfolding hear_rule heard_after
 hear_opens s number round tape work incoming =
     decide (λ r. is_opening (kind_of (replied r.reply)) ≡ false) (hear_ground s number round tape work incoming) s work _
     (λ z. last (eqb round last_round) (answer_share (party_of s tape) work incoming) _ _ _) refl

@@ -32,7 +32,7 @@ use Rattle.rules.specs.Answers.{share}
 use Rattle.tally.specs.Tally.{tally_fits, tapes_of, is_fresh, late, marked, cut_marked, fresh_count}
 use Rattle.rules.specs.Modes.{in_range, mode_of, is_asleep}
 use Rattle.rules.specs.Grounds.{wake_ground, start_ground, speak_ground, hear_ground, drop_ground}
-use Rattle.rules.specs.Calls.{wake_rule, start_rule, speak_rule, hear_rule, drop_rule}
+use Rattle.rules.specs.Calls.{wake_rule, start_rule, speak_rule, heard_after, hear_rule, drop_rule}
 use Rattle.guarantees.specs.Boxes.{Box, box1, box2, other_box}
 use Rattle.guarantees.specs.Keys.{Key, key_at}
 use Rattle.guarantees.specs.Outcomes.{kind_of}
@@ -264,7 +264,7 @@ unfolding modulus listed is_side other_side constant_share minus read legible de
     square_word low_products low_sum level_products wrap_products half_share half_opening half_opened answer_from half_word
     answer_share round_words message after_hearing
     tally_fits tapes_of is_fresh late marked cut_marked fresh_count in_range mode_of
-    wake_ground start_ground speak_ground hear_ground wake_rule start_rule speak_rule hear_rule stepped whole again
+    wake_ground start_ground speak_ground hear_ground wake_rule start_rule speak_rule hear_rule heard_after stepped whole again
 computed box1 = (refl, (refl, refl))
 computed box2 = (refl, (refl, refl))
 

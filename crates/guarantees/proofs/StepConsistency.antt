@@ -13,7 +13,7 @@ use Rattle.protocol.proofs.Lengths.{after_length}
 use Rattle.rules.specs.Answers.{refused}
 use Rattle.rules.specs.Modes.{mode_of}
 use Rattle.rules.specs.Grounds.{wake_ground, start_ground, speak_ground, hear_ground}
-use Rattle.rules.specs.Calls.{Result, in_phase, unless, turned, party_of, wake_rule, start_rule, speak_rule, hear_rule, drop_rule}
+use Rattle.rules.specs.Calls.{Result, in_phase, unless, turned, party_of, wake_rule, start_rule, speak_rule, heard_after, hear_rule, drop_rule}
 use Rattle.rules.specs.declared.state.Turn.{Turn}
 use Rattle.rules.specs.declared.state.Turn.TheVariants.{Speak, Hear}
 use Rattle.rules.specs.declared.state.Phase.{Phase}
@@ -148,7 +148,7 @@ module _ {s s' : State} (t : LowState s s') where
   hear_low : (number round : ℕ) (tape tape' work work' incoming incoming' : List ℕ) → length work ≡ length work'
       → hear_ground s number round tape work incoming ≡ hear_ground s' number round tape' work' incoming'
       → LowResult SameLength (hear_rule s number round tape work incoming) (hear_rule s' number round tape' work' incoming')
-  unfolding hear_rule
+  unfolding hear_rule heard_after
   hear_low number round tape tape' work work' incoming incoming' room e =
       unless_low SameLength _ _ s s' work work' _ _ e t room
       (λ passed.

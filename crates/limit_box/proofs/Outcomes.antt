@@ -9,7 +9,7 @@ use Rattle.std.specs.Option.{is_some}
 use Rattle.protocol.specs.Rounds.{last_round, after_hearing, answer_share, share_after}
 use Rattle.rules.specs.Answers.{heard_or_share}
 use Rattle.rules.specs.Grounds.{hear_ground}
-use Rattle.rules.specs.Calls.{outcome, in_phase, party_of, turned, hear_rule}
+use Rattle.rules.specs.Calls.{outcome, in_phase, party_of, turned, heard_after, hear_rule}
 use Rattle.rules.specs.declared.state.Turn.TheVariants.{Speak}
 use Rattle.rules.specs.declared.state.Phase.{Phase}
 use Rattle.rules.specs.declared.state.Phase.TheVariants.{Idle}
@@ -24,7 +24,7 @@ module _ (s : State) (number round : ℕ) (tape work incoming : List ℕ) where
       → outcome (heard_or_share (share_after (party_of s tape) work round incoming)) (in_phase s (due_then (eqb round last_round)))
       (after_hearing (party_of s tape) work round incoming)
       ≡ hear_rule s number round tape work incoming
-  unfolding hear_rule share_after
+  unfolding hear_rule heard_after share_after
   hear_outcome goes = rw goes (go (eqb round last_round))
     where
       after : List ℕ

@@ -9,7 +9,7 @@ use Rattle.shares.specs.Reading.{legible, read_words}
 use Rattle.shares.proofs.Reading.{length_read, get_d_read, legible_read}
 use Rattle.protocol.proofs.AsRead.{after_read, answer_read}
 use Rattle.rules.specs.Grounds.{words_fit, hear_ground}
-use Rattle.rules.specs.Calls.{party_of, hear_rule}
+use Rattle.rules.specs.Calls.{party_of, heard_after, hear_rule}
 use Rattle.rules.specs.AsRead.{HeardAsRead}
 use Rattle.rules.specs.declared.state.State.{State}
 
@@ -26,7 +26,7 @@ unfolding hear_ground
 ground_read s number round tape work incoming = rw (fits_read s.n incoming, length_read s.n incoming) refl
 
 pub heard_as_read : HeardAsRead
-unfolding hear_rule
+unfolding hear_rule heard_after
 heard_as_read s number round tape work incoming =
     rw (
       ground_read s number round tape work incoming,

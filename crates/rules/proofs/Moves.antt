@@ -13,7 +13,7 @@ use Rattle.rules.specs.Answers.{dropped}
 use Rattle.tally.specs.Tally.{tapes_of}
 use Rattle.rules.specs.Modes.{round_of, round_fits, in_range, mode_of, is_asleep, in_job}
 use Rattle.rules.specs.Grounds.{wake_ground, start_ground, speak_ground, hear_ground, drop_ground, drop_grounds}
-use Rattle.rules.specs.Calls.{Result, in_phase, unless, turned, wake_rule, start_rule, speak_rule, hear_rule, drop_rule}
+use Rattle.rules.specs.Calls.{Result, in_phase, unless, turned, wake_rule, start_rule, speak_rule, heard_after, hear_rule, drop_rule}
 use Rattle.rules.specs.AnyCall.{Call, wake, start, speak, hear, drop, ground_of, result_of, is_wake}
 use Rattle.rules.specs.Moves.{Moves, wakes_up, opens, speaks, hears, ends, drops}
 use Rattle.rules.specs.declared.state.Turn.{Turn}
@@ -105,7 +105,7 @@ HearMoves s number round tape work incoming =
 
 heard_job : (s : State) (number round : ℕ) (tape work incoming : List ℕ) → hear_ground s number round tape work incoming ≡ 0 → (round ≡ last_round → ⊥)
     → (t : TurnPassed s number (Hear round) tape) → mode_of (hear_rule s number round tape work incoming).state ≡ Job (Speak (round + 1)) number t.due.x t.due.y
-unfolding hear_rule
+unfolding hear_rule heard_after
 heard_job s number round tape work incoming z other t =
     let last = t.range.last in
     rw (z, ne_eqb round last_round other)
@@ -114,7 +114,7 @@ heard_job s number round tape work incoming z other t =
 -- before the last round
 hear_goes_on : (s : State) (number round : ℕ) (tape work incoming : List ℕ) → hear_ground s number round tape work incoming ≡ 0 → (round ≡ last_round → ⊥)
     → HearMoves s number round tape work incoming
-unfolding hear_rule HearMoves
+unfolding hear_rule heard_after HearMoves
 hear_goes_on s number round tape work incoming z other =
     let t = (hear_passed s number round tape work incoming z).turn in
     let less : round < last_round = omega (arith, t.range.last) in
@@ -122,7 +122,7 @@ hear_goes_on s number round tape work incoming z other =
 
 hear_ends : (s : State) (number : ℕ) (tape work incoming : List ℕ) → hear_ground s number last_round tape work incoming ≡ 0
     → HearMoves s number last_round tape work incoming
-unfolding hear_rule HearMoves
+unfolding hear_rule heard_after HearMoves
 hear_ends s number tape work incoming z =
     let t = (hear_passed s number last_round tape work incoming z).turn in
     rw (found_job s t, z, phase_mode s Idle (awake_range s t.awake) refl) ends
@@ -170,7 +170,7 @@ either_box true s a b ea eb = ea
 either_box false s a b ea eb = eb
 
 pub keeps : (s : State) (call : Call) → is_wake call ≡ false → (result_of s call).state ≡ in_phase s (result_of s call).state.phase
-unfolding start_rule speak_rule hear_rule drop_rule
+unfolding start_rule speak_rule hear_rule heard_after drop_rule
 keeps s (wake n side pair tally) e = absurd (true≢false e)
 keeps s (start number x y tape work tally) e = same_box_lem (start_ground s number x y tape work tally) s tally _ refl
 keeps s (speak number round tape work out) e = same_box_lem (speak_ground s number round tape work out) s out _ refl

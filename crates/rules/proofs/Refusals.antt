@@ -10,7 +10,7 @@ use Rattle.protocol.specs.Rounds.{last_round}
 use Rattle.rules.specs.Answers.{refused}
 use Rattle.rules.specs.Modes.{mode_of, is_asleep}
 use Rattle.rules.specs.Grounds.{wake_ground, start_ground, speak_ground, hear_ground, drop_ground}
-use Rattle.rules.specs.Calls.{Result, unless, wake_rule, start_rule, speak_rule, hear_rule, drop_rule}
+use Rattle.rules.specs.Calls.{Result, unless, wake_rule, start_rule, speak_rule, heard_after, hear_rule, drop_rule}
 use Rattle.rules.specs.AnyCall.{Call, wake, start, speak, hear, drop, ground_of, result_of, buffer_of, is_wake, is_refused}
 use Rattle.rules.specs.declared.state.State.{State}
 
@@ -38,7 +38,7 @@ hear_answers true a b ea eb = ea
 hear_answers false a b ea eb = eb
 
 pub call_by_ground : (s : State) (call : Call) → ByGround (ground_of s call) s (buffer_of call) (result_of s call)
-unfolding wake_rule start_rule speak_rule hear_rule drop_rule
+unfolding wake_rule start_rule speak_rule hear_rule heard_after drop_rule
 call_by_ground s (wake n side pair tally) = by_ground (wake_ground s n side tally) s tally _ refl
 call_by_ground s (start number x y tape work tally) = by_ground (start_ground s number x y tape work tally) s tally _ refl
 call_by_ground s (speak number round tape work out) = by_ground (speak_ground s number round tape work out) s out _ refl

@@ -73,11 +73,10 @@ speak_rule s number round tape work out =
       buffer = sets out 0 (message (party_of s tape) work round);
     })
 
--- after the last round the answer share comes back and the job is closed
-unfoldable pub hear_rule : State → ℕ → ℕ → List ℕ → List ℕ → List ℕ → Result
-hear_rule s number round tape work incoming =
-    unless (hear_ground s number round tape work incoming) s work
-    (cond (eqb round last_round)
+-- what a box gives when it hears that message: after the last round the answer share comes back and the job is closed
+unfoldable pub heard_after : State → List ℕ → List ℕ → ℕ → List ℕ → Result
+heard_after s tape work round incoming =
+    cond (eqb round last_round)
     (record {
       reply = share (answer_share (party_of s tape) work incoming);
       state = in_phase s Idle;
@@ -87,7 +86,11 @@ hear_rule s number round tape work incoming =
       reply = heard;
       state = in_phase s (turned s.phase (Speak (round + 1)));
       buffer = after_hearing (party_of s tape) work round incoming;
-    }))
+    })
+
+unfoldable pub hear_rule : State → ℕ → ℕ → List ℕ → List ℕ → List ℕ → Result
+hear_rule s number round tape work incoming =
+    unless (hear_ground s number round tape work incoming) s work (heard_after s tape work round incoming)
 
 unfoldable pub drop_rule : State → Result
 drop_rule s =

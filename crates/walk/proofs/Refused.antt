@@ -11,7 +11,7 @@ use Rattle.protocol.specs.Rounds.{last_round, after_hearing, answer_share}
 use Rattle.rules.specs.Answers.{reply_of, started, heard, share}
 use Rattle.tally.specs.Tally.{marked}
 use Rattle.rules.specs.Grounds.{start_ground, hear_ground}
-use Rattle.rules.specs.Calls.{Result, in_phase, party_of, turned, unless, start_rule, hear_rule}
+use Rattle.rules.specs.Calls.{Result, in_phase, party_of, turned, unless, start_rule, heard_after, hear_rule}
 use Rattle.rules.proofs.Decide.{decide}
 use Rattle.rules.specs.declared.state.Turn.TheVariants.{Speak}
 use Rattle.rules.specs.declared.state.Phase.TheVariants.{Idle, Job}
@@ -40,7 +40,7 @@ either_taken false a b e f = f
 
 hear_keeps : (s : State) (number round : ℕ) (tape work incoming : List ℕ) (k : ℕ) → 0 < k → let r = hear_rule s number round tape work incoming in
     refusal_of r.reply ≡ k → (s ≡ r.state) × (work ≡ r.buffer)
-unfolding hear_rule
+unfolding hear_rule heard_after
 hear_keeps s number round tape work incoming k some =
     let left = after_hearing (party_of s tape) work round incoming in
     let last : Result = record { reply = share (answer_share (party_of s tape) work incoming); state = in_phase s Idle; buffer = left } in

@@ -1,5 +1,5 @@
 -- `exchange::memory::is_right` meets its contract: on dealt tapes a job is taken, and its answer is right.
-use Rattle.std.proofs.Common.{refl, sym, ◌∙◌, arith}
+use Rattle.std.proofs.Common.{sym, ◌∙◌, arith}
 use borrow.Author.Tests.{eq-eqb}
 use Rattle.refusals.proofs.Numbers.{numbered}
 use Rattle.exchange.proofs.Fresh.{fresh_right}
