@@ -23,7 +23,7 @@ pub fn words_of(n: Width, round: u32) -> usize
     }
 }
 
-// How many words of work a job may use.
+// How many words of work a job may use, for any number n: a Width would ask more of callers.
 pub fn work_words(n: u32) -> usize
     ensures { result ≡ work_length n }
 {

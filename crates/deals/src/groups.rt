@@ -124,7 +124,7 @@ fn group(n: Width, kind: Kind, v: u32, w1: &mut [u32], w2: &mut [u32]) -> u32
     }
 }
 
-// All groups of a kind. Answers their last draw.
+// All groups of a kind. Answers their last draw. By places: what stands in the parts that chunks_exact_mut lends is not known when their loan ends.
 pub fn all_of(n: Width, kind: Kind, v: u32, w1: &mut [u32], w2: &mut [u32]) -> u32
     requires { (length w1.old ≡ kind_length n.bits (number_of kind)) × (length w2.old ≡ kind_length n.bits (number_of kind)) }
     ensures value { result ≡ draw v (groups_of n.bits (number_of kind) * group_draws n.bits (number_of kind)) }

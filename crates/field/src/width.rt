@@ -1,4 +1,5 @@
 // A width, and the arithmetic modulo its p. A width is tested once, where it comes in as a number: from then on its type says that it is listed.
+// Words are u32: they are lent in slices of u32, and a type for a word below p would copy them.
 ghost use Rattle.std.specs.Prelude.{◌≡◌, true, ◌+◌, ◌-◌, ◌*◌, ◌/◌, ◌%◌, ◌^◌, ◌<◌, ◌≤◌, ltb, length, nat_lt, slice_index, IfSome};
 ghost use Rattle.std.specs.Option.{is_some};
 ghost use Rattle.lists.specs.Every.{every};

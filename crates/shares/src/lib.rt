@@ -10,7 +10,7 @@ ghost use Rattle.shares.specs.Share.{constant_share, masked, opened, square_shar
 
 use field::Width;
 
-// Whether the number is a box's side.
+// Whether the number is a box's side. A side is a number and no enum: a state may have any, and a refusal says so.
 pub fn is_side(side: u32) -> bool
     ensures { result ≡ is_side side }
 {

@@ -1,5 +1,6 @@
 // Places in work and on the tape, by the names that the definitions give them.
-// One function a name, alike as they are: one for all kinds would need an enum, a match in the code and a definition by its cases.
+// One function a name, alike as they are: one for all kinds would need an enum, a match in the code and a definition by its cases. Most are right for
+// every number n and take any: a Width would ask more of callers.
 ghost use Rattle.std.specs.Prelude.{◌≡◌, ◌-◌, ◌*◌, ◌<◌};
 ghost use Rattle.tape.specs.Layout.{square_count, group_count, triple_count};
 ghost use Rattle.protocol.specs.Work.{sum_slot, wrap_slot, half_slot};

@@ -25,7 +25,7 @@ fn opening(n: Width, side: u32, code: u32, k: u32, mask: u32) -> u32
 }
 
 // Opens the bits of a code from bit `low` up, from the last one down. The squares and out are lent from the code's first one on: with the place of
-// the code's group added to each index, this takes longer.
+// the code's group added to each index, this takes a fifth longer at width 31.
 fn open_bits(n: Width, side: u32, code: u32, squares: &[u32], low: usize, out: &mut [u32])
     requires operands { low ≤ n.bits }
     requires below { Below (modulus n.bits) squares.now × (n.bits * 2 ≤ length squares.now) × (n.bits ≤ length out.old) }

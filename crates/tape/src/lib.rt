@@ -154,7 +154,8 @@ fn body_in_range(tape: &[u32], n: Width) -> bool
     all
 }
 
-// Whether the tape is in order for this width, pair, side and number.
+// Whether the tape is in order for this width, pair, side and number, which may be any: a state may have a width that is not listed, and a Width would ask
+// more of callers.
 pub fn in_order(tape: &[u32], n: u32, label: Label) -> bool
     ensures { result ≡ in_order n label.pair label.side label.number tape.now }
 {
