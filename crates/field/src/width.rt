@@ -1,9 +1,9 @@
 // A width, and the arithmetic modulo its p. A width is tested once, where it comes in as a number: from then on its type says that it is listed.
 // Words are u32: they are lent in slices of u32, and a type for a word below p would copy them.
-ghost use Rattle.std.specs.Prelude.{◌≡◌, true, ◌+◌, ◌-◌, ◌*◌, ◌/◌, ◌%◌, ◌^◌, ◌<◌, ◌≤◌, ltb, length, nat_lt, slice_index, IfSome};
+ghost use Rattle.std.specs.Prelude.{◌≡◌, true, ◌+◌, ◌-◌, ◌*◌, ◌/◌, ◌%◌, ◌^◌, ◌<◌, ◌≤◌, ltb, length, map, nat_lt, slice_index, IfSome};
 ghost use Rattle.std.specs.Option.{is_some};
 ghost use Rattle.lists.specs.Every.{every};
-ghost use Rattle.field.specs.Width.{listed, modulus};
+ghost use Rattle.field.specs.Width.{listed, modulus, widths};
 ghost use Rattle.field.specs.Subtraction.{minus};
 
 #[derive(Clone, Copy, Debug, PartialEq, Eq)]
@@ -14,17 +14,6 @@ pub struct Width {
 }
 
 impl Width {
-    // All of them, from the narrowest on.
-    pub const ALL: [Width; 7] = [
-        Width { bits: 3 },
-        Width { bits: 5 },
-        Width { bits: 7 },
-        Width { bits: 13 },
-        Width { bits: 17 },
-        Width { bits: 19 },
-        Width { bits: 31 },
-    ];
-
     // The width of that number, if it is a listed one.
     #[tactic(auto, unfolding(crate::specs::Width::listed))]
     pub fn new(n: u32) -> Option<Width>
@@ -35,6 +24,22 @@ impl Width {
             3 | 5 | 7 | 13 | 17 | 19 | 31 => Some(Width { bits: n }),
             _ => None,
         }
+    }
+
+    // All of them, from the narrowest on. A function and no constant: what a constant's invariants ask is proved where it is used, and here once.
+    #[tactic(auto, unfolding(crate::specs::Width::listed))]
+    pub fn all() -> [Width; 7]
+        ensures { map (λ width. width.bits) result ≡ widths }
+    {
+        [
+            Width { bits: 3 },
+            Width { bits: 5 },
+            Width { bits: 7 },
+            Width { bits: 13 },
+            Width { bits: 17 },
+            Width { bits: 19 },
+            Width { bits: 31 },
+        ]
     }
 
     // p.
