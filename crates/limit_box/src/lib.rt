@@ -12,7 +12,6 @@ use rules::state::{Phase, State, Turn};
 mod checks;
 mod grounds;
 mod modes;
-pub mod numbers;
 
 // Counts the fresh tapes, and keeps the width, the side, the pair and the tally's length. The tally is lent for reading only, so it cannot
 // change: the contract's buffer is the tally at entry.
