@@ -1,5 +1,5 @@
 // Text put into a lent slice, piece after piece.
-ghost use Rattle.std.specs.Prelude.{◌≡◌, ◌+◌, ◌*◌, ◌≤◌, length};
+ghost use Rattle.std.specs.Prelude.{◌≡◌, ◌+◌, ◌*◌, ◌≤◌, length, take};
 ghost use Rattle.lines.specs.Writing.{decimal, named, refused_text, spaced, row};
 ghost use Rattle.lines.specs.Pages.{HasRoom, Puts};
 
@@ -19,6 +19,15 @@ impl<'a> Page<'a> {
         ensures blank { result.len ≡ 0 }
     {
         Page { out, len: 0 }
+    }
+
+    // What was written, lent on from the slice.
+    pub fn written(self) -> &'a [u8]
+        requires { HasRoom self 0 }
+        ensures { result.now ≡ take self.entry.len self.entry.out.now }
+    {
+        let Page { out, len } = self;
+        &out[..len]
     }
 
     #[tactic(auto, using(crate::proofs::Runs::part_sets))]

@@ -1,7 +1,6 @@
 -- Which text a line gets, by what was read and what the boxes said.
-use Rattle.std.proofs.Common.{◌≡◌, ℕ, ◌<◌, true, false, cond, eqb, leb, List, Result, Ok, Err, get_or, refl, arith}
-use mathlib.Core.Bool.{and-false}
-use borrow.Author.Tests.{ne_eqb, lt-leb}
+use Rattle.std.proofs.Common.{◌≡◌, ℕ, ◌&&◌, true, false, cond, eqb, leb, List, Result, Ok, Err, get_or, refl, arith}
+use borrow.Author.Tests.{ne_eqb}
 use Rattle.field.specs.Width.{listed}
 use Rattle.refusals.specs.Numbers.{number_of}
 use Rattle.refusals.specs.Checks.{ground_of}
@@ -22,13 +21,10 @@ unfolding printed
 five text numbers e read = rw (e, read) refl
 
 module _ (n x1 x2 y1 y2 : ℕ) where
-  pub unlisted : listed n ≡ false → text_for n x1 x2 y1 y2 ≡ refused_text 2
+  -- a width that is not listed, or above 13
+  pub no_width : (leb n 13 && listed n) ≡ false → text_for n x1 x2 y1 y2 ≡ refused_text 2
   unfolding text_for plain_refusal
-  unlisted none = rw (none, and-false (leb n 13)) refl
-
-  pub wide : 13 < n → text_for n x1 x2 y1 y2 ≡ refused_text 2
-  unfolding text_for plain_refusal
-  wide more = rw (lt-leb n 13 more) refl
+  no_width none = rw none refl
 
   -- what the boxes said
   module _ (said : Result ℕ Refusal) (told : ground_of said ≡ plain_refusal n x1 x2 y1 y2) where
@@ -45,3 +41,5 @@ module _ (n x1 x2 y1 y2 : ℕ) where
         let answer : less ≡ cond (eqb (plain_refusal n x1 x2 y1 y2) 0) (plain_less n x1 x2 y1 y2) 0 = rw is at right in
         let bit : less ≡ plain_less n x1 x2 y1 y2 = rw (← none) at answer in
         rw (← none, bit) refl
+
+pub ruleset texts = (not_five, five, no_width, turned_down, taken)

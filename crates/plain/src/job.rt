@@ -6,6 +6,7 @@ ghost use Rattle.exchange.specs.Jobs.{less_of};
 ghost use Rattle.plain.specs.Printed.{plain_refusal, plain_answer};
 
 use exchange::Shares;
+use exchange::memory::{blank_tape, fresh_job, tape_room};
 use field::Width;
 use refusals::Refusal;
 
@@ -14,6 +15,7 @@ const PAIR: u32 = 1;
 const NUMBER: u32 = 0;
 
 // On plain tapes, one fresh one for each box.
+#[tactic(auto, using(crate::proofs::FirstRefusal::first_refusal, crate::proofs::FirstRefusal::right_answer))]
 fn dealt(
     n: Width,
     box1: Shares,
@@ -27,7 +29,7 @@ fn dealt(
 {
     dealer::plain(n, PAIR, 1, NUMBER, &mut *t1);
     dealer::plain(n, PAIR, 2, NUMBER, &mut *t2);
-    exchange::memory::fresh_job(n.bits, PAIR, NUMBER, box1, box2, &*t1, &*t2)
+    fresh_job(n.bits, PAIR, NUMBER, box1, box2, &*t1, &*t2)
 }
 
 // In memory that has room for the longest tape.
@@ -36,8 +38,7 @@ pub fn less(n: Width, box1: Shares, box2: Shares) -> Result<u32, Refusal>
     ensures { (ground_of result ≡ plain_refusal n.bits box1.x box2.x box1.y box2.y)
         × (less_of result ≡ plain_answer n.bits box1.x box2.x box1.y box2.y) }
 {
-    let mut t1 = exchange::memory::blank_tape();
-    let mut t2 = exchange::memory::blank_tape();
-    let len = tape::tape_words(n);
-    dealt(n, box1, box2, &mut t1[..len], &mut t2[..len])
+    let mut t1 = blank_tape();
+    let mut t2 = blank_tape();
+    dealt(n, box1, box2, tape_room(n, &mut t1), tape_room(n, &mut t2))
 }

@@ -1,7 +1,7 @@
 // Document 01's plainrun, from a text to what it prints.
 #![tactic(auto)]
 
-ghost use Rattle.std.specs.Prelude.{◌≡◌, ◌+◌, ◌≤◌, length, take};
+ghost use Rattle.std.specs.Prelude.{◌≡◌, ◌+◌, ◌≤◌, length};
 ghost use Rattle.lines.specs.Pages.{HasRoom, Puts};
 ghost use Rattle.plain.specs.Printed.{text_for, printed};
 
@@ -17,6 +17,7 @@ mod text;
 const WIDEST: u32 = 13;
 
 // The text's first line is n x1 x2 y1 y2.
+#[tactic(auto, using(crate::proofs::Texts::texts, std::proofs::lemmas::Option::cond_some))]
 fn put_printed(page: &mut Page<'_>, text: &[u8])
     requires { HasRoom page.old 78 }
     ensures puts { Puts page.old page.new (printed text.now) }
@@ -30,31 +31,29 @@ fn put_printed(page: &mut Page<'_>, text: &[u8])
 }
 
 // The answer to a job of any width: one that is not listed, or too wide, is refused here.
+#[tactic(auto, using(crate::proofs::Texts::texts))]
 fn put_job(page: &mut Page<'_>, n: u32, box1: Shares, box2: Shares)
     requires { HasRoom page.old 78 }
     ensures puts { Puts page.old page.new (text_for n box1.x box2.x box1.y box2.y) }
     ensures most { page.new.len ≤ page.old.len + 78 }
 {
-    let Some(width) = Width::new(n) else {
+    let Some(width) = Width::new(n).filter(|width| width.bits <= WIDEST) else {
         return page.put_refused(u32::from(Refusal::Width));
     };
-    if WIDEST < n {
-        return page.put_refused(u32::from(Refusal::Width));
-    }
     match job::less(width, box1, box2) {
         Ok(less) => text::put_answer(page, width, less),
         Err(refusal) => page.put_refused(u32::from(refusal)),
     }
 }
 
-// Its answer stands at the front of out; none is longer than 78 bytes.
-pub fn answer(text: &[u8], out: &mut [u8]) -> usize
+// What is printed for a text, put into room that is lent: none is longer than 78 bytes.
+#[tactic(auto, using(lines::proofs::Runs::read_back))]
+pub fn answer<'a>(text: &[u8], out: &'a mut [u8]) -> &'a [u8]
     requires { 78 ≤ length out.old }
-    ensures out_after { take result out.new ≡ printed text.now }
-    ensures long { result ≡ length (printed text.now) }
-    ensures most { result ≤ 78 }
+    ensures value { result.now ≡ printed text.now }
+    ensures most { length result.now ≤ 78 }
 {
     let mut page = Page::new(out);
     put_printed(&mut page, text);
-    page.len
+    page.written()
 }

@@ -9,6 +9,7 @@ use field::Width;
 use lines::writing::Page;
 
 // A space and the words of a round, for every round.
+#[tactic(auto, using(protocol::proofs::Lengths::words_most))]
 fn put_counts(page: &mut Page<'_>, n: Width)
     requires { HasRoom page.old (11 * last_round) }
     ensures puts { Puts page.old page.new (counts n.bits last_round) }

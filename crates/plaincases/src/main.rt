@@ -79,8 +79,7 @@ fn show(rt: &impl Print, title: &str, lines: &[&str]) -> io::Result<()> {
     println!(rt; "{title}")?;
     for line in lines {
         let mut out = [0u8; 78];
-        let end = plain::answer(line.as_bytes(), &mut out);
-        io::writer(rt).write_all(&out[..end])?;
+        io::writer(rt).write_all(plain::answer(line.as_bytes(), &mut out))?;
     }
     Ok(())
 }

@@ -33,3 +33,5 @@ module _ (n count : ℕ) where
   pub taken : (needs : Needs) → told (Ok needs) ≡ needs_rule n count → text_for n count ≡ figures_text (figures_of needs)
   unfolding text_for
   taken needs rule = rw (← rule) refl
+
+pub ruleset texts = (not_two, two_read, turned_down, taken)

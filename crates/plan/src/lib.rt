@@ -1,7 +1,7 @@
 // The planner's work, from a text to what it prints: how much so many jobs need (document 02, P8).
 #![tactic(auto)]
 
-ghost use Rattle.std.specs.Prelude.{◌≡◌, ◌+◌, ◌≤◌, length, take};
+ghost use Rattle.std.specs.Prelude.{◌≡◌, ◌+◌, ◌≤◌, length};
 ghost use Rattle.lines.specs.Pages.{HasRoom, Puts};
 ghost use Rattle.needs.specs.Figures.{figures_of};
 ghost use Rattle.plan.specs.Printed.{figures_text, printed};
@@ -20,6 +20,7 @@ fn put_figures(page: &mut Page<'_>, needs: needs::Needs)
 }
 
 // The text's first line is a width and a count.
+#[tactic(auto, using(crate::proofs::Texts::texts, std::proofs::lemmas::Option::cond_some))]
 fn put_printed(page: &mut Page<'_>, text: &[u8])
     requires { HasRoom page.old 94 }
     ensures puts { Puts page.old page.new (printed text.now) }
@@ -34,14 +35,14 @@ fn put_printed(page: &mut Page<'_>, text: &[u8])
     }
 }
 
-// Its answer stands at the front of out.
-pub fn answer(text: &[u8], out: &mut [u8]) -> usize
+// What is printed for a text, put into room that is lent: none is longer than 94 bytes.
+#[tactic(auto, using(lines::proofs::Runs::read_back))]
+pub fn answer<'a>(text: &[u8], out: &'a mut [u8]) -> &'a [u8]
     requires { 94 ≤ length out.old }
-    ensures out_after { take result out.new ≡ printed text.now }
-    ensures long { result ≡ length (printed text.now) }
-    ensures most { result ≤ 94 }
+    ensures value { result.now ≡ printed text.now }
+    ensures most { length result.now ≤ 94 }
 {
     let mut page = Page::new(out);
     put_printed(&mut page, text);
-    page.len
+    page.written()
 }

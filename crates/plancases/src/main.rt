@@ -61,8 +61,7 @@ fn show(rt: &impl Print, title: &str, lines: &[&str]) -> io::Result<()> {
     println!(rt; "{title}")?;
     for line in lines {
         let mut out = [0u8; 94];
-        let end = plan::answer(line.as_bytes(), &mut out);
-        io::writer(rt).write_all(&out[..end])?;
+        io::writer(rt).write_all(plan::answer(line.as_bytes(), &mut out))?;
     }
     Ok(())
 }

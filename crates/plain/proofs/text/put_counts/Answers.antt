@@ -1,5 +1,4 @@
-use Rattle.std.proofs.Common.{◌+◌, refl, arith}
-use Rattle.protocol.proofs.Lengths.{words_most}
+use Rattle.std.proofs.Common.{refl, arith}
 use Rattle.lines.proofs.Runs.{then}
 use Rattle.plain.specs.Printed.{counts}
 use Rattle.plain.proofs.Counts.{counts_more}
@@ -8,9 +7,6 @@ use Rattle.plain.proofs.text.put_counts.Goals as goal
 pub loop-round-init : goal.loop-round-init
 unfolding counts
 loop-round-init c = record { puts = record { out = refl; len = omega arith; whole = refl; same = refl }; most = omega arith }
-
-pub overflow_cast-words_of : goal.overflow_cast-words_of
-overflow_cast-words_of c = omega (arith, c.words_of.ensures, words_most c.args.n.bits (c.loop-round.round + 1) c.args.n.listed)
 
 pub loop-round-preserved : goal.loop-round-preserved
 loop-round-preserved c =
