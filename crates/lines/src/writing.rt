@@ -23,7 +23,7 @@ impl<'a> Page<'a> {
 
     // What was written, lent on from the slice.
     pub fn written(self) -> &'a [u8]
-        requires { HasRoom self 0 }
+        requires { self.len ≤ length self.out.now }
         ensures { result.now ≡ take self.entry.len self.entry.out.now }
     {
         let Page { out, len } = self;

@@ -74,12 +74,11 @@ const NOT_NUMBERS: [&str; 13] = [
     "1111111111111111111111111111111111111111111111111111111111111111111111111111111111111111111111 5 4 1 2\n",
 ];
 
-// As plancases has it, but for the function and the room of its text: one for both would be a crate of its own for eight lines.
+// As plancases has it, but for the function and the room of its text: one for both would be a crate of its own for seven lines.
 fn show(rt: &impl Print, title: &str, lines: &[&str]) -> io::Result<()> {
     println!(rt; "{title}")?;
     for line in lines {
-        let mut out = [0u8; 78];
-        io::writer(rt).write_all(plain::answer(line.as_bytes(), &mut out))?;
+        io::writer(rt).write_all(plain::answer(line.as_bytes(), &mut [0; 78]))?;
     }
     Ok(())
 }

@@ -36,6 +36,7 @@ fn put_printed(page: &mut Page<'_>, text: &[u8])
 }
 
 // What is printed for a text, put into room that is lent: none is longer than 94 bytes.
+// As plain has it, but for the function and the length: one for both would take a closure, and say over it the clauses of put_printed.
 #[tactic(auto, using(lines::proofs::Runs::read_back))]
 pub fn answer<'a>(text: &[u8], out: &'a mut [u8]) -> &'a [u8]
     requires { 94 ≤ length out.old }

@@ -56,12 +56,11 @@ const NOT_NUMBERS: [&str; 11] = [
     "3 1111111111111111111111111111111111111111111111111111111111111111111111111111111111111111111111\n",
 ];
 
-// As plaincases has it, but for the function and the room of its text: one for both would be a crate of its own for eight lines.
+// As plaincases has it, but for the function and the room of its text: one for both would be a crate of its own for seven lines.
 fn show(rt: &impl Print, title: &str, lines: &[&str]) -> io::Result<()> {
     println!(rt; "{title}")?;
     for line in lines {
-        let mut out = [0u8; 94];
-        io::writer(rt).write_all(plan::answer(line.as_bytes(), &mut out))?;
+        io::writer(rt).write_all(plan::answer(line.as_bytes(), &mut [0; 94]))?;
     }
     Ok(())
 }
