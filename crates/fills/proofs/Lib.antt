@@ -1,2 +1,3 @@
 pub mod Due
+pub mod Parts
 pub mod Fillings

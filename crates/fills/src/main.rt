@@ -3,135 +3,149 @@
 // the message is said too.
 #![tactic(auto)]
 
-ghost use Rattle.std.specs.Prelude.{◌≡◌, true, ◌+◌, ◌-◌, ◌≤◌, length, IfOk};
+ghost use Rattle.std.specs.Prelude.{◌≡◌, true, ◌+◌, ◌-◌, ◌<◌, ◌≤◌, length, get_or, IfOk, All};
 ghost use Rattle.lists.specs.Tabulate.{sum};
-ghost use Rattle.fills.specs.Fillings.{message_of, fill_agrees, right_at, Lent};
+ghost use Rattle.field.specs.Width.{modulus};
+ghost use Rattle.protocol.specs.Rounds.{round_words};
+ghost use Rattle.fills.specs.Fillings.{message_of, fill_agrees, right_at};
 
+use compare::Party;
 use field::Width;
-use places::Job;
 use std::io;
 
 mod places;
 mod tapes;
 
 // How a line begins.
-fn tell_box(rt: &impl Print, job: Job, what: &str) -> io::Result<()> {
-    print!(rt; "width {}, box {}: {what}", job.n.bits, job.side)
+fn tell_box(rt: &impl Print, party: Party, what: &str) -> io::Result<()> {
+    print!(rt; "width {}, box {}: {what}", party.n.bits, party.side)
 }
 
 // The message, word by word.
-fn tell_message(rt: &impl Print, job: Job, words: &[u32]) -> io::Result<()> {
-    tell_box(rt, job, "message")?;
-    for word in words {
+fn tell_message(rt: &impl Print, party: Party) -> io::Result<()> {
+    let mut room = [0; 2889];
+    tell_box(rt, party, "message")?;
+    for word in places::spoken(party, &mut room) {
         print!(rt; " {word}")?;
     }
     println!(rt)
 }
 
 // Says a count: only one whose filling is as it must be.
-fn tell_count(rt: &impl Print, job: Job, tape: &[u32], count: usize) -> io::Result<()>
-    requires { fill_agrees job tape.now count ≡ true }
+fn tell_count(rt: &impl Print, party: Party, count: usize) -> io::Result<()>
+    requires { fill_agrees party count ≡ true }
 {
     print!(rt; " {count}")
 }
 
 // Says those of the counts from `first` to `last` that agree, and answers how many they are.
-fn tell_counts(
+#[tactic(auto, using(crate::proofs::Fillings::one_more, crate::proofs::Fillings::all_right))]
+fn tell_range(
     rt: &impl Print,
-    job: Job,
-    tape: &[u32],
+    party: Party,
     words: &[u32],
     first: usize,
     last: usize,
-) -> io::Result<u64>
-    requires { Lent job tape.now × (words.now ≡ message_of job tape.now) × (first ≤ last) × (last ≤ length words.now) }
-    ensures value { IfOk result (λ right. right ≡ sum (last + 1 - first) (right_at job tape.now first)) }
+) -> io::Result<usize>
+    requires { (words.now ≡ message_of party) × (first ≤ last) × (last ≤ length words.now) }
+    ensures value { IfOk result (λ right. right ≡ sum (last + 1 - first) (right_at party.entry first)) }
     ensures all { IfOk result (λ right. right ≡ last + 1 - first) }
 {
-    let mut right: u64 = 0;
-    for count in first..last + 1 {
-        if places::agrees(job, tape, words, count) {
-            tell_count(rt, job, tape, count)?;
+    let mut right = 0;
+    for count in first..=last {
+        if places::agrees(party, words, count) {
+            tell_count(rt, party, count)?;
             right += 1;
         }
     }
     Ok(right)
 }
 
-// How the line of the counts ends.
-fn tell_right(rt: &impl Print, right: u64, all: u64) -> io::Result<()> {
+// How the line of the counts ends: all that were tried agree.
+fn tell_right(rt: &impl Print, right: usize, all: usize) -> io::Result<()>
+    requires { right ≡ all }
+{
     println!(rt; " as they must be, {right} of {all}")
 }
 
-// Every count of width 3.
-fn run_3(rt: &impl Print, job: Job, tape: &[u32]) -> io::Result<()>
-    requires { (job.n.bits ≡ 3) × Lent job tape.now }
+// The counts of each range, which are those from one number to another.
+#[tactic(auto, using(protocol::proofs::Lengths::words_most, crate::proofs::Fillings::words_length))]
+fn tell_counts(rt: &impl Print, party: Party, ranges: &[(usize, usize)]) -> io::Result<()>
+    requires few { length ranges.now ≤ 5 }
+    requires within { All (λ range. (range.0 ≤ range.1) × (range.1 ≤ round_words party.n.bits 1)) ranges.now }
 {
-    let mut words = [0u32; 33];
-    places::spoken(job, tape, &mut words);
-    tell_message(rt, job, &words)?;
-    tell_box(rt, job, "counts")?;
-    let right = tell_counts(rt, job, tape, &words, 0, 33)?;
-    tell_right(rt, right, 34)
+    let mut room = [0; 2889];
+    let words = places::spoken(party, &mut room);
+    tell_box(rt, party, "counts")?;
+    let mut right = 0;
+    let mut all = 0;
+    for &(first, last) in ranges {
+        right += tell_range(rt, party, words, first, last)?;
+        all += last + 1 - first;
+    }
+    tell_right(rt, right, all)
 }
 
-// Some of width 31: 6 words are alpha * beta's, 31 a level's.
-fn run_31(rt: &impl Print, job: Job, tape: &[u32]) -> io::Result<()>
-    requires { (job.n.bits ≡ 31) × Lent job tape.now }
+// Both boxes in a job on dealt tapes, each with its shares of x and y.
+#[tactic(auto, using(tape::proofs::Sizes::small), unfolding(shares::specs::Side::is_side))]
+fn boxes<'a>(
+    n: Width,
+    box1: (u32, u32),
+    box2: (u32, u32),
+    t1: &'a mut [u32; 9053],
+    t2: &'a mut [u32; 9053],
+) -> [Party<'a>; 2]
+    requires { (box1.0 < modulus n.bits) × (box1.1 < modulus n.bits) × (box2.0 < modulus n.bits) × (box2.1 < modulus n.bits) }
+    ensures { All (λ party. party.n.bits ≡ n.bits) result }
 {
-    let mut words = [0u32; 2889];
-    places::spoken(job, tape, &mut words);
-    tell_box(rt, job, "counts")?;
-    let mut right = tell_counts(rt, job, tape, &words, 0, 1)?;
-    right += tell_counts(rt, job, tape, &words, 5, 7)?;
-    right += tell_counts(rt, job, tape, &words, 36, 38)?;
-    right += tell_counts(rt, job, tape, &words, 50, 50)?;
-    right += tell_counts(rt, job, tape, &words, 2887, 2889)?;
-    tell_right(rt, right, 12)
+    let words = tape::tape_words(n);
+    let t1 = &mut t1[..words];
+    let t2 = &mut t2[..words];
+    tapes::deal(n, &mut *t1, &mut *t2);
+    let box1 = Party {
+        n,
+        side: 1,
+        x: box1.0,
+        y: box1.1,
+        tape: t1,
+    };
+    let box2 = Party {
+        n,
+        side: 2,
+        x: box2.0,
+        y: box2.1,
+        tape: t2,
+    };
+    [box1, box2]
 }
 
-#[tactic(auto, unfolding(field::specs::Width::listed))]
+// Every count.
+#[tactic(auto, unfolding(field::specs::Width::listed, field::specs::Width::modulus, protocol::specs::Rounds::round_words))]
 fn width_3(rt: &impl Print) -> io::Result<()> {
-    let mut t1 = [0u32; 149];
-    let mut t2 = [0u32; 149];
-    let n = Width { bits: 3 };
-    tapes::deal(n, &mut t1, &mut t2);
-    let box1 = Job {
-        n,
-        side: 1,
-        x: 5,
-        y: 1,
-    };
-    let box2 = Job {
-        n,
-        side: 2,
-        x: 2,
-        y: 4,
-    };
-    run_3(rt, box1, &t1)?;
-    run_3(rt, box2, &t2)
+    let mut t1 = [0; 9053];
+    let mut t2 = [0; 9053];
+    for party in boxes(Width { bits: 3 }, (5, 1), (2, 4), &mut t1, &mut t2) {
+        tell_message(rt, party)?;
+        tell_counts(rt, party, &[(0, 33)])?;
+    }
+    Ok(())
 }
 
-#[tactic(auto, unfolding(field::specs::Width::listed))]
+// 6 words are alpha * beta's, 31 a level's.
+#[tactic(auto, unfolding(field::specs::Width::listed, field::specs::Width::modulus, protocol::specs::Rounds::round_words))]
 fn width_31(rt: &impl Print) -> io::Result<()> {
-    let mut t1 = [0u32; 9053];
-    let mut t2 = [0u32; 9053];
-    let n = Width { bits: 31 };
-    tapes::deal(n, &mut t1, &mut t2);
-    let box1 = Job {
-        n,
-        side: 1,
-        x: 1518500249,
-        y: 271828182,
-    };
-    let box2 = Job {
-        n,
-        side: 2,
-        x: 314159265,
-        y: 1202056903,
-    };
-    run_31(rt, box1, &t1)?;
-    run_31(rt, box2, &t2)
+    let mut t1 = [0; 9053];
+    let mut t2 = [0; 9053];
+    let box1 = (1518500249, 271828182);
+    let box2 = (314159265, 1202056903);
+    for party in boxes(Width { bits: 31 }, box1, box2, &mut t1, &mut t2) {
+        tell_counts(
+            rt,
+            party,
+            &[(0, 1), (5, 7), (36, 38), (50, 50), (2887, 2889)],
+        )?;
+    }
+    Ok(())
 }
 
 // At each box the low bits of the three tests are 1, 0, 1 or 0, 1, 1.

@@ -1,67 +1,46 @@
 // What a filling leaves in each place of out, against round 1's message.
-ghost use Rattle.std.specs.Prelude.{◌≡◌, true, ◌+◌, ◌≤◌, length};
-ghost use Rattle.protocol.specs.Rounds.{round_words};
-ghost use Rattle.fills.specs.Due.{blank, due_at, as_due};
-ghost use Rattle.fills.specs.Fillings.{message_of, fill_agrees, Lent};
+ghost use Rattle.std.specs.Prelude.{◌≡◌, true, ◌≤◌, eqb, length};
+ghost use Rattle.std.specs.List.{list_all};
+ghost use Rattle.fills.specs.Due.{filler, blank, as_due};
+ghost use Rattle.fills.specs.Fillings.{message_of, fill_agrees};
 
 use compare::Party;
-use field::Width;
 
 // What out holds at first: no word of a message.
 const FILLER: u32 = 4294967295;
 
-// What a box has of a job, beside its tape.
-#[derive(Clone, Copy)]
-pub struct Job {
-    pub n: Width,
-    pub side: u32,
-    pub x: u32,
-    pub y: u32,
-}
-
-// The message, as speak puts it at the front of a buffer that has just its length.
-pub fn spoken(job: Job, tape: &[u32], words: &mut [u32])
-    requires { Lent job tape.now × (length words.old ≡ round_words job.n.bits 1) }
-    ensures { words.new ≡ message_of job tape.now }
+// The message, as speak puts it at the front of a buffer that has just its length: the first words of room for the longest.
+#[tactic(auto, using(tape::proofs::Sizes::small, protocol::proofs::Lengths::words_most, crate::proofs::Fillings::spoken_whole))]
+pub fn spoken<'a>(party: Party, room: &'a mut [u32; 2889]) -> &'a [u32]
+    ensures { result.now ≡ message_of party.entry }
 {
     let work = [0u32; 436];
-    let party = Party {
-        n: job.n,
-        side: job.side,
-        x: job.x,
-        y: job.y,
-        tape,
-    };
-    party.speak(1, &work, words);
+    let words = &mut room[..compare::words::words_of(party.n, 1)];
+    party.speak(1, &work, &mut *words);
+    words
 }
 
-// What place j must hold once the last `count` words are filled in.
-fn due_at(words: &[u32], count: usize, j: usize) -> u32
-    requires { count ≤ length words.now }
-    ensures { result ≡ due_at words.now count j }
-{
-    let whole = words.len();
-    if whole - count <= j && j < whole {
-        words[j]
-    } else {
-        FILLER
-    }
-}
-
-// Whether every place of out holds that.
+// Whether every place of out holds what it must once the last `count` words are filled in: these, and elsewhere the filler.
+#[tactic(auto, using(crate::proofs::Parts::parts_due))]
 fn as_due(out: &[u32], words: &[u32], count: usize) -> bool
-    requires { count ≤ length words.now }
+    requires { (count ≤ length words.now) × (length words.now ≤ length out.now) }
     ensures { result ≡ as_due out.now words.now count }
 {
-    for j in 0..out.len() {
-        if out[j] != due_at(words, count, j) {
-            return false;
-        }
-    }
-    true
+    let from = words.len() - count;
+    let (message, after) = out.split_at(words.len());
+    let (before, filled) = message.split_at(from);
+    is_blank(before) && filled == &words[from..] && is_blank(after)
+}
+
+// Whether nothing was written to these places.
+fn is_blank(places: &[u32]) -> bool
+    ensures { result ≡ list_all (λ word. eqb word filler) places.now }
+{
+    places.iter().all(|&word| word == FILLER)
 }
 
 // Room for the longest message and three words more, so that one put behind a message shows.
+#[tactic(auto, unfolding(crate::specs::Due::blank))]
 fn blank_words() -> [u32; 2892]
     ensures { (length result ≡ 2892) × (result ≡ blank 2892) }
 {
@@ -69,30 +48,14 @@ fn blank_words() -> [u32; 2892]
 }
 
 // Whether a filling of that many words leaves every place of out so, none of which was written to before.
-fn filled_as_due(job: Job, tape: &[u32], words: &[u32], count: usize, out: &mut [u32]) -> bool
-    requires lent { Lent job tape.now × (words.now ≡ message_of job tape.now) × (count ≤ length words.now) }
-    requires out_value { out.old ≡ blank (round_words job.n.bits 1 + 3) }
-    ensures value { result ≡ fill_agrees job tape.now count }
+#[tactic(auto, using(protocol::proofs::Lengths::words_most, crate::proofs::Fillings::words_length, crate::proofs::Fillings::blank_cut, crate::proofs::Fillings::all_agree, crate::proofs::Due::blank_length), unfolding(crate::specs::Fillings::fill_agrees))]
+pub fn agrees(party: Party, words: &[u32], count: usize) -> bool
+    requires { (words.now ≡ message_of party) × (count ≤ length words.now) }
+    ensures value { result ≡ fill_agrees party.entry count }
     ensures all { result ≡ true }
 {
-    let party = Party {
-        n: job.n,
-        side: job.side,
-        x: job.x,
-        y: job.y,
-        tape,
-    };
+    let mut room = blank_words();
+    let out = &mut room[..words.len() + 3];
     party.fill(count, &mut *out);
-    as_due(&*out, words, count)
-}
-
-// The same, in memory of its own.
-pub fn agrees(job: Job, tape: &[u32], words: &[u32], count: usize) -> bool
-    requires { Lent job tape.now × (words.now ≡ message_of job tape.now) × (count ≤ length words.now) }
-    ensures value { result ≡ fill_agrees job tape.now count }
-    ensures all { result ≡ true }
-{
-    let mut out = blank_words();
-    let len = words.len() + 3;
-    filled_as_due(job, tape, words, count, &mut out[..len])
+    as_due(out, words, count)
 }

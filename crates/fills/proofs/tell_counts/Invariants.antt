@@ -1,10 +1,6 @@
--- `fills::tell_counts` meets its contract. The loop's invariant: the counts passed that agree are counted.
-use Prim.Native.Nat.{◌-◌, ◌≤◌}
-use mathlib.Core.Path.{◌≡◌}
-use Rattle.lists.specs.Tabulate.{sum}
-use Rattle.fills.specs.Fillings.{right_at}
+-- `fills::tell_counts` meets its contract. The loop's invariant: all counts of the ranges passed agree.
+use Rattle.std.proofs.Common.{◌≡◌, ◌*◌, ◌≤◌}
 use Rattle.fills.proofs.tell_counts.Given as goal
 
-abbrev pub invariant-loop-count : goal.invariant-loop-count
-invariant-loop-count g l =
-    (l.first ≤ l.count) × (l.right ≡ sum (l.count - l.first) (right_at l.job l.tape l.first))
+abbrev pub invariant-loop-first : goal.invariant-loop-first
+invariant-loop-first g l = (l.right ≡ l.all) × (l.all ≤ l.first-index * 2890)

@@ -3,11 +3,8 @@ use Rattle.tape.proofs.Dealing.{own_readable, others_readable}
 use Rattle.deals.proofs.Dealing.{dealt_tapes}
 use Rattle.fills.proofs.tapes.deal.Goals as goal
 
-pub returns : goal.returns
-returns c =
+pub returns-clause-readable : goal.returns-clause-readable
+returns-clause-readable c =
     let n = c.args.n in
     let dealt = dealt_tapes 20051 n.bits 7 3 n.listed in
-    record {
-      t1_after = (c.write.ensures.box1, c.write.ensures.box2);
-      readable = (rw c.write.ensures.box1 (own_readable dealt), rw c.write.ensures.box2 (others_readable dealt));
-    }
+    (rw c.write.ensures.box1 (own_readable dealt), rw c.write.ensures.box2 (others_readable dealt))
