@@ -1,5 +1,5 @@
 -- Words that were not written to; and that a filling of them leaves in every place what must stand there.
-use Prim.Native.Nat.{ℕ, ◌+◌, ◌-◌, ◌<◌}
+use Prim.Native.Nat.{ℕ, ◌+◌, ◌-◌, ◌<◌, ◌≤◌}
 use mathlib.Core.Path.{◌≡◌, refl, ◌∙◌}
 use mathlib.Core.Bool.{Bool, true, false, ◌&&◌, cond}
 use mathlib.Core.List.{List}
@@ -7,7 +7,8 @@ use mathlib.Core.Logic.{inl, inr}
 use native.Mathlib.Omega.{arith}
 use borrow.Author.Tests.{leb-true, leb-false, ltb-true, ltb-false, eq-eqb}
 use lib.Dec.{leb, ltb, eqb}
-use lib.ListN.{length, get_or, length-replicate, get_or-replicate}
+use lib.ListN.{length, get_or, take, length-replicate, get_or-replicate}
+use Rattle.std.proofs.lemmas.List.{take-replicate}
 use Rattle.lists.proofs.Every.{every_intro}
 use Rattle.protocol.specs.Filling.{filled}
 use Rattle.protocol.proofs.Filling.{filled_length, filled_in, filled_out}
@@ -16,6 +17,11 @@ use Rattle.fills.specs.Due.{filler, blank, due_at, as_due}
 pub blank_length : (count : ℕ) → length (blank count) ≡ count
 unfolding blank
 blank_length count = length-replicate count filler
+
+-- the front of a blank buffer is blank
+pub blank_cut : (k m : ℕ) → k ≤ m → take k (blank m) ≡ blank k
+unfolding blank
+blank_cut k m fits = take-replicate k m filler fits
 
 pub blank_at : (count j : ℕ) → j < count → get_or (blank count) j 0 ≡ filler
 unfolding blank

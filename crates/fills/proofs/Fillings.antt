@@ -4,8 +4,8 @@ use mathlib.Core.Path.{◌≡◌, sym, ap, ◌∙◌}
 use mathlib.Core.Bool.{true}
 use mathlib.Core.List.{List, []}
 use native.Mathlib.Omega.{arith}
-use lib.ListN.{length, take}
-use lib.Seq.{sets, length-take-le, get_or-take, ext_get_or}
+use lib.ListN.{length}
+use lib.Seq.{sets}
 use Rattle.lists.specs.Tabulate.{sum}
 use Rattle.lists.proofs.Sets.{sets_whole}
 use Rattle.lists.proofs.Sums.{sum_more, sum_equal}
@@ -17,14 +17,7 @@ use Rattle.compare.specs.declared.party.Party.{Party}
 use Rattle.compare.specs.Parties.{party_of}
 use Rattle.fills.specs.Due.{blank, as_due}
 use Rattle.fills.specs.Fillings.{message_of, fill_agrees, right_at}
-use Rattle.fills.proofs.Due.{blank_length, blank_at, filled_due}
-
--- the front of a blank buffer is blank
-pub blank_cut : (k m : ℕ) → k ≤ m → take k (blank m) ≡ blank k
-blank_cut k m fits =
-    let long = length-take-le k (blank m) (omega (arith, blank_length m)) in
-    ext_get_or 0 (take k (blank m)) (blank k) (long ∙ sym (blank_length k))
-    (λ i l. get_or-take k (blank m) i 0 (omega (arith, long)) ∙ blank_at m i (omega (arith, long)) ∙ sym (blank_at k i (omega (arith, long))))
+use Rattle.fills.proofs.Due.{filled_due}
 
 module _ (b : Party) where
   pub words_length : length (message_of b) ≡ round_words b.n.bits 1

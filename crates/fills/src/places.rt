@@ -48,7 +48,7 @@ fn blank_words() -> [u32; 2892]
 }
 
 // Whether a filling of that many words leaves every place of out so, none of which was written to before.
-#[tactic(auto, using(protocol::proofs::Lengths::words_most, crate::proofs::Fillings::words_length, crate::proofs::Fillings::blank_cut, crate::proofs::Fillings::all_agree, crate::proofs::Due::blank_length), unfolding(crate::specs::Fillings::fill_agrees))]
+#[tactic(auto, using(protocol::proofs::Lengths::words_most, crate::proofs::Fillings::words_length, crate::proofs::Fillings::all_agree, crate::proofs::Due::blank_length, crate::proofs::Due::blank_cut), unfolding(crate::specs::Fillings::fill_agrees))]
 pub fn agrees(party: Party, words: &[u32], count: usize) -> bool
     requires { (words.now ≡ message_of party) × (count ≤ length words.now) }
     ensures value { result ≡ fill_agrees party.entry count }
