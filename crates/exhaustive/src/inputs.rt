@@ -61,6 +61,7 @@ pub fn count(n: Width, source: Source) -> u64
 {
     let mut t1 = exchange::memory::blank_tape();
     let mut t2 = exchange::memory::blank_tape();
-    let len = tape::tape_words(n);
-    right(n, source, &mut t1[..len], &mut t2[..len])
+    let t1 = exchange::memory::tape_room(n, &mut t1);
+    let t2 = exchange::memory::tape_room(n, &mut t2);
+    right(n, source, t1, t2)
 }
