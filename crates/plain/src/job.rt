@@ -9,10 +9,20 @@ use exchange::Shares;
 use exchange::memory::{blank_tape, fresh_job, tape_room};
 use field::Width;
 use refusals::Refusal;
+use tape::Label;
 
-const PAIR: u32 = 1;
+// The only tapes of a pair.
+const BOX1: Label = Label {
+    pair: 1,
+    side: 1,
+    number: 0,
+};
 
-const NUMBER: u32 = 0;
+const BOX2: Label = Label {
+    pair: 1,
+    side: 2,
+    number: 0,
+};
 
 // On plain tapes, one fresh one for each box.
 #[tactic(auto, using(crate::proofs::FirstRefusal::first_refusal, crate::proofs::FirstRefusal::right_answer))]
@@ -27,9 +37,9 @@ fn dealt(
     ensures { (ground_of result ≡ plain_refusal n.bits box1.x box2.x box1.y box2.y)
         × (less_of result ≡ plain_answer n.bits box1.x box2.x box1.y box2.y) }
 {
-    dealer::plain(n, PAIR, 1, NUMBER, &mut *t1);
-    dealer::plain(n, PAIR, 2, NUMBER, &mut *t2);
-    fresh_job(n.bits, PAIR, NUMBER, box1, box2, &*t1, &*t2)
+    dealer::plain(n, BOX1, &mut *t1);
+    dealer::plain(n, BOX2, &mut *t2);
+    fresh_job(n.bits, BOX1.pair, BOX1.number, box1, box2, &*t1, &*t2)
 }
 
 // In memory that has room for the longest tape.
