@@ -20,6 +20,7 @@ fn agrees(n: Width, box1: Shares, box2: Shares, t1: &[u32], t2: &[u32]) -> bool
 }
 
 // All y1 and y2, with one pair of tapes.
+#[tactic(auto, using(crate::proofs::Small::small), unfolding(crate::specs::Inputs::right_of))]
 fn right_of(n: Width, x1: u32, x2: u32, t1: &[u32], t2: &[u32]) -> u64
     requires { (n.bits ≤ 5) × (x1 < modulus n.bits) × (x2 < modulus n.bits) }
     ensures value { result ≡ right_of n.bits x1 x2 t1.now t2.now }
@@ -36,6 +37,7 @@ fn right_of(n: Width, x1: u32, x2: u32, t1: &[u32], t2: &[u32]) -> u64
 }
 
 // All inputs of a width, p^4 of them, on tapes of that source: all are right.
+#[tactic(auto, using(crate::proofs::Small::small), unfolding(crate::specs::Inputs::all_right))]
 fn right(n: Width, source: Source, t1: &mut [u32], t2: &mut [u32]) -> u64
     requires { (n.bits ≤ 5) × (length t1.old ≡ tape_length n.bits) × (length t2.old ≡ tape_length n.bits) }
     ensures value { result ≡ all_right source n.bits }
