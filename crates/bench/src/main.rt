@@ -2,7 +2,7 @@
 // tools/bench.
 #![tactic(auto)]
 
-ghost use Rattle.io.specs.Counts.{IsPrefixLen};
+ghost use Rattle.std.specs.Prelude.{◌≤◌, length};
 
 mod work;
 
@@ -31,18 +31,18 @@ fn run(rt: &impl Print, work: Work, n: Width, count: u32) -> io::Result<()> {
     }
 }
 
-// Puts an argument at the start of word and answers its length: 0 where there is none, or a longer one than word.
-fn argument(rt: &impl Env, place: usize, word: &mut [u8]) -> usize
-    ensures { IsPrefixLen result word.new }
+// An argument, put at the start of word: none of its bytes where there is none, or a longer one than word.
+fn argument<'a>(rt: &impl Env, place: usize, word: &'a mut [u8]) -> &'a [u8]
+    ensures { length result.now ≤ length word.old }
 {
-    rt.arg(place, word).unwrap_or(0)
+    let len = rt.arg(place, word).unwrap_or(0);
+    &word[..len]
 }
 
 // An argument as a number.
 fn number_at(rt: &impl Env, place: usize) -> Option<u32> {
     let mut word = [0u8; 16];
-    let len = argument(rt, place, &mut word);
-    lines::reading::number_of(&word[..len])
+    lines::reading::number_of(argument(rt, place, &mut word))
 }
 
 // The width and the count are arguments 2 and 3.
@@ -66,11 +66,10 @@ fn is_alone(rt: &impl Env) -> bool {
 
 fn main(rt: HostRuntime) -> io::Result<()> {
     let mut word = [0u8; 8];
-    let len = argument(&rt, 1, &mut word);
     if is_alone(&rt) {
         return all_sizes(&rt);
     }
-    match &word[..len] {
+    match argument(&rt, 1, &mut word) {
         b"jobs" => asked(&rt, Work::Jobs),
         b"checks" => asked(&rt, Work::Checks),
         _ => println!(&rt; "bench: jobs or checks, a width and a count, or nothing"),

@@ -94,6 +94,7 @@ pub fn often(work: Work, n: Width, count: u32) -> u32
 {
     let mut t1 = exchange::memory::blank_tape();
     let mut t2 = exchange::memory::blank_tape();
-    let len = tape::tape_words(n);
-    on_dealt(work, n, count, &mut t1[..len], &mut t2[..len])
+    let t1 = exchange::memory::tape_room(n, &mut t1);
+    let t2 = exchange::memory::tape_room(n, &mut t2);
+    on_dealt(work, n, count, t1, t2)
 }
