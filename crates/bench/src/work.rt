@@ -46,11 +46,7 @@ pub fn jobs(n: Width, count: u32, t1: &[u32], t2: &[u32]) -> u32
     ensures value { result ≡ sum count (right_at n.bits t1.now t2.now) }
     ensures dealt { Dealt n.bits 1 0 t1.now t2.now → result ≡ count }
 {
-    let mut result = 0;
-    for i in 0..count {
-        result += u32::from(right(n, i, t1, t2));
-    }
-    result
+    (0..count).filter(|&i| right(n, i, t1, t2)).count() as u32
 }
 
 // One check of both tapes. Which box's tape comes first changes from turn to turn, so that no turn can be taken for another.
@@ -69,11 +65,7 @@ pub fn checks(n: u32, count: u32, t1: &[u32], t2: &[u32]) -> u32
     ensures value { result ≡ count * indicator (both_in_order n t1.now t2.now) }
     ensures dealt { Dealt n 1 0 t1.now t2.now → result ≡ count }
 {
-    let mut result = 0;
-    for i in 0..count {
-        result += u32::from(check(n, i, t1, t2));
-    }
-    result
+    (0..count).filter(|&i| check(n, i, t1, t2)).count() as u32
 }
 
 // On dealt tapes, as boxes get them: on plain ones, mostly zeros, a branch on a word would always go the same way.
