@@ -1,8 +1,7 @@
 pub mod Examples
-pub mod Runs
 pub mod Readings
+pub mod Deals
 pub mod Carried
 pub mod Transcripts
 pub mod Jobs
 pub mod Sent
-pub mod Deals

@@ -1,167 +1,140 @@
 -- The laws of numbers read one after another.
-use Prim.Native.Nat.{ℕ, zero, suc, ◌+◌, ◌-◌, ◌<◌, ◌≤◌}
-use mathlib.Core.Path.{◌≡◌, refl, sym, ap, ◌∙◌}
-use mathlib.Core.Bool.{Bool, true, false, ◌&&◌, cond, false≢true}
-use mathlib.Core.List.{List, [], ◌∷◌, ◌++◌, append-nil}
+use Rattle.std.proofs.Common.{◌≡◌, ℕ, zero, suc, ◌+◌, ◌-◌, ◌<◌, ◌≤◌, Bool, true, false, cond, List, [], ◌∷◌, ◌++◌, length, get_or, take, drop, Option, Some, None, eqb, not, ⊎_elim, refl, sym, ap, ◌∙◌, arith}
+use mathlib.Core.List.{append-nil}
 use native.Mathlib.Numerals.{add-one}
-use native.Mathlib.Omega.{arith}
+use mathlib.Core.Bool.{false≢true}
 use borrow.Author.Tests.{eq-eqb, ne_eqb}
-use lib.Dec.{eqb}
-use lib.ListN.{length, get_or, set, take, drop, drop_of_length-le}
-use lib.Seq.{sets, drop-cons, length-sets, length-take-le, take_at}
-use Rattle.lists.proofs.Tests.{and-false}
+use lib.ListN.{set, drop_of_length-le}
+use Rattle.std.proofs.lemmas.List.{set-get_or}
+use lib.Seq.{sets, drop-cons}
+use Rattle.std.specs.Char.{is_ascii_digit}
+use Rattle.std.specs.List.{position, position_or_len}
+use Rattle.std.specs.Option.{is_some, option_and_then, option_map, option_map_or, unwrap_or}
+use Rattle.std.proofs.lemmas.Bool.{cases_lt, lt-ltb, le-ltb}
+use Rattle.std.proofs.lemmas.List.Sums.{prefix_len-le-length}
 use Rattle.lists.proofs.Sets.{sets_front}
 use Rattle.lines.specs.Reading.{is_number, value_of}
-use Rattle.vectors.specs.declared.numbers.Number.{Number}
-use Rattle.vectors.specs.declared.numbers.Cursor.{Cursor}
-use Rattle.vectors.specs.Numbers.{run_of, past, no_number, failed, next_at, numbers_from, read_to, spelled}
+use Rattle.vectors.specs.Numbers.{next_at, numbers_from, read_to, spelled}
+
+-- a reading that was not refused gives a text
+pub passes : {A B : Type 0} (f : A → B) (o : Option A) → is_some o ≡ is_some (option_map f o)
+passes f None = refl
+passes f (Some x) = refl
 
 -- ---- one number
 
-module _ (text : List ℕ) (from : ℕ) where
-  -- the digits that it would be
-  abbrev pub start_of : ℕ
-  start_of = past false text from
+-- a place that was found, or the length
+pub place_or_length : (p : ℕ → Bool) (s : List ℕ) → unwrap_or (position p s) (length s) ≡ position_or_len p s
+place_or_length p s =
+    let place : ℕ = position_or_len p s in
+    let most = prefix_len-le-length (λ (x : ℕ). not (p x)) s in
+    ⊎_elim (λ found. rw (lt-ltb place (length s) found)) (λ none. rw (le-ltb place (length s) none) (omega (arith, most, none))) (cases_lt place (length s))
 
-  abbrev pub part_of : List ℕ
-  part_of = take (run_of true (drop start_of text)) (drop start_of text)
+-- no digit is left
+pub next_none : (text : List ℕ) → position is_ascii_digit text ≡ None → next_at text ≡ None
+unfolding next_at is_number
+next_none text e =
+    let place : position_or_len is_ascii_digit text ≡ length text = sym (place_or_length is_ascii_digit text) ∙ ap (λ (o : Option ℕ). unwrap_or o (length text)) e in
+    rw (place, drop_of_length-le text {i = length text} (omega arith))
 
-  pub next_none : is_number part_of ≡ false → next_at text from ≡ no_number
-  unfolding next_at
-  next_none e = rw e
+with_rest : (t : Bool) (value : ℕ) (rest : List ℕ) → option_map {U = ℕ × List ℕ} (λ v. (v, rest)) (cond t (Some value) None) ≡ cond t (Some (value, rest)) None
+with_rest true value rest = refl
+with_rest false value rest = refl
 
-  pub next_some : is_number part_of ≡ true → next_at text from ≡ record { value = value_of part_of; at = past true text start_of; ok = true }
-  unfolding next_at
-  next_some e = rw e
+-- the digits end before `rest`, and what was read of them is `value`
+pub next_read : (text digits part rest : List ℕ) (first end : ℕ) (value : Option ℕ) → position is_ascii_digit text ≡ Some first
+    → digits ≡ drop first text → end ≡ unwrap_or (position (λ b. not (is_ascii_digit b)) digits) (length digits)
+    → part ≡ take end digits → rest ≡ drop end digits → value ≡ cond (is_number part) (Some (value_of part)) None
+    → option_map {U = ℕ × List ℕ} (λ v. (v, rest)) value ≡ next_at text
+unfolding next_at
+next_read text digits part rest first end value found begun ended front back read =
+    let start : position_or_len is_ascii_digit text ≡ first = sym (place_or_length is_ascii_digit text) ∙ ap (λ (o : Option ℕ). unwrap_or o (length text)) found in
+    let count = ended ∙ place_or_length (λ b. not (is_ascii_digit b)) digits in
+    rw (start, ← begun, ← count, ← front, ← back, read) (with_rest (is_number part) (value_of part) rest)
 
-  -- the part that is read
-  pub part_read : (start end : ℕ) → start ≡ start_of → end ≡ past true text start → take (end - start) (drop start text) ≡ part_of
-  part_read start end first last =
-      let count : past true text start_of - start_of ≡ run_of true (drop start_of text) = omega arith in
-      rw (last, first) (ap (λ (k : ℕ). take k (drop start_of text)) count)
+-- ---- numbers one after another
 
-  -- no digit is left
-  pub next_past : length text ≤ start_of → next_at text from ≡ no_number
-  unfolding is_number run_of
-  next_past le = next_none (rw (drop_of_length-le text le))
+-- there is no next one
+module _ (text : List ℕ) (e : next_at text ≡ None) where
+  pub spelled_none : (words : List ℕ) (i : ℕ) → i < length words → spelled text (drop i words) ≡ None
+  unfolding spelled
+  spelled_none words i less = rw (drop-cons words i 0 less, e)
 
--- ---- numbers one after another, the next of which is x
+  pub fill_none : (n i : ℕ) (into : List ℕ) → i < n → set into i (get_or into i 0) ≡ sets into i (numbers_from (n - i) text)
+  unfolding numbers_from
+  fill_none n i into less = let more : n - i ≡ suc (n - (i + 1)) = omega arith in rw (more, e) (set-get_or into i 0)
 
-module _ (text : List ℕ) (from : ℕ) (x : Number) (is : x ≡ next_at text from) where
-  module _ (n i : ℕ) (less : i < n) where
-    more : n - i ≡ suc (n - (i + 1))
-    more = omega arith
+  pub read_none : (n i : ℕ) → i < n → read_to (n - i) text ≡ None
+  unfolding read_to
+  read_none n i less = let more : n - i ≡ suc (n - (i + 1)) = omega arith in rw (more, e)
 
-    pub fill_next : (into : List ℕ) → x.ok ≡ true
-        → sets into i (numbers_from (n - i) text from) ≡ sets (set into i x.value) (i + 1) (numbers_from (n - (i + 1)) text x.at)
-    unfolding numbers_from
-    fill_next into ok = rw (more, ← is, ok, add-one i)
+-- there is
+module _ (text rest : List ℕ) (x : ℕ) (e : Some (x, rest) ≡ next_at text) where
+  pub spelled_next : (words : List ℕ) (i : ℕ) → i < length words → x ≡ get_or words i 0 → spelled text (drop i words) ≡ spelled rest (drop (i + 1) words)
+  unfolding spelled
+  spelled_next words i less same = rw (add-one i, drop-cons words i 0 less, ← e, eq-eqb _ _ same)
 
-    pub fill_none : (into : List ℕ) → x.ok ≡ false → sets into i (numbers_from (n - i) text from) ≡ into
-    unfolding numbers_from
-    fill_none into ok = rw (more, ← is, ok)
+  pub spelled_other : (words : List ℕ) (i : ℕ) → i < length words → (x ≡ get_or words i 0 → ⊥) → spelled text (drop i words) ≡ None
+  unfolding spelled
+  spelled_other words i less other = rw (drop-cons words i 0 less, ← e, ne_eqb _ _ other)
 
-    pub read_next : x.ok ≡ true → read_to (n - i) text from ≡ read_to (n - (i + 1)) text x.at
-    unfolding read_to
-    read_next ok = rw (more, ← is, ok)
+  pub fill_next : (n i : ℕ) (into : List ℕ) → i < n
+      → sets into i (numbers_from (n - i) text) ≡ sets (set into i x) (i + 1) (numbers_from (n - (i + 1)) rest)
+  unfolding numbers_from
+  fill_next n i into less = let more : n - i ≡ suc (n - (i + 1)) = omega arith in rw (more, ← e, add-one i)
 
-    pub read_none : x.ok ≡ false → read_to (n - i) text from ≡ failed
-    unfolding read_to
-    read_none ok = rw (more, ← is, ok)
-
-  module _ (words : List ℕ) (i : ℕ) (less : i < length words) where
-    -- the word is there
-    pub spelled_next : x.ok ≡ true → x.value ≡ get_or words i 0 → spelled text from (drop i words) ≡ spelled text x.at (drop (i + 1) words)
-    unfolding spelled
-    spelled_next ok same = rw (add-one i, drop-cons words i 0 less, ← is, ok, eq-eqb _ _ same)
-
-    -- there is no number
-    pub spelled_none : x.ok ≡ false → spelled text from (drop i words) ≡ failed
-    unfolding spelled
-    spelled_none ok = rw (drop-cons words i 0 less, ← is, ok)
-
-    -- it is another
-    pub spelled_other : (x.value ≡ get_or words i 0 → ⊥) → spelled text from (drop i words) ≡ failed
-    unfolding spelled
-    spelled_other other = rw (drop-cons words i 0 less, ← is, and-false x.ok (ne_eqb _ _ other))
+  pub read_next : (n i : ℕ) → i < n → read_to (n - i) text ≡ read_to (n - (i + 1)) rest
+  unfolding read_to
+  read_next n i less = let more : n - i ≡ suc (n - (i + 1)) = omega arith in rw (more, ← e)
 
 -- nothing is left
-module _ (text : List ℕ) (from n i : ℕ) (end : n ≤ i) where
-  pub fill_end : (into : List ℕ) → sets into i (numbers_from (n - i) text from) ≡ into
-  unfolding numbers_from
-  fill_end into = let none : n - i ≡ 0 = omega arith in rw none
-
-  pub read_end : read_to (n - i) text from ≡ record { at = from; ok = true }
-  unfolding read_to
-  read_end = let none : n - i ≡ 0 = omega arith in rw none
-
-pub spelled_end : (text : List ℕ) (from : ℕ) (words : List ℕ) (i : ℕ) → length words ≤ i → spelled text from (drop i words) ≡ record { at = from; ok = true }
+pub spelled_end : (text words : List ℕ) (i : ℕ) → length words ≤ i → spelled text (drop i words) ≡ Some text
 unfolding spelled
-spelled_end text from words i le = rw (drop_of_length-le words le)
+spelled_end text words i le = rw (drop_of_length-le words le)
+
+pub fill_end : (text into : List ℕ) (n i : ℕ) → n ≤ i → sets into i (numbers_from (n - i) text) ≡ into
+unfolding numbers_from
+fill_end text into n i end = let none : n - i ≡ 0 = omega arith in rw none
+
+pub read_end : (text : List ℕ) (n i : ℕ) → n ≤ i → read_to (n - i) text ≡ Some text
+unfolding read_to
+read_end text n i end = let none : n - i ≡ 0 = omega arith in rw none
 
 -- ---- a slice that was filled
 
-read_step : (t : Bool) (c : Cursor) (v : ℕ) (vs : List ℕ) (n : ℕ) → (cond t c failed).ok ≡ true → (c.ok ≡ true → length vs ≡ n) → length (cond t (v ∷ vs) []) ≡ suc n
-read_step true c v vs n ok long = ap suc (long ok)
-read_step false c v vs n ok long = absurd (false≢true ok)
+read_step : (n : ℕ) (x : Option (ℕ × List ℕ)) → ((rest : List ℕ) → is_some (read_to n rest) ≡ true → length (numbers_from n rest) ≡ n)
+    → is_some (option_and_then (λ y. read_to n y.1) x) ≡ true → length (option_map_or (λ y. y.0 ∷ numbers_from n y.1) x []) ≡ suc n
+read_step n None all none = absurd (false≢true none)
+read_step n (Some y) all some = ap suc (all y.1 some)
 
-pub read_all : (n : ℕ) (text : List ℕ) (from : ℕ) → (read_to n text from).ok ≡ true → length (numbers_from n text from) ≡ n
+pub read_all : (n : ℕ) (text : List ℕ) → is_some (read_to n text) ≡ true → length (numbers_from n text) ≡ n
 unfolding read_to numbers_from
-read_all zero text from ok = refl
-read_all (suc n) text from ok =
-    let x = next_at text from in
-    read_step x.ok (read_to n text x.at) x.value (numbers_from n text x.at) n ok (read_all n text x.at)
+read_all zero text ok = refl
+read_all (suc n) text ok = read_step n (next_at text) (read_all n) ok
 
 -- read to its end, it holds the numbers
-pub filled : (text : List ℕ) (from : ℕ) (into : List ℕ) (c : Cursor) → c ≡ read_to (length into) text from → c.ok ≡ true
-    → sets into 0 (numbers_from (length into) text from) ≡ numbers_from (length into) text from
-filled text from into c is ok =
-    let vs = numbers_from (length into) text from in
-    let long : length vs ≡ length into = read_all (length into) text from (ap (λ (d : Cursor). d.ok) (sym is) ∙ ok) in
-    sets_front into vs (omega arith) ∙ ap (λ (l : List ℕ). vs ++ l) (drop_of_length-le into {i = length vs} (omega arith)) ∙ append-nil vs
-
--- so does the front of a longer one
-pub filled_front : (text : List ℕ) (from n : ℕ) (l front : List ℕ) (c : Cursor) → n ≤ length l → c ≡ read_to (length (take n l)) text from → c.ok ≡ true
-    → front ≡ sets (take n l) 0 (numbers_from (length (take n l)) text from) → take n (front ++ drop n l) ≡ numbers_from n text from
-filled_front text from n l front c room is ok e =
-    let long : length (take n l) ≡ n = length-take-le n l room in
-    let all : front ≡ numbers_from n text from = e ∙ filled text from (take n l) c is ok ∙ ap (λ (k : ℕ). numbers_from k text from) long in
-    let kept : length front ≡ n = ap length e ∙ simp length-sets long in
-    take_at front (drop n l) n kept ∙ all
+pub filled : (text into into' rest : List ℕ) → Some rest ≡ read_to (length into) text → into' ≡ sets into 0 (numbers_from (length into) text)
+    → into' ≡ numbers_from (length into) text
+filled text into into' rest is here =
+    let vs = numbers_from (length into) text in
+    let long : length vs ≡ length into = read_all (length into) text (sym (ap is_some is)) in
+    here ∙ sets_front into vs (omega arith) ∙ ap (λ (l : List ℕ). vs ++ l) (drop_of_length-le into {i = length vs} (omega arith)) ∙ append-nil vs
 
 -- ---- words after words
 
-then_same : (t : Bool) (c d : Cursor) (f : ℕ → Cursor) → d ≡ cond c.ok (f c.at) failed
-    → cond t d failed ≡ cond (cond t c failed).ok (f (cond t c failed).at) failed
-then_same true c d f e = e
-then_same false c d f e = refl
+then_word : (t : Bool) (c d : Option (List ℕ)) (b : List ℕ) → d ≡ option_and_then (λ r. spelled r b) c
+    → cond t d None ≡ option_and_then (λ r. spelled r b) (cond t c None)
+then_word true c d b e = e
+then_word false c d b e = refl
 
-spelled_append : (text : List ℕ) (from : ℕ) (a b : List ℕ)
-    → spelled text from (a ++ b) ≡ cond (spelled text from a).ok (spelled text (spelled text from a).at b) failed
+spelled_step : (x : Option (ℕ × List ℕ)) (w : ℕ) (a b : List ℕ)
+    → ((rest : List ℕ) → spelled rest (a ++ b) ≡ option_and_then (λ r. spelled r b) (spelled rest a))
+    → option_and_then (λ y. cond (eqb y.0 w) (spelled y.1 (a ++ b)) None) x
+    ≡ option_and_then (λ r. spelled r b) (option_and_then (λ y. cond (eqb y.0 w) (spelled y.1 a) None) x)
+spelled_step None w a b e = refl
+spelled_step (Some y) w a b e = then_word (eqb y.0 w) (spelled y.1 a) _ b (e y.1)
+
+pub spelled_append : (text a b : List ℕ) → spelled text (a ++ b) ≡ option_and_then (λ rest. spelled rest b) (spelled text a)
 unfolding spelled
-spelled_append text from [] b = refl
-spelled_append text from (w ∷ a) b =
-    let x = next_at text from in
-    then_same (x.ok && eqb x.value w) (spelled text x.at a) _ (λ at. spelled text at b) (spelled_append text x.at a b)
-
-else_failed : (t : Bool) (c : Cursor) → (c.ok ≡ false → c ≡ failed) → (cond t c failed).ok ≡ false → cond t c failed ≡ failed
-else_failed true c e none = e none
-else_failed false c e none = refl
-
-spelled_failed : (text : List ℕ) (from : ℕ) (a : List ℕ) → (spelled text from a).ok ≡ false → spelled text from a ≡ failed
-unfolding spelled
-spelled_failed text from [] e = absurd (false≢true (sym e))
-spelled_failed text from (w ∷ a) e =
-    let x = next_at text from in
-    else_failed (x.ok && eqb x.value w) (spelled text x.at a) (spelled_failed text x.at a) e
-
--- with a cursor c that read the first of them
-module _ (text : List ℕ) (from : ℕ) (a b : List ℕ) (c : Cursor) (is : c ≡ spelled text from a) where
-  pub spelled_both : c.ok ≡ true → spelled text from (a ++ b) ≡ spelled text c.at b
-  spelled_both ok = spelled_append text from a b ∙ rw (← is, ok)
-
-  pub spelled_first : c.ok ≡ false → spelled text from (a ++ b) ≡ c
-  spelled_first none =
-      let fails : (spelled text from a).ok ≡ false = ap (λ (d : Cursor). d.ok) (sym is) ∙ none in
-      let all : spelled text from (a ++ b) ≡ failed = spelled_append text from a b ∙ rw fails in
-      all ∙ sym (is ∙ spelled_failed text from a fails)
+spelled_append text [] b = refl
+spelled_append text (w ∷ a) b = spelled_step (next_at text) w a b (λ rest. spelled_append rest a b)

@@ -1,57 +1,43 @@
 -- A text that tells the rounds of a job, one after another.
-use Prim.Native.Nat.{ℕ, zero, suc, ◌+◌, ◌<◌, ◌≤◌}
-use mathlib.Core.Path.{◌≡◌, refl, sym, ap, subst, ◌∙◌}
-use mathlib.Core.Bool.{true, false}
-use mathlib.Core.List.{List, [], ◌∷◌}
-use mathlib.Core.Logic.{⊎_elim}
+use Rattle.std.proofs.Common.{◌≡◌, ℕ, zero, suc, ◌+◌, ◌≤◌, List, [], ◌∷◌, Option, Some, None, ⊎_elim, arith}
 use native.Mathlib.Numerals.{add-one}
-use native.Mathlib.Omega.{arith}
 use Rattle.std.proofs.lemmas.Bool.{cases_lt}
 use Rattle.protocol.specs.Products.{Party}
 use Rattle.protocol.specs.Rounds.{last_round}
 use Rattle.protocol.specs.Exchange.{Both, exchanged, answer_own, answer_others}
-use Rattle.vectors.specs.declared.numbers.Cursor.{Cursor}
 use Rattle.vectors.specs.Numbers.{spelled}
 use Rattle.vectors.specs.Job.{messages, messages_to, transcript}
-use Rattle.vectors.proofs.Readings.{spelled_both, spelled_first}
+use Rattle.vectors.proofs.Readings.{spelled_append}
 
--- read up to a place
-abbrev pub up_to : ℕ → Cursor
-up_to at = record { at = at; ok = true }
+module _ (text : List ℕ) (box1 box2 : Party) (w : Both) where
+  -- what is left of the text after so many rounds
+  abbrev pub left : ℕ → Option (List ℕ)
+  left k = spelled text (messages_to box1 box2 w k)
 
-module _ (text : List ℕ) (from : ℕ) (box1 box2 : Party) (w : Both) where
-  abbrev pub read : ℕ → Cursor
-  read k = spelled text from (messages_to box1 box2 w k)
+  abbrev round_after : ℕ → List ℕ
+  round_after k = messages box1 box2 (exchanged box1 box2 w k) (suc k)
+
+  -- one round more
+  pub left_more : (k : ℕ) (rest : List ℕ) → Some rest ≡ left k → left (k + 1) ≡ spelled rest (messages box1 box2 (exchanged box1 box2 w k) (k + 1))
+  unfolding messages_to
+  left_more k rest so_far = rw (add-one k, spelled_append text (messages_to box1 box2 w k) (round_after k), ← so_far)
 
   -- what fails once fails for good
-  fails_more : (k : ℕ) → (read k).ok ≡ false → (read (suc k)).ok ≡ false
+  fails_to : (m k : ℕ) → k ≤ m → left k ≡ None → left m ≡ None
   unfolding messages_to
-  fails_more k none =
-      ap (λ (d : Cursor). d.ok) (spelled_first text from (messages_to box1 box2 w k) (messages box1 box2 (exchanged box1 box2 w k) (suc k)) (read k) refl none) ∙ none
-
-  fails_to : (m k : ℕ) → k ≤ m → (read k).ok ≡ false → (read m).ok ≡ false
-  fails_to zero k h e = let none : k ≡ 0 = omega arith in subst (λ (j : ℕ). (read j).ok ≡ false) none e
+  fails_to zero k h e = let none : k ≡ 0 = omega arith in rw none at e
   fails_to (suc m) k h e =
       ⊎_elim
-      (λ above. let last : k ≡ suc m = omega (arith, above, h) in subst (λ (j : ℕ). (read j).ok ≡ false) last e)
-      (λ within. fails_more m (fails_to m k within e))
+      (λ above. let last : k ≡ suc m = omega (arith, above, h) in rw last at e)
+      (λ within. rw (spelled_append text (messages_to box1 box2 w m) (round_after m), fails_to m k within e))
       (cases_lt m k)
 
   abbrev answers : List ℕ
   answers = answer_own box1 box2 w ∷ answer_others box1 box2 w ∷ []
 
-  -- one round more, of which the cursor d tells
-  module _ (k at : ℕ) (so_far : up_to at ≡ read k) (d : Cursor) (is : d ≡ spelled text at (messages box1 box2 (exchanged box1 box2 w k) (k + 1))) where
-    pub told_more : d ≡ read (k + 1)
-    unfolding messages_to
-    told_more =
-        is ∙ rw (add-one k) (sym (spelled_both text from (messages_to box1 box2 w k) (messages box1 box2 (exchanged box1 box2 w k) (suc k)) (up_to at) so_far refl))
-
-    pub told_fails : k < last_round → d.ok ≡ false → false ≡ (spelled text from (transcript box1 box2 w)).ok
-    told_fails less none =
-        let fails = fails_to last_round (k + 1) (omega (arith, less)) (ap (λ (e : Cursor). e.ok) (sym told_more) ∙ none) in
-        sym (ap (λ (e : Cursor). e.ok) (spelled_first text from (messages_to box1 box2 w last_round) answers (read last_round) refl fails) ∙ fails)
+  pub told_fails : (k : ℕ) → k ≤ last_round → left k ≡ None → spelled text (transcript box1 box2 w) ≡ None
+  told_fails k few none = rw (spelled_append text (messages_to box1 box2 w last_round) answers, fails_to last_round k few none)
 
   -- after the last, the answer shares decide
-  pub told_last : (at : ℕ) → up_to at ≡ read last_round → spelled text at answers ≡ spelled text from (transcript box1 box2 w)
-  told_last at so_far = sym (spelled_both text from (messages_to box1 box2 w last_round) answers (up_to at) so_far refl)
+  pub told_last : (rest : List ℕ) → Some rest ≡ left last_round → spelled text (transcript box1 box2 w) ≡ spelled rest answers
+  told_last rest all = rw (spelled_append text (messages_to box1 box2 w last_round) answers, ← all)

@@ -3,6 +3,7 @@ ghost use Rattle.std.specs.Prelude.{◌≡◌, IfSome};
 ghost use Rattle.std.specs.Option.{is_some};
 ghost use Rattle.vectors.specs.Deal.{deal_told, deal_agreed, headed, AgreeingDeal};
 
+use crate::numbers::Reader;
 use field::Width;
 use std::rt::Files;
 
@@ -18,7 +19,7 @@ pub struct Deal {
 // The deal of a file that is there and has every word of both tapes as the dealer gives it. Which text was read cannot be said, only that one that
 // agrees has these numbers: they are printed, so that a file read in another's place shows.
 pub fn compared_with(rt: &impl Files, name: &[u8]) -> Option<Deal>
-    ensures { IfSome result (λ deal. AgreeingDeal deal.seed deal.width deal.pair deal.number) }
+    ensures { IfSome result (λ deal. AgreeingDeal deal) }
 {
     let mut text = [0u8; 262144];
     let len = crate::data::read(rt, name, &mut text)?;
@@ -28,38 +29,39 @@ pub fn compared_with(rt: &impl Files, name: &[u8]) -> Option<Deal>
 // A text has seed, n, pair and tape number, then both tapes.
 fn run(text: &[u8]) -> Option<Deal>
     ensures agrees { is_some result ≡ deal_agreed text.now }
-    ensures names { IfSome result (λ deal. headed text.now deal.seed deal.width deal.pair deal.number) }
+    ensures names { IfSome result (λ deal. headed text.now deal) }
 {
+    let mut text = Reader { text };
     let mut head = [0u32; 4];
-    let c = crate::numbers::fill(text, 0, &mut head);
-    if !c.ok {
-        return None;
-    }
+    text.fill(&mut head)?;
     let [seed, width, pair, number] = head;
-    if !dealt_same(text, c.at, seed, width, pair, number) {
-        return None;
-    }
-    Some(Deal {
+    let deal = Deal {
         seed,
         width,
         pair,
         number,
-    })
+    };
+    dealt_same(&mut text, deal)?;
+    Some(deal)
 }
 
-// Whether the next numbers are both tapes of that deal. One that is refused doesn't agree.
-fn dealt_same(text: &[u8], from: usize, seed: u32, n: u32, pair: u32, number: u32) -> bool
-    ensures { result ≡ deal_told text.now from seed n pair number }
+// Passes the next numbers, if they are both tapes of that deal. One that is refused doesn't agree.
+fn dealt_same(text: &mut Reader, deal: Deal) -> Option<()>
+    ensures { is_some result ≡ deal_told text.old.text.now deal }
 {
-    let Some(width) = Width::new(n) else {
-        return false;
-    };
-    let len = tape::tape_words(width);
+    let width = Width::new(deal.width)?;
     let mut t1 = exchange::memory::blank_tape();
     let mut t2 = exchange::memory::blank_tape();
-    if deals::deal(seed, n, pair, number, &mut t1[..len], &mut t2[..len]).is_err() {
-        return false;
-    }
-    let c = crate::numbers::both_same(text, from, len, &t1, &t2);
-    c.ok
+    let t1 = exchange::memory::tape_room(width, &mut t1);
+    let t2 = exchange::memory::tape_room(width, &mut t2);
+    deals::deal(
+        deal.seed,
+        deal.width,
+        deal.pair,
+        deal.number,
+        &mut *t1,
+        &mut *t2,
+    )
+    .ok()?;
+    text.both_same(&*t1, &*t2)
 }

@@ -1,23 +1,21 @@
 // Jobs of both boxes against the words of their files.
 ghost use Rattle.std.specs.Prelude.{◌≡◌, [], ◌∷◌, length, IfSome};
-ghost use Rattle.std.specs.Option.{is_some};
-ghost use Rattle.shares.specs.Reading.{delivered};
+ghost use Rattle.std.specs.Option.{is_some, option_map, option_and_then};
 ghost use Rattle.protocol.specs.Rounds.{last_round, message};
 ghost use Rattle.rules.specs.Answers.{heard_or_share, reply_of};
 ghost use Rattle.tally.specs.Tally.{longest_tally};
 ghost use Rattle.rules.specs.Calls.{outcome, party_of};
-ghost use Rattle.exchange.specs.Opening.{share_of};
 ghost use Rattle.exchange.specs.Boxes.{heard_after, works};
 ghost use Rattle.vectors.specs.Numbers.{spelled};
 ghost use Rattle.vectors.specs.Due.{Due};
-ghost use Rattle.vectors.specs.Job.{messages, messages_to, transcript, unused_tally, job_told, tapes_told, agreed, tape_number, name_of};
+ghost use Rattle.vectors.specs.Job.{messages, messages_to, transcript, unused_tally, share_in, job_told, tapes_told, agreed, tape_number, name_of};
 ghost use Rattle.vectors.specs.Sent.{respelled_in, job_sent, tapes_sent, sent, Agreeing};
 
-use crate::numbers::Cursor;
+use crate::numbers::Reader;
+use crate::spelling::{Spelling, carry};
 use compare::words::LAST_ROUND;
 use exchange::{Heard, Shares};
 use field::Width;
-use refusals::Refusal;
 use rules::state;
 use rules::state::State;
 use std::rt::Files;
@@ -26,22 +24,21 @@ use std::rt::Files;
 fn name_of(w: u32, k: u8) -> [u8; 12]
     ensures { (length result ≡ 12) × (result ≡ name_of w k) }
 {
-    let tens = 48 + ((w / 10) % 10) as u8;
-    let ones = 48 + (w % 10) as u8;
-    [
-        106,
-        111,
-        98,
-        45,
-        tens,
-        ones,
-        45,
-        48 + k % 10,
-        46,
-        116,
-        120,
-        116,
-    ]
+    let mut name = *b"job-00-0.txt";
+    name[4] += (w / 10 % 10) as u8;
+    name[5] += (w % 10) as u8;
+    name[7] += k % 10;
+    name
+}
+
+// The numbers of a job, as its file names them.
+#[derive(Clone, Copy, Debug, PartialEq, Eq)]
+pub struct Job {
+    pub n: u32,
+    pub pair: u32,
+    pub number: u32,
+    pub box1: Shares,
+    pub box2: Shares,
 }
 
 // A file's job, both of whose boxes agree with it: the tape number that its text names, and how many zeros of its messages were respelled.
@@ -51,93 +48,62 @@ pub struct Agreement {
     pub zeros: usize,
 }
 
-// Of a width's file that is there and has every word of its job as the boxes give it; with a board between the boxes every zero of a message
-// comes to the other as p. Which text was read cannot be said, only that one that agrees has that tape number and so many zeros: both are printed,
-// so that a file read in another's place shows, and a zero that was left as it is.
-pub fn compared_with(rt: &impl Files, w: u32, k: u8, board: bool) -> Option<Agreement>
-    ensures { IfSome result (λ told. Agreeing w board told.number told.zeros) }
+// Of a width's file that is there and has every word of its job as the boxes give it. Which text was read cannot be said, only that one that agrees
+// has that tape number and so many zeros: both are printed, so that a file read in another's place shows, and a zero that was left as it is.
+pub fn compared_with(rt: &impl Files, w: u32, k: u8, spelling: Spelling) -> Option<Agreement>
+    ensures { IfSome result (λ told. Agreeing w spelling told.number told.zeros) }
 {
     let name = name_of(w, k);
     let mut text = [0u8; 262144];
     let len = crate::data::read(rt, &name, &mut text)?;
-    run(&text[..len], w, board)
+    run(&text[..len], w, spelling)
 }
 
 // A text has n, which is the width asked for, pair and tape number, the shares x1 y1 x2 y2, both tapes, both messages of each
 // round, both answer shares.
-fn run(text: &[u8], w: u32, board: bool) -> Option<Agreement>
+fn run(text: &[u8], w: u32, spelling: Spelling) -> Option<Agreement>
     ensures agrees { is_some result ≡ agreed w text.now }
     ensures number { IfSome result (λ told. told.number ≡ tape_number text.now) }
-    ensures zeros { IfSome result (λ told. told.zeros ≡ respelled_in board (sent text.now)) }
+    ensures zeros { IfSome result (λ told. told.zeros ≡ respelled_in spelling (sent text.now)) }
 {
+    let mut text = Reader { text };
     let mut head = [0u32; 7];
-    let c = crate::numbers::fill(text, 0, &mut head);
-    if !c.ok {
+    text.fill(&mut head)?;
+    let [n, pair, number, x1, y1, x2, y2] = head;
+    if n != w {
         return None;
     }
-    if head[0] != w {
-        return None;
-    }
-    let box1 = Shares {
-        x: head[3],
-        y: head[4],
+    let job = Job {
+        n,
+        pair,
+        number,
+        box1: Shares { x: x1, y: y1 },
+        box2: Shares { x: x2, y: y2 },
     };
-    let box2 = Shares {
-        x: head[5],
-        y: head[6],
-    };
-    let Some(zeros) = on_tapes(text, c.at, head[0], head[1], head[2], box1, box2, board) else {
-        return None;
-    };
+    let zeros = on_tapes(&mut text, job, spelling)?;
     Some(Agreement {
-        number: head[2],
+        number: job.number,
         zeros,
     })
 }
 
 // How many zeros of a job's messages were respelled, if the job agrees.
-fn on_tapes(
-    text: &[u8],
-    from: usize,
-    n: u32,
-    pair: u32,
-    number: u32,
-    box1: Shares,
-    box2: Shares,
-    board: bool,
-) -> Option<usize>
-    ensures agrees { is_some result ≡ tapes_told text.now from n pair number box1.x box1.y box2.x box2.y }
-    ensures zeros { IfSome result (λ zeros. zeros ≡ respelled_in board (tapes_sent text.now from n box1.x box1.y box2.x box2.y)) }
+fn on_tapes(text: &mut Reader, job: Job, spelling: Spelling) -> Option<usize>
+    ensures agrees { is_some result ≡ tapes_told text.old.text.now job }
+    ensures zeros { IfSome result (λ zeros. zeros ≡ respelled_in spelling (tapes_sent text.old.text.now job)) }
 {
-    let Some(width) = Width::new(n) else {
-        return None;
-    };
-    let len = tape::tape_words(width);
+    let width = Width::new(job.n)?;
     let mut t1 = exchange::memory::blank_tape();
     let mut t2 = exchange::memory::blank_tape();
-    let read1 = crate::numbers::fill(text, from, &mut t1[..len]);
-    if !read1.ok {
-        return None;
-    }
-    let read2 = crate::numbers::fill(text, read1.at, &mut t2[..len]);
-    if !read2.ok {
-        return None;
-    }
-    opened(
-        text,
-        read2.at,
-        n,
-        pair,
-        number,
-        box1,
-        box2,
-        &t1[..len],
-        &t2[..len],
-        board,
-    )
+    let t1 = exchange::memory::tape_room(width, &mut t1);
+    let t2 = exchange::memory::tape_room(width, &mut t2);
+    text.fill(&mut *t1)?;
+    text.fill(&mut *t2)?;
+    opened(text, job, &*t1, &*t2, spelling)
 }
 
 // The tally of a pair of which no tape is used.
+#[tactic(auto, unfolding(crate::specs::Job::unused_tally))]
 fn unused_tally() -> [u8; tally::LONGEST_TALLY]
     ensures { (length result ≡ longest_tally) × (result ≡ unused_tally) }
 {
@@ -145,43 +111,33 @@ fn unused_tally() -> [u8; tally::LONGEST_TALLY]
 }
 
 // Both boxes come to the job. One that is refused doesn't agree.
-fn opened(
-    text: &[u8],
-    from: usize,
-    n: u32,
-    pair: u32,
-    number: u32,
-    box1: Shares,
-    box2: Shares,
-    t1: &[u32],
-    t2: &[u32],
-    board: bool,
-) -> Option<usize>
-    ensures agrees { is_some result
-        ≡ job_told text.now from n pair number box1.x box1.y box2.x box2.y t1.now t2.now }
-    ensures zeros { IfSome result (λ zeros. zeros ≡ respelled_in board (job_sent n box1.x box1.y box2.x box2.y t1.now t2.now)) }
+fn opened(text: &mut Reader, job: Job, t1: &[u32], t2: &[u32], spelling: Spelling) -> Option<usize>
+    ensures agrees { is_some result ≡ job_told text.old.text.now job t1.now t2.now }
+    ensures zeros { IfSome result (λ zeros. zeros ≡ respelled_in spelling (job_sent job t1.now t2.now)) }
 {
+    let Job {
+        n,
+        pair,
+        number,
+        box1,
+        box2,
+    } = job;
     let mut w1 = exchange::memory::blank_work();
     let mut w2 = exchange::memory::blank_work();
     let mut k1 = unused_tally();
     let mut k2 = unused_tally();
     let mut s1 = state::FIRST;
     let mut s2 = state::FIRST;
-    if exchange::begin(&mut s1, n, 1, pair, number, box1, t1, &w1, &mut k1).is_err() {
-        return None;
-    }
-    if exchange::begin(&mut s2, n, 2, pair, number, box2, t2, &w2, &mut k2).is_err() {
-        return None;
-    }
+    exchange::begin(&mut s1, n, 1, pair, number, box1, t1, &w1, &mut k1).ok()?;
+    exchange::begin(&mut s2, n, 2, pair, number, box2, t2, &w2, &mut k2).ok()?;
     exchanged(
-        text, from, number, &mut s1, &mut s2, t1, t2, &mut w1, &mut w2, board,
+        text, number, &mut s1, &mut s2, t1, t2, &mut w1, &mut w2, spelling,
     )
 }
 
 // Every round, each message against the text, then the answer shares, which the last round gives.
 fn exchanged(
-    text: &[u8],
-    from: usize,
+    text: &mut Reader,
     number: u32,
     s1: &mut State,
     s2: &mut State,
@@ -189,22 +145,20 @@ fn exchanged(
     t2: &[u32],
     w1: &mut [u32],
     w2: &mut [u32],
-    board: bool,
+    spelling: Spelling,
 ) -> Option<usize>
     requires { Due number 1 s1.old s2.old t1.now t2.now w1.old w2.old }
     ensures agrees { is_some result
-        ≡ (spelled text.now from
-        (transcript (party_of s1.old t1.now) (party_of s2.old t2.now) (works w1.old w2.old))).ok }
-    ensures zeros { IfSome result (λ zeros. zeros ≡ respelled_in board
+        ≡ is_some (spelled text.old.text.now
+        (transcript (party_of s1.old t1.now) (party_of s2.old t2.now) (works w1.old w2.old))) }
+    ensures zeros { IfSome result (λ zeros. zeros ≡ respelled_in spelling
         (messages_to (party_of s1.old t1.now) (party_of s2.old t2.now)
         (works w1.old w2.old) last_round)) }
 {
-    let mut at = from;
     let mut zeros = 0;
     for heard in 0..exchange::EARLIER_ROUNDS {
-        let r = compared(
-            text,
-            at,
+        let round = compared(
+            &mut *text,
             number,
             heard + 1,
             &mut *s1,
@@ -213,35 +167,27 @@ fn exchanged(
             t2,
             &mut *w1,
             &mut *w2,
-            board,
-        );
-        let c = r.read;
-        if !c.ok {
-            return None;
-        }
-        at = c.at;
-        zeros += r.zeros;
+            spelling,
+        )?;
+        zeros += round.zeros;
     }
-    let last = compared(text, at, number, LAST_ROUND, s1, s2, t1, t2, w1, w2, board);
-    let c = last.read;
-    if !c.ok {
-        return None;
-    }
-    answers_same(text, c.at, last.heard).then_some(zeros + last.zeros)
+    let last = compared(
+        &mut *text, number, LAST_ROUND, s1, s2, t1, t2, w1, w2, spelling,
+    )?;
+    answers_same(text, last.heard)?;
+    Some(zeros + last.zeros)
 }
 
-// After a round: what both boxes heard, how far the text was read, whether it had both messages, and how many of their zeros were respelled.
+// After a round whose messages the text has: what both boxes heard, and how many zeros of the messages were respelled.
 #[derive(Clone, Copy)]
 struct Round {
     heard: Heard,
-    read: Cursor,
     zeros: usize,
 }
 
 // One round, both messages against the text as they are sent; then each goes to the other box. After the last no turn is due.
 fn compared(
-    text: &[u8],
-    from: usize,
+    text: &mut Reader,
     number: u32,
     round: u32,
     s1: &mut State,
@@ -250,19 +196,19 @@ fn compared(
     t2: &[u32],
     w1: &mut [u32],
     w2: &mut [u32],
-    board: bool,
-) -> Round
+    spelling: Spelling,
+) -> Option<Round>
     requires { Due number round s1.old s2.old t1.now t2.now w1.old w2.old }
-    ensures read { result.read
-        ≡ spelled text.now from
+    ensures read { option_map (λ _. text.new.text.now) result
+        ≡ spelled text.old.text.now
         (messages (party_of s1.old t1.now) (party_of s2.old t2.now) (works w1.old w2.old) round) }
-    ensures box1 { outcome (reply_of heard_or_share result.heard.0) s1.new w1.new
-        ≡ heard_after s1.old t1.now w1.old round (message (party_of s2.old t2.now) w2.old round) }
-    ensures box2 { outcome (reply_of heard_or_share result.heard.1) s2.new w2.new
-        ≡ heard_after s2.old t2.now w2.old round (message (party_of s1.old t1.now) w1.old round) }
-    ensures zeros { result.zeros
-        ≡ respelled_in board
-        (messages (party_of s1.old t1.now) (party_of s2.old t2.now) (works w1.old w2.old) round) }
+    ensures box1 { IfSome result (λ told. outcome (reply_of heard_or_share told.heard.0) s1.new w1.new
+        ≡ heard_after s1.old t1.now w1.old round (message (party_of s2.old t2.now) w2.old round)) }
+    ensures box2 { IfSome result (λ told. outcome (reply_of heard_or_share told.heard.1) s2.new w2.new
+        ≡ heard_after s2.old t2.now w2.old round (message (party_of s1.old t1.now) w1.old round)) }
+    ensures zeros { IfSome result (λ told. told.zeros
+        ≡ respelled_in spelling
+        (messages (party_of s1.old t1.now) (party_of s2.old t2.now) (works w1.old w2.old) round)) }
 {
     let mut o1 = exchange::memory::blank_words();
     let mut o2 = exchange::memory::blank_words();
@@ -271,56 +217,25 @@ fn compared(
     exchange::both_speak(
         number, round, &mut *s1, &mut *s2, t1, t2, &*w1, &*w2, &mut o1, &mut o2,
     );
-    let read = crate::numbers::both_same(text, from, words, &o1, &o2);
-    let zeros1 = carry(n, &mut o1[..words], board);
-    let zeros2 = carry(n, &mut o2[..words], board);
-    let heard = exchange::both_hear(
-        number,
-        round,
-        s1,
-        s2,
-        t1,
-        t2,
-        w1,
-        w2,
-        &o2[..words],
-        &o1[..words],
-    );
-    Round {
+    let o1 = &mut o1[..words];
+    let o2 = &mut o2[..words];
+    text.both_same(&*o1, &*o2)?;
+    let zeros1 = carry(n, &mut *o1, spelling);
+    let zeros2 = carry(n, &mut *o2, spelling);
+    let heard = exchange::both_hear(number, round, s1, s2, t1, t2, w1, w2, &*o2, &*o1);
+    Some(Round {
         heard,
-        read,
         zeros: zeros1 + zeros2,
-    }
+    })
 }
 
-// A message on its way to the other box: as it is, or every zero spelled p. Answers how many were respelled.
-fn carry(n: Width, words: &mut [u32], respell: bool) -> usize
-    ensures value { result ≡ respelled_in respell words.old }
-    ensures carried { words.new ≡ delivered n.bits (λ i. respell) words.old }
+// Passes the next numbers, if they are the shares of what both boxes answered. A hear that gave none doesn't agree.
+fn answers_same(text: &mut Reader, heard: Heard) -> Option<()>
+    ensures { is_some result
+        ≡ is_some (option_and_then (λ own. option_and_then (λ others. spelled text.old.text.now (own ∷ others ∷ []))
+        (share_in heard.1)) (share_in heard.0)) }
 {
-    if !respell {
-        return 0;
-    }
-    board::respell(n, words)
-}
-
-// The answer share that a hear gave, and 0 where it gave none.
-fn share_in(heard: Result<Option<u32>, Refusal>) -> u32
-    ensures { result ≡ share_of (reply_of heard_or_share heard) }
-{
-    match heard {
-        Ok(Some(share)) => share,
-        Ok(None) | Err(_) => 0,
-    }
-}
-
-// Whether the next numbers are the shares of what both boxes answered.
-fn answers_same(text: &[u8], from: usize, heard: Heard) -> bool
-    ensures { result
-        ≡ (spelled text.now from
-        (share_of (reply_of heard_or_share heard.0) ∷ share_of (reply_of heard_or_share heard.1) ∷ [])).ok }
-{
-    let answers = [share_in(heard.0), share_in(heard.1)];
-    let c = crate::numbers::same(text, from, &answers);
-    c.ok
+    let (heard1, heard2) = heard;
+    let answers = [heard1.ok().flatten()?, heard2.ok().flatten()?];
+    text.same(&answers)
 }

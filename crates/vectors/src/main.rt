@@ -9,58 +9,66 @@ mod data;
 mod deal;
 mod job;
 mod numbers;
+mod spelling;
 
+use crate::spelling::Spelling;
 use field::Width;
 use std::io;
 use std::rt::Files;
 
 // How the line of a width begins: what is tried.
-fn tell_width(rt: &impl Print, n: Width, board: bool) -> io::Result<()> {
+fn tell_width(rt: &impl Print, n: Width, spelling: Spelling) -> io::Result<()> {
     print!(rt; "width {}", n.bits)?;
-    if board {
+    if spelling == Spelling::Respelled {
         print!(rt; ", every zero spelled {}", n.modulus())?;
     }
     print!(rt; ": tapes")
 }
 
 // How it ends: what came of it.
-fn tell_jobs(rt: &impl Print, agreed: u64, count: u8, board: bool, zeros: u64) -> io::Result<()> {
+fn tell_jobs(
+    rt: &impl Print,
+    agreed: u64,
+    count: u8,
+    spelling: Spelling,
+    zeros: u64,
+) -> io::Result<()> {
     print!(rt; ", {agreed} of {count} jobs agree")?;
-    if board {
+    if spelling == Spelling::Respelled {
         print!(rt; ", zeros respelled: {zeros}")?;
     }
     println!(rt)
 }
 
-fn run_width(rt: &(impl Files + Print), n: Width, count: u8, board: bool) -> io::Result<()> {
-    tell_width(rt, n, board)?;
+fn run_width(rt: &(impl Files + Print), n: Width, count: u8, spelling: Spelling) -> io::Result<()> {
+    tell_width(rt, n, spelling)?;
     let mut agreed: u64 = 0;
     let mut zeros: u64 = 0;
     for k in 0..count {
-        if let Some(told) = job::compared_with(rt, n.bits, k + 1, board) {
+        if let Some(told) = job::compared_with(rt, n.bits, k + 1, spelling) {
             print!(rt; " {}", told.number)?;
             agreed += 1;
             zeros += told.zeros as u64;
         }
     }
-    tell_jobs(rt, agreed, count, board, zeros)
+    tell_jobs(rt, agreed, count, spelling, zeros)
 }
 
 // Every job: the words go from box to box as they are, or every zero spelled p.
 #[tactic(auto, unfolding(field::specs::Width::listed))]
-fn run_widths(rt: &(impl Files + Print), board: bool) -> io::Result<()> {
-    run_width(rt, Width { bits: 3 }, 5, board)?;
-    run_width(rt, Width { bits: 5 }, 4, board)?;
-    run_width(rt, Width { bits: 7 }, 3, board)?;
-    run_width(rt, Width { bits: 13 }, 2, board)?;
-    run_width(rt, Width { bits: 17 }, 2, board)?;
-    run_width(rt, Width { bits: 19 }, 2, board)?;
-    run_width(rt, Width { bits: 31 }, 2, board)
+fn run_widths(rt: &(impl Files + Print), spelling: Spelling) -> io::Result<()> {
+    run_width(rt, Width { bits: 3 }, 5, spelling)?;
+    run_width(rt, Width { bits: 5 }, 4, spelling)?;
+    run_width(rt, Width { bits: 7 }, 3, spelling)?;
+    run_width(rt, Width { bits: 13 }, 2, spelling)?;
+    run_width(rt, Width { bits: 17 }, 2, spelling)?;
+    run_width(rt, Width { bits: 19 }, 2, spelling)?;
+    run_width(rt, Width { bits: 31 }, 2, spelling)
 }
 
 // Says that a deal agrees, and which: only of one that does.
 fn tell_deal(rt: &impl Print, told: deal::Deal) -> io::Result<()>
-    requires { AgreeingDeal told.seed told.width told.pair told.number }
+    requires { AgreeingDeal told }
 {
     println!(rt;
         ": width {}, seed {}, pair {}, tape {}: both tapes agree",
@@ -77,8 +85,8 @@ fn run_deal(rt: &(impl Files + Print), name: &str) -> io::Result<()> {
 }
 
 fn main(rt: HostRuntime) -> io::Result<()> {
-    run_widths(&rt, false)?;
-    run_widths(&rt, true)?;
+    run_widths(&rt, Spelling::AsSent)?;
+    run_widths(&rt, Spelling::Respelled)?;
     run_deal(&rt, "deal-03-1.txt")?;
     run_deal(&rt, "deal-03-4294967295.txt")?;
     run_deal(&rt, "deal-05-2463534242.txt")?;

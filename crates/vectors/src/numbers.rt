@@ -1,115 +1,56 @@
 // Decimal numbers of a text, one after another.
-ghost use Rattle.std.specs.Prelude.{◌≡◌, ◌++◌, ◌≤◌, length, take};
+ghost use Rattle.std.specs.Prelude.{◌≡◌, ◌++◌, length};
+ghost use Rattle.std.specs.Option.{option_map};
 ghost use Rattle.std.proofs.lemmas.List.Edits.{sets};
-ghost use Rattle.vectors.specs.Numbers.{is_digit, past, next_at, numbers_from, read_to, spelled};
+ghost use Rattle.vectors.specs.Numbers.{next_at, numbers_from, read_to, spelled};
 
-// How far a text was read, and whether it had what was asked.
-#[derive(Clone, Copy)]
-pub struct Cursor {
-    pub at: usize,
-    pub ok: bool,
+// What is still unread of a text. A reading that failed isn't gone on with, so where it ends is left open.
+#[derive(Drop)]
+pub struct Reader<'a> {
+    pub text: &'a [u8],
 }
 
-#[derive(Clone, Copy)]
-pub struct Number {
-    pub value: u32,
-    pub at: usize,
-    pub ok: bool,
-}
+impl<'a> Reader<'a> {
+    // The next number, past anything that is no digit.
+    pub fn next(&mut self) -> Option<u32>
+        ensures { option_map (λ value. (value, self.new.text.now)) result ≡ next_at self.old.text.now }
+    {
+        let first = self.text.iter().position(u8::is_ascii_digit)?;
+        let (_, digits) = self.text.split_at(first);
+        let end = digits.iter().position(|b| !b.is_ascii_digit());
+        let (part, rest) = digits.split_at(end.unwrap_or(digits.len()));
+        self.text = rest;
+        lines::reading::number_of(part)
+    }
 
-fn is_digit(b: u8) -> bool
-    ensures { result ≡ is_digit b }
-{
-    48 <= b && b <= 57
-}
-
-// The place after the bytes from there that are digits, or, for false, are none.
-fn past(text: &[u8], from: usize, digits: bool) -> usize
-    ensures value { result ≡ past digits text.now from }
-    ensures most { from ≤ length text.now → result ≤ length text.now }
-{
-    let mut at = from;
-    while at < text.len() {
-        if is_digit(text[at]) != digits {
-            return at;
+    // Fills a slice with the next numbers.
+    pub fn fill(&mut self, into: &mut [u32]) -> Option<()>
+        ensures rest { option_map (λ _. self.new.text.now) result ≡ read_to (length into.old) self.old.text.now }
+        ensures filled { into.new ≡ sets into.old 0 (numbers_from (length into.old) self.old.text.now) }
+    {
+        for number in into.iter_mut() {
+            *number = self.next()?;
         }
-        at += 1;
+        Some(())
     }
-    at
-}
 
-// The next number, past anything that is no digit.
-pub fn next(text: &[u8], from: usize) -> Number
-    ensures { result ≡ next_at text.now from }
-{
-    let none = Number {
-        value: 0,
-        at: 0,
-        ok: false,
-    };
-    let start = past(text, from, false);
-    if text.len() <= start {
-        return none;
-    }
-    let end = past(text, start, true);
-    let Some(value) = lines::reading::number_of(&text[start..end]) else {
-        return none;
-    };
-    Number {
-        value,
-        at: end,
-        ok: true,
-    }
-}
-
-// Fills a slice with the next numbers.
-pub fn fill(text: &[u8], from: usize, into: &mut [u32]) -> Cursor
-    ensures value { result ≡ read_to (length into.old) text.now from }
-    ensures filled { into.new
-        ≡ sets into.old 0 (numbers_from (length into.old) text.now from) }
-{
-    let mut at = from;
-    let mut i = 0;
-    while i < into.len() {
-        let x = next(text, at);
-        if !x.ok {
-            return Cursor { at: 0, ok: false };
+    // Passes the next numbers, if they are these words.
+    pub fn same(&mut self, words: &[u32]) -> Option<()>
+        ensures { option_map (λ _. self.new.text.now) result ≡ spelled self.old.text.now words.now }
+    {
+        for &word in words {
+            if self.next()? != word {
+                return None;
+            }
         }
-        into[i] = x.value;
-        at = x.at;
-        i += 1;
+        Some(())
     }
-    Cursor { at, ok: true }
-}
 
-// Whether the next numbers are these words.
-pub fn same(text: &[u8], from: usize, words: &[u32]) -> Cursor
-    ensures { result ≡ spelled text.now from words.now }
-{
-    let mut at = from;
-    let mut i = 0;
-    while i < words.len() {
-        let x = next(text, at);
-        if !x.ok {
-            return Cursor { at: 0, ok: false };
-        }
-        if x.value != words[i] {
-            return Cursor { at: 0, ok: false };
-        }
-        at = x.at;
-        i += 1;
+    // The words of both, one after the other.
+    pub fn both_same(&mut self, first: &[u32], second: &[u32]) -> Option<()>
+        ensures { option_map (λ _. self.new.text.now) result ≡ spelled self.old.text.now (first.now ++ second.now) }
+    {
+        self.same(first)?;
+        self.same(second)
     }
-    Cursor { at, ok: true }
-}
-
-// Whether the next numbers are the first so many words of both, one after the other.
-pub fn both_same(text: &[u8], from: usize, words: usize, first: &[u32], second: &[u32]) -> Cursor
-    requires { (words ≤ length first.now) × (words ≤ length second.now) }
-    ensures { result ≡ spelled text.now from (take words first.now ++ take words second.now) }
-{
-    let c = same(text, from, &first[..words]);
-    if !c.ok {
-        return c;
-    }
-    same(text, c.at, &second[..words])
 }

@@ -1,38 +1,27 @@
--- `vectors::deal::run` meets its contract: the four numbers at the front are read, and the rest is told by them.
-use mathlib.Core.Path.{◌≡◌, sym, ◌∙◌}
-use borrow.Author.Tests.{not-true, not-false}
+-- `run` meets its contract: the four numbers at the front are read, and the rest is told by them.
+use Rattle.std.proofs.Common.{◌≡◌, sym, ◌∙◌}
 use lib.ListN.{replicate}
 use Rattle.vectors.specs.Numbers.{numbers_from}
 use Rattle.vectors.proofs.Readings.{filled}
 use Rattle.vectors.proofs.Deals.{agreed_none, agreed_told, agreed_named}
-use Rattle.vectors.proofs.deal.run.Goals.{Else-not-c}
+use Rattle.vectors.proofs.deal.run.Goals.{In_ok-fill}
 use Rattle.vectors.proofs.deal.run.Goals as goal
 
 -- the four numbers
-front : (e : Else-not-c) → e.fill-c.new.into ≡ numbers_from 4 e.args.text.now 0
-front e =
-    let v = e.args in
-    e.fill-c.ensures.filled
-    ∙ filled v.text.now 0 (replicate 4 0) e.fill-c.result e.fill-c.ensures.value (not-false e.fill-c.result.ok e.if-not-c.false)
+front : (f : In_ok-fill) → f.fill.new.into ≡ numbers_from 4 f.args.text.now
+front f = filled f.args.text.now (replicate 4 0) _ _ f.in_ok-fill.ensures.rest f.in_ok-fill.ensures.filled
 
-pub returns-then-not-c-clause-agrees : goal.returns-then-not-c-clause-agrees
-returns-then-not-c-clause-agrees c =
-    agreed_none c.args.text.now c.fill-c.result c.fill-c.ensures.value (not-true _ c.if-not-c.true)
+pub returns-in_err-fill-clause-agrees : goal.returns-in_err-fill-clause-agrees
+returns-in_err-fill-clause-agrees c = rw (c.from_residual.ensures, agreed_none _ c.in_err-fill.ensures.rest)
 
-pub returns-then-not-dealt_same-clause-agrees : goal.returns-then-not-dealt_same-clause-agrees
-returns-then-not-dealt_same-clause-agrees c =
-    let head = front (goal.at.returns-then-not-dealt_same-clause-agrees c).Else-not-c in
-    sym c.if-not-dealt_same.true
-    ∙ c.dealt_same.ensures
-    ∙ agreed_told c.args.text.now c.fill-c.result c.fill-c.ensures.value _ head (not-false c.fill-c.result.ok c.if-not-c.false)
+pub returns-in_err-dealt_same-clause-agrees : goal.returns-in_err-dealt_same-clause-agrees
+returns-in_err-dealt_same-clause-agrees c =
+    rw (c.from_residual-in_err-dealt_same.ensures)
+    (c.in_err-dealt_same.ensures ∙ sym (agreed_told _ _ _ c.in_ok-fill.ensures.rest (front (goal.at.returns-in_err-dealt_same-clause-agrees c).In_ok-fill)))
 
-pub returns : goal.returns
-returns c =
-    let v = c.args in
-    let ok = not-false c.fill-c.result.ok c.if-not-c.false in
-    let head = front (goal.at.returns c).Else-not-c in
-    record {
-      agrees =
-          sym c.if-not-dealt_same.false ∙ c.dealt_same.ensures ∙ agreed_told v.text.now c.fill-c.result c.fill-c.ensures.value _ head ok;
-      names = agreed_named v.text.now c.fill-c.result c.fill-c.ensures.value _ head ok;
-    }
+pub returns-clause-agrees : goal.returns-clause-agrees
+returns-clause-agrees c =
+    c.in_ok-dealt_same.ensures ∙ sym (agreed_told _ _ _ c.in_ok-fill.ensures.rest (front (goal.at.returns-clause-agrees c).In_ok-fill))
+
+pub returns-clause-names : goal.returns-clause-names
+returns-clause-names c = agreed_named _ _ _ c.in_ok-fill.ensures.rest (front (goal.at.returns-clause-names c).In_ok-fill)

@@ -1,11 +1,6 @@
 -- `vectors::job::compared` meets its contract: no round has more words than there is room for, what stands there is compared, and what comes
 -- to the other box is read as it.
-use Prim.Native.Nat.{ℕ, ◌+◌, ◌≤◌}
-use mathlib.Core.Bool.{true}
-use mathlib.Core.List.{List, ◌++◌}
-use mathlib.Core.Path.{◌≡◌, sym, ap, ap₂, subst, ◌∙◌}
-use native.Mathlib.Omega.{arith}
-use lib.ListN.{length, take, drop}
+use Rattle.std.proofs.Common.{◌≡◌, ℕ, ◌+◌, ◌≤◌, true, List, ◌++◌, length, take, sym, ap, ap₂, subst, ◌∙◌, arith}
 use Rattle.field.specs.Width.{listed}
 use Rattle.shares.specs.Reading.{read_words}
 use Rattle.protocol.specs.Rounds.{round_words, message}
@@ -40,107 +35,82 @@ module _ (a : After-both_speak) where
   abbrev message2 : List ℕ
   message2 = let v = a.args in message (party_of v.s2.now v.t2.now) v.w2.now v.round
 
-  abbrev out1 : List ℕ
-  out1 = a.both_speak.new.o1
-
-  abbrev out2 : List ℕ
-  out2 = a.both_speak.new.o2
-
-  front1 : AtFront message1 out1 words
+  front1 : AtFront message1 a.both_speak.new.o1 words
   front1 =
       let v = a.args in
       let enough = room v.s1.now.n v.round a.blank_words-o1.result width1 a.blank_words-o1.ensures.0 in
-      at_front v.s1.now v.t1.now v.w1.now v.round _ out1 words a.words_of-words.ensures enough a.both_speak.ensures.box1.0
+      at_front v.s1.now v.t1.now v.w1.now v.round _ a.both_speak.new.o1 words a.words_of-words.ensures enough a.both_speak.ensures.box1.0
 
-  front2 : AtFront message2 out2 words
+  front2 : AtFront message2 a.both_speak.new.o2 words
   front2 =
       let v = a.args in
       let count = a.words_of-words.ensures ∙ ap (λ (n : ℕ). round_words n v.round) a.requires.width in
       let enough = room v.s2.now.n v.round a.blank_words-o2.result width2 a.blank_words-o2.ensures.0 in
-      at_front v.s2.now v.t2.now v.w2.now v.round _ out2 words count enough a.both_speak.ensures.box2.0
+      at_front v.s2.now v.t2.now v.w2.now v.round _ a.both_speak.new.o2 words count enough a.both_speak.ensures.box2.0
+
+  -- what stands at their fronts is what the text must go on with
+  told : (text : List ℕ) → spelled text (take words a.both_speak.new.o1 ++ take words a.both_speak.new.o2) ≡ spelled text (message1 ++ message2)
+  told text = ap₂ (λ (x y : List ℕ). spelled text (x ++ y)) front1.front front2.front
 
 pub invariant_of-n : goal.invariant_of-n
 invariant_of-n c = record { listed = (ranged c.args.s1.now c.requires.box1.ranged).width }
 
-pub both_speak-requires : goal.both_speak-requires
-both_speak-requires c =
-    let v = c.args in
-    let width1 = (ranged v.s1.now c.requires.box1.ranged).width in
-    let width2 = (ranged v.s2.now c.requires.box2.ranged).width in
-    record {
-      box1 = (c.requires.box1, room v.s1.now.n v.round _ width1 c.blank_words-o1.ensures.0);
-      box2 = (c.requires.box2, room v.s2.now.n v.round _ width2 c.blank_words-o2.ensures.0);
-    }
+pub both_speak-requires-clause-box1 : goal.both_speak-requires-clause-box1
+both_speak-requires-clause-box1 c =
+    (c.requires.box1, room _ c.args.round _ (ranged c.args.s1.now c.requires.box1.ranged).width c.blank_words-o1.ensures.0)
 
-pub both_same-read-requires : goal.both_same-read-requires
-both_same-read-requires c = let a = (goal.at.both_same-read-requires c).After-both_speak in ((front1 a).within, (front2 a).within)
+pub both_speak-requires-clause-box2 : goal.both_speak-requires-clause-box2
+both_speak-requires-clause-box2 c =
+    (c.requires.box2, room _ c.args.round _ (ranged c.args.s2.now c.requires.box2.ranged).width c.blank_words-o2.ensures.0)
 
 pub slice_bounds-o1-end : goal.slice_bounds-o1-end
 slice_bounds-o1-end c = (front1 (goal.at.slice_bounds-o1-end c).After-both_speak).within
 
-pub slice_bounds-carry-end : goal.slice_bounds-carry-end
-slice_bounds-carry-end c = (front1 (goal.at.slice_bounds-carry-end c).After-both_speak).long
+pub slice_bounds-o1-end-2 : goal.slice_bounds-o1-end-2
+slice_bounds-o1-end-2 c = (front1 (goal.at.slice_bounds-o1-end-2 c).After-both_speak).long
 
 pub slice_bounds-o2-end : goal.slice_bounds-o2-end
 slice_bounds-o2-end c = (front2 (goal.at.slice_bounds-o2-end c).After-both_speak).within
 
-pub slice_bounds-carry-end-2 : goal.slice_bounds-carry-end-2
-slice_bounds-carry-end-2 c = (front2 (goal.at.slice_bounds-carry-end-2 c).After-both_speak).long
-
--- what comes to the other box
 pub slice_bounds-o2-end-2 : goal.slice_bounds-o2-end-2
-slice_bounds-o2-end-2 c =
-    let front = front2 (goal.at.slice_bounds-o2-end-2 c).After-both_speak in
-    let there = arrived c.args.s1.now.n c.args.board front c.carry-zeros2.new.words c.carry-zeros2.auto.words c.carry-zeros2.ensures.carried in
-    there.within
+slice_bounds-o2-end-2 c = (front2 (goal.at.slice_bounds-o2-end-2 c).After-both_speak).long
 
-pub slice_bounds-both_hear-end : goal.slice_bounds-both_hear-end
-slice_bounds-both_hear-end c =
-    let front = front2 (goal.at.slice_bounds-both_hear-end c).After-both_speak in
-    let there = arrived c.args.s1.now.n c.args.board front c.carry-zeros2.new.words c.carry-zeros2.auto.words c.carry-zeros2.ensures.carried in
-    there.long
-
-pub slice_bounds-o1-end-2 : goal.slice_bounds-o1-end-2
-slice_bounds-o1-end-2 c =
-    let front = front1 (goal.at.slice_bounds-o1-end-2 c).After-both_speak in
-    let there = arrived c.args.s1.now.n c.args.board front c.carry-zeros1.new.words c.carry-zeros1.auto.words c.carry-zeros1.ensures.carried in
-    there.within
-
-pub slice_bounds-both_hear-end-2 : goal.slice_bounds-both_hear-end-2
-slice_bounds-both_hear-end-2 c =
-    let front = front1 (goal.at.slice_bounds-both_hear-end-2 c).After-both_speak in
-    let there = arrived c.args.s1.now.n c.args.board front c.carry-zeros1.new.words c.carry-zeros1.auto.words c.carry-zeros1.ensures.carried in
-    there.long
+pub returns-in_err-both_same-clause-read : goal.returns-in_err-both_same-clause-read
+returns-in_err-both_same-clause-read c =
+    rw c.from_residual.ensures (c.in_err-both_same.ensures ∙ told (goal.at.returns-in_err-both_same-clause-read c).After-both_speak _)
 
 pub overflow_add-result : goal.overflow_add-result
 overflow_add-result c =
     let a = (goal.at.overflow_add-result c).After-both_speak in
     let v = c.args in
-    let most1 = respelled_most v.board (take (words a) (out1 a)) in
-    let most2 = respelled_most v.board (take (words a) (out2 a)) in
+    let most1 = respelled_most v.spelling (take (words a) a.both_speak.new.o1) in
+    let most2 = respelled_most v.spelling (take (words a) a.both_speak.new.o2) in
     let most = words_most v.s1.now.n v.round (width1 a) in
     omega (arith, c.carry-zeros1.ensures.value, most1, (front1 a).long, c.carry-zeros2.ensures.value, most2, (front2 a).long, c.words_of-words.ensures, most)
 
-pub returns : goal.returns
-returns c =
-    let a = (goal.at.returns c).After-both_speak in
+pub returns-clause-read : goal.returns-clause-read
+returns-clause-read c = c.in_ok-both_same.ensures ∙ told (goal.at.returns-clause-read c).After-both_speak _
+
+pub returns-clause-box1 : goal.returns-clause-box1
+returns-clause-box1 c =
+    let a = (goal.at.returns-clause-box1 c).After-both_speak in
     let v = c.args in
-    let ready1 = c.requires.box1 in
-    let ready2 = c.requires.box2 in
-    let there1 = arrived v.s1.now.n v.board (front1 a) c.carry-zeros1.new.words c.carry-zeros1.auto.words c.carry-zeros1.ensures.carried in
-    let there2 = arrived v.s1.now.n v.board (front2 a) c.carry-zeros2.new.words c.carry-zeros2.auto.words c.carry-zeros2.ensures.carried in
-    let to2 = c.carry-zeros1.new.words ++ drop (words a) (out1 a) in
-    let read1 = there2.read in
-    let read2 = subst (λ (n : ℕ). read_words n (take (words a) to2) ≡ read_words n (message1 a)) c.requires.width there1.read in
-    let zeros1 = c.carry-zeros1.ensures.value ∙ ap (respelled_in v.board) (front1 a).front in
-    let zeros2 = c.carry-zeros2.ensures.value ∙ ap (respelled_in v.board) (front2 a).front in
-    record {
-      read = c.both_same-read.ensures ∙ ap₂ (λ (x y : List ℕ). spelled v.text.now v.from (x ++ y)) (front1 a).front (front2 a).front;
-      box1 =
-          hears v.s2.now v.number v.round v.t2.now v.w2.now ready2 v.s1.now v.t1.now v.w1.now ready1
-          (sym c.requires.width) _ _ _ _ _ c.both_speak.ensures.box1.1 read1 c.both_hear-heard.ensures.box1;
-      box2 =
-          hears v.s1.now v.number v.round v.t1.now v.w1.now ready1 v.s2.now v.t2.now v.w2.now ready2
-          c.requires.width _ _ _ _ _ c.both_speak.ensures.box2.1 read2 c.both_hear-heard.ensures.box2;
-      zeros = ap₂ ◌+◌ zeros1 zeros2 ∙ sym (respelled_append v.board (message1 a) (message2 a));
-    }
+    let read = arrived v.s1.now.n v.spelling _ c.carry-zeros2.new.words (message2 a) (front2 a).front c.carry-zeros2.ensures.carried in
+    hears v.s2.now v.number v.round v.t2.now v.w2.now c.requires.box2 v.s1.now v.t1.now v.w1.now c.requires.box1
+    (sym c.requires.width) _ _ _ _ _ c.both_speak.ensures.box1.1 read c.both_hear-heard.ensures.box1
+
+pub returns-clause-box2 : goal.returns-clause-box2
+returns-clause-box2 c =
+    let a = (goal.at.returns-clause-box2 c).After-both_speak in
+    let v = c.args in
+    let read = arrived v.s1.now.n v.spelling _ c.carry-zeros1.new.words (message1 a) (front1 a).front c.carry-zeros1.ensures.carried in
+    let read2 = subst (λ (n : ℕ). read_words n c.carry-zeros1.new.words ≡ read_words n (message1 a)) c.requires.width read in
+    hears v.s1.now v.number v.round v.t1.now v.w1.now c.requires.box1 v.s2.now v.t2.now v.w2.now c.requires.box2
+    c.requires.width _ _ _ _ _ c.both_speak.ensures.box2.1 read2 c.both_hear-heard.ensures.box2
+
+pub returns-clause-zeros : goal.returns-clause-zeros
+returns-clause-zeros c =
+    let a = (goal.at.returns-clause-zeros c).After-both_speak in
+    let spelling = c.args.spelling in
+    ap₂ ◌+◌ (c.carry-zeros1.ensures.value ∙ ap (respelled_in spelling) (front1 a).front) (c.carry-zeros2.ensures.value ∙ ap (respelled_in spelling) (front2 a).front)
+    ∙ sym (respelled_append spelling (message1 a) (message2 a))
