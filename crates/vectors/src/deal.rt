@@ -19,17 +19,16 @@ pub struct Deal {
 // The deal of a file that is there and has every word of both tapes as the dealer gives it. Which text was read cannot be said, only that one that
 // agrees has these numbers: they are printed, so that a file read in another's place shows.
 pub fn compared_with(rt: &impl Files, name: &[u8]) -> Option<Deal>
-    ensures { IfSome result (λ deal. AgreeingDeal deal) }
+    ensures { IfSome result AgreeingDeal }
 {
-    let mut text = [0u8; 262144];
-    let len = crate::data::read(rt, name, &mut text)?;
-    run(&text[..len])
+    let mut room = [0u8; 262144];
+    run(crate::data::read(rt, name, &mut room)?)
 }
 
 // A text has seed, n, pair and tape number, then both tapes.
 fn run(text: &[u8]) -> Option<Deal>
     ensures agrees { is_some result ≡ deal_agreed text.now }
-    ensures names { IfSome result (λ deal. headed text.now deal) }
+    ensures names { IfSome result (headed text.now) }
 {
     let mut text = Reader { text };
     let mut head = [0u32; 4];

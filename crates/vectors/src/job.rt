@@ -54,9 +54,8 @@ pub fn compared_with(rt: &impl Files, w: u32, k: u8, spelling: Spelling) -> Opti
     ensures { IfSome result (λ told. Agreeing w spelling told.number told.zeros) }
 {
     let name = name_of(w, k);
-    let mut text = [0u8; 262144];
-    let len = crate::data::read(rt, &name, &mut text)?;
-    run(&text[..len], w, spelling)
+    let mut room = [0u8; 262144];
+    run(crate::data::read(rt, &name, &mut room)?, w, spelling)
 }
 
 // A text has n, which is the width asked for, pair and tape number, the shares x1 y1 x2 y2, both tapes, both messages of each
