@@ -138,3 +138,7 @@ pub spelled_append : (text a b : List ℕ) → spelled text (a ++ b) ≡ option_
 unfolding spelled
 spelled_append text [] b = refl
 spelled_append text (w ∷ a) b = spelled_step (next_at text) w a b (λ rest. spelled_append rest a b)
+
+pub ruleset same_words = (spelled_none, spelled_next, spelled_other, spelled_end)
+
+pub ruleset filling = (fill_none, read_none, fill_next, read_next, fill_end, read_end)

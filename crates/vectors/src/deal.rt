@@ -26,6 +26,7 @@ pub fn compared_with(rt: &impl Files, name: &[u8]) -> Option<Deal>
 }
 
 // A text has seed, n, pair and tape number, then both tapes.
+#[tactic(auto, using(crate::proofs::Readings::filled, crate::proofs::Deals::agreed_told, crate::proofs::Deals::agreed_named, crate::proofs::Deals::agreed_none))]
 fn run(text: &[u8]) -> Option<Deal>
     ensures agrees { is_some result ≡ deal_agreed text.now }
     ensures names { IfSome result (headed text.now) }
@@ -45,6 +46,7 @@ fn run(text: &[u8]) -> Option<Deal>
 }
 
 // Passes the next numbers, if they are both tapes of that deal. One that is refused doesn't agree.
+#[tactic(auto, using(crate::proofs::Deals::deal_unlisted))]
 fn dealt_same(text: &mut Reader, deal: Deal) -> Option<()>
     ensures { is_some result ≡ deal_told text.old.text.now deal }
 {

@@ -60,6 +60,7 @@ pub fn compared_with(rt: &impl Files, w: u32, k: u8, spelling: Spelling) -> Opti
 
 // A text has n, which is the width asked for, pair and tape number, the shares x1 y1 x2 y2, both tapes, both messages of each
 // round, both answer shares.
+#[tactic(auto, unfolding(crate::specs::Job::agreed))]
 fn run(text: &[u8], w: u32, spelling: Spelling) -> Option<Agreement>
     ensures agrees { is_some result ≡ agreed w text.now }
     ensures number { IfSome result (λ told. told.number ≡ tape_number text.now) }
@@ -87,6 +88,7 @@ fn run(text: &[u8], w: u32, spelling: Spelling) -> Option<Agreement>
 }
 
 // How many zeros of a job's messages were respelled, if the job agrees.
+#[tactic(auto, using(crate::proofs::Readings::filled), unfolding(crate::specs::Job::tapes_told, crate::specs::Sent::tapes_sent))]
 fn on_tapes(text: &mut Reader, job: Job, spelling: Spelling) -> Option<usize>
     ensures agrees { is_some result ≡ tapes_told text.old.text.now job }
     ensures zeros { IfSome result (λ zeros. zeros ≡ respelled_in spelling (tapes_sent text.old.text.now job)) }

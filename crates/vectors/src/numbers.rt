@@ -24,6 +24,7 @@ impl<'a> Reader<'a> {
     }
 
     // Fills a slice with the next numbers.
+    #[tactic(auto, using(crate::proofs::Readings::filling))]
     pub fn fill(&mut self, into: &mut [u32]) -> Option<()>
         ensures rest { option_map (λ _. self.new.text.now) result ≡ read_to (length into.old) self.old.text.now }
         ensures filled { into.new ≡ sets into.old 0 (numbers_from (length into.old) self.old.text.now) }
@@ -35,6 +36,7 @@ impl<'a> Reader<'a> {
     }
 
     // Passes the next numbers, if they are these words.
+    #[tactic(auto, using(crate::proofs::Readings::same_words))]
     pub fn same(&mut self, words: &[u32]) -> Option<()>
         ensures { option_map (λ _. self.new.text.now) result ≡ spelled self.old.text.now words.now }
     {
@@ -47,6 +49,7 @@ impl<'a> Reader<'a> {
     }
 
     // The words of both, one after the other.
+    #[tactic(auto, using(crate::proofs::Readings::spelled_append))]
     pub fn both_same(&mut self, first: &[u32], second: &[u32]) -> Option<()>
         ensures { option_map (λ _. self.new.text.now) result ≡ spelled self.old.text.now (first.now ++ second.now) }
     {

@@ -13,10 +13,6 @@ use Rattle.vectors.proofs.job.run.Goals as goal
 front : (f : In_ok-fill) → f.fill.new.into ≡ numbers_from 7 f.args.text.now
 front f = filled f.args.text.now (replicate 7 0) _ _ f.in_ok-fill.ensures.rest f.in_ok-fill.ensures.filled
 
-pub returns-in_err-fill-clause-agrees : goal.returns-in_err-fill-clause-agrees
-unfolding agreed
-returns-in_err-fill-clause-agrees c = rw (c.from_residual.ensures, ← c.in_err-fill.ensures.rest)
-
 pub returns-then-n-w-clause-agrees : goal.returns-then-n-w-clause-agrees
 unfolding agreed
 returns-then-n-w-clause-agrees c =
