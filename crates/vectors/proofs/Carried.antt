@@ -1,11 +1,17 @@
 -- A message on its way to the other box, its zeros respelled or not.
 use Prim.Native.Nat.{ℕ, ◌+◌, ◌≤◌}
 use mathlib.Core.Path.{◌≡◌, refl, ap, ◌∙◌}
+use mathlib.Core.Bool.{true}
 use mathlib.Core.List.{List, ◌++◌}
 use native.Mathlib.Omega.{arith}
 use lib.ListN.{length, get_or}
 use Rattle.board.proofs.Zeros.{zeros_append, zeros_most}
 use Rattle.lists.proofs.Tabulate.{tabulated}
+use Rattle.protocol.specs.Rounds.{round_words}
+use Rattle.protocol.proofs.Lengths.{words_most}
+use Rattle.rules.specs.Modes.{in_range}
+use Rattle.rules.specs.declared.state.State.{State}
+use Rattle.rules.proofs.Ranges.{ranged}
 use Rattle.shares.specs.Reading.{read_words, delivered}
 use Rattle.shares.proofs.Reading.{delivered_read}
 use Rattle.vectors.specs.declared.spelling.Spelling.{Spelling}
@@ -32,3 +38,7 @@ pub arrived : (n : ℕ) (spelling : Spelling) (sent after message : List ℕ) �
     → read_words n after ≡ read_words n message
 arrived n spelling sent after message front is =
     ap (read_words n) is ∙ delivered_read n (λ i. respells spelling) sent ∙ ap (read_words n) front
+
+-- no round has more words than there is room for
+pub room : (s : State) (round : ℕ) (out : List ℕ) → in_range s ≡ true → length out ≡ 2889 → round_words s.n round ≤ length out
+room s round out range long = omega (arith, words_most s.n round (ranged s range).width, long)

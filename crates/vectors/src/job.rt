@@ -112,6 +112,7 @@ fn unused_tally() -> [u8; tally::LONGEST_TALLY]
 }
 
 // Both boxes come to the job. One that is refused doesn't agree.
+#[tactic(auto, using(crate::proofs::Jobs::begun_comes), unfolding(crate::specs::Job::job_told))]
 fn opened(text: &mut Reader, job: Job, t1: &[u32], t2: &[u32], spelling: Spelling) -> Option<usize>
     ensures agrees { is_some result ≡ job_told text.old.text.now job t1.now t2.now }
     ensures zeros { IfSome result (λ zeros. zeros ≡ respelled_in spelling (job_sent job t1.now t2.now)) }
@@ -187,6 +188,7 @@ struct Round {
 }
 
 // One round, both messages against the text as they are sent; then each goes to the other box. After the last no turn is due.
+#[tactic(auto, using(crate::proofs::Carried::room))]
 fn compared(
     text: &mut Reader,
     number: u32,

@@ -10,13 +10,9 @@ use Rattle.rules.proofs.Ranges.{ranged}
 use Rattle.exchange.proofs.Delivery.{AtFront, at_front, hears}
 use Rattle.vectors.specs.Numbers.{spelled}
 use Rattle.vectors.specs.Sent.{respelled_in}
-use Rattle.vectors.proofs.Carried.{respelled_append, respelled_most, arrived}
+use Rattle.vectors.proofs.Carried.{room, respelled_append, respelled_most, arrived}
 use Rattle.vectors.proofs.job.compared.Goals.{After-both_speak}
 use Rattle.vectors.proofs.job.compared.Goals as goal
-
--- no round has more words than there is room for
-room : (n round : ℕ) (out : List ℕ) → listed n ≡ true → length out ≡ 2889 → round_words n round ≤ length out
-room n round out width long = omega (arith, words_most n round width, long)
 
 module _ (a : After-both_speak) where
   abbrev words : ℕ
@@ -38,14 +34,14 @@ module _ (a : After-both_speak) where
   front1 : AtFront message1 a.both_speak.new.o1 words
   front1 =
       let v = a.args in
-      let enough = room v.s1.now.n v.round a.blank_words-o1.result width1 a.blank_words-o1.ensures.0 in
+      let enough = room v.s1.now v.round a.blank_words-o1.result a.requires.box1.ranged a.blank_words-o1.ensures.0 in
       at_front v.s1.now v.t1.now v.w1.now v.round _ a.both_speak.new.o1 words a.words_of-words.ensures enough a.both_speak.ensures.box1.0
 
   front2 : AtFront message2 a.both_speak.new.o2 words
   front2 =
       let v = a.args in
       let count = a.words_of-words.ensures ∙ ap (λ (n : ℕ). round_words n v.round) a.requires.width in
-      let enough = room v.s2.now.n v.round a.blank_words-o2.result width2 a.blank_words-o2.ensures.0 in
+      let enough = room v.s2.now v.round a.blank_words-o2.result a.requires.box2.ranged a.blank_words-o2.ensures.0 in
       at_front v.s2.now v.t2.now v.w2.now v.round _ a.both_speak.new.o2 words count enough a.both_speak.ensures.box2.0
 
   -- what stands at their fronts is what the text must go on with
@@ -54,14 +50,6 @@ module _ (a : After-both_speak) where
 
 pub invariant_of-n : goal.invariant_of-n
 invariant_of-n c = record { listed = (ranged c.args.s1.now c.requires.box1.ranged).width }
-
-pub both_speak-requires-clause-box1 : goal.both_speak-requires-clause-box1
-both_speak-requires-clause-box1 c =
-    (c.requires.box1, room _ c.args.round _ (ranged c.args.s1.now c.requires.box1.ranged).width c.blank_words-o1.ensures.0)
-
-pub both_speak-requires-clause-box2 : goal.both_speak-requires-clause-box2
-both_speak-requires-clause-box2 c =
-    (c.requires.box2, room _ c.args.round _ (ranged c.args.s2.now c.requires.box2.ranged).width c.blank_words-o2.ensures.0)
 
 pub slice_bounds-o1-end : goal.slice_bounds-o1-end
 slice_bounds-o1-end c = (front1 (goal.at.slice_bounds-o1-end c).After-both_speak).within

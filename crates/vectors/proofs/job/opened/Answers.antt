@@ -30,22 +30,6 @@ ready2 i =
     let v = i.args.job in
     begin_ready v.n 2 v.pair v.number v.box2.x v.box2.y i.args.t2.now _ _ _ i.begin-2.new.state _ i.begin-2.ensures (no_refusal _ i.in_ok-ok-2.ensures.variant)
 
-pub returns-in_err-ok-clause-agrees : goal.returns-in_err-ok-clause-agrees
-unfolding job_told
-returns-in_err-ok-clause-agrees c =
-    rw (c.from_residual.ensures, comes1 (goal.at.returns-in_err-ok-clause-agrees c).After-ok, ← c.in_err-ok.ensures.variant)
-
-pub returns-in_err-ok-2-clause-agrees : goal.returns-in_err-ok-2-clause-agrees
-unfolding job_told
-returns-in_err-ok-2-clause-agrees c =
-    rw (
-      c.from_residual-in_err-ok-2.ensures,
-      comes1 (goal.at.returns-in_err-ok-2-clause-agrees c).After-ok,
-      ← c.in_ok-ok.ensures.variant,
-      comes2 (goal.at.returns-in_err-ok-2-clause-agrees c).After-ok-2,
-      ← c.in_err-ok-2.ensures.variant,
-    )
-
 pub exchanged-requires : goal.exchanged-requires
 exchanged-requires c =
     let box1 = ready1 (goal.at.exchanged-requires c).In_ok-ok in
