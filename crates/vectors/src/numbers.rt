@@ -16,7 +16,7 @@ impl<'a> Reader<'a> {
         ensures { option_map (λ value. (value, self.new.text.now)) result ≡ next_at self.old.text.now }
     {
         let first = self.text.iter().position(u8::is_ascii_digit)?;
-        let (_, digits) = self.text.split_at(first);
+        let digits = &self.text[first..];
         let end = digits.iter().position(|b| !b.is_ascii_digit());
         let (part, rest) = digits.split_at(end.unwrap_or(digits.len()));
         self.text = rest;
