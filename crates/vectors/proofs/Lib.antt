@@ -5,3 +5,4 @@ pub mod Carried
 pub mod Transcripts
 pub mod Jobs
 pub mod Sent
+pub mod Rounds

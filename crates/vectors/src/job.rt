@@ -138,6 +138,7 @@ fn opened(text: &mut Reader, job: Job, t1: &[u32], t2: &[u32], spelling: Spellin
 }
 
 // Every round, each message against the text, then the answer shares, which the last round gives.
+#[tactic(auto, using(crate::proofs::Rounds::told_due, crate::proofs::Rounds::told_none))]
 fn exchanged(
     text: &mut Reader,
     number: u32,

@@ -1,6 +1,6 @@
 -- `vectors::job::compared` meets its contract: no round has more words than there is room for, what stands there is compared, and what comes
 -- to the other box is read as it.
-use Rattle.std.proofs.Common.{◌≡◌, ℕ, ◌+◌, ◌≤◌, true, List, ◌++◌, length, take, sym, ap, ap₂, subst, ◌∙◌, arith}
+use Rattle.std.proofs.Common.{◌≡◌, ℕ, ◌+◌, true, List, ◌++◌, take, sym, ap, ap₂, subst, ◌∙◌, arith}
 use Rattle.field.specs.Width.{listed}
 use Rattle.shares.specs.Reading.{read_words}
 use Rattle.protocol.specs.Rounds.{round_words, message}
