@@ -12,10 +12,14 @@ use Rattle.refusals.specs.declared.Refusal.{Refusal}
 use Rattle.refusals.proofs.Numbers.{numbered}
 use Rattle.tape.specs.Layout.{tape_length}
 use Rattle.rules.specs.Answers.{Reply, started, share, heard_or_share, reply_of}
-use Rattle.rules.specs.Calls.{Result as Called, outcome}
+use Rattle.rules.specs.Calls.{Result as Called, outcome, party_of}
 use Rattle.rules.specs.declared.state.State.{State}
 use Rattle.exchange.specs.declared.Shares.{Shares}
 use Rattle.exchange.specs.Opening.{first_state, refusal_of, share_of, begun}
+use Rattle.exchange.specs.Boxes.{Ready}
+use Rattle.exchange.proofs.Begun.{Begun, begin_ready}
+use Rattle.protocol.specs.Products.{party}
+use Rattle.rules.specs.declared.state.Turn.TheVariants.{Speak}
 use Rattle.exchange.specs.Memory.{blank_work}
 use Rattle.vectors.specs.declared.job.Job.{Job}
 use Rattle.vectors.specs.Numbers.{read_to, after}
@@ -25,18 +29,27 @@ went : (answer : Result ⊤ Refusal) → eqb (refusal_of (reply_of (λ _. starte
 went (Ok _) = refl
 went (Err refusal) = ne_eqb (number_of refusal) 0 (λ zero. omega (arith, zero, numbered refusal))
 
-pub no_refusal : (answer : Result ⊤ Refusal) → true ≡ is_ok answer → refusal_of (reply_of (λ _. started) answer) ≡ 0
+no_refusal : (answer : Result ⊤ Refusal) → true ≡ is_ok answer → refusal_of (reply_of (λ _. started) answer) ≡ 0
 no_refusal (Ok _) e = refl
 no_refusal (Err refusal) e = absurd (true≢false e)
 
-pub begun_comes : (job : Job) (side : ℕ) (own : Shares) (tape work tally : List ℕ) (answer : Result ⊤ Refusal) (s : State) (tally' : List ℕ)
-    → work ≡ blank_work → tally ≡ unused_tally
-    → outcome (reply_of (λ _. started) answer) s tally' ≡ begun first_state job.n side job.pair job.number own.x own.y tape work tally
-    → comes job side own tape ≡ is_ok answer
-begun_comes job side own tape work tally answer s tally' w t e =
-    let same : begun first_state job.n side job.pair job.number own.x own.y tape work tally
-    ≡ begun first_state job.n side job.pair job.number own.x own.y tape blank_work unused_tally = rw (w, t) in
-    ap (λ (r : Called). eqb (refusal_of r.reply) 0) (sym (e ∙ same)) ∙ went answer
+module _ (job : Job) (side : ℕ) (own : Shares) (tape work tally : List ℕ) (answer : Result ⊤ Refusal) (s : State) (tally' : List ℕ)
+    (call : outcome (reply_of (λ _. started) answer) s tally' ≡ begun first_state job.n side job.pair job.number own.x own.y tape work tally) where
+  pub begun_comes : work ≡ blank_work → tally ≡ unused_tally → comes job side own tape ≡ is_ok answer
+  begun_comes w t =
+      let same : begun first_state job.n side job.pair job.number own.x own.y tape work tally
+      ≡ begun first_state job.n side job.pair job.number own.x own.y tape blank_work unused_tally = rw (w, t) in
+      ap (λ (r : Called). eqb (refusal_of r.reply) 0) (sym (call ∙ same)) ∙ went answer
+
+  module _ (came : true ≡ is_ok answer) where
+    begins : Begun job.n side job.pair job.number own.x own.y tape work tally s
+    begins = begin_ready job.n side job.pair job.number own.x own.y tape work tally _ s tally' call (no_refusal answer came)
+
+    pub begun_ready : Ready s job.number (Speak 1) tape work
+    begun_ready = begins.ready
+
+    pub begun_party : party_of s tape ≡ party job.n side own.x own.y tape
+    begun_party = ap (λ (b : State). party_of b tape) begins.state
 
 -- a hear whose reply is an answer share gave that share
 pub share_told : (answer : Result (Option ℕ) Refusal) (word : ℕ) → reply_of heard_or_share answer ≡ share word → share_in answer ≡ Some word

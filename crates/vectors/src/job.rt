@@ -5,10 +5,13 @@ ghost use Rattle.protocol.specs.Rounds.{last_round, message};
 ghost use Rattle.rules.specs.Answers.{heard_or_share, reply_of};
 ghost use Rattle.tally.specs.Tally.{longest_tally};
 ghost use Rattle.rules.specs.Calls.{outcome, party_of};
-ghost use Rattle.exchange.specs.Boxes.{heard_after, works};
+ghost use Rattle.protocol.specs.Products.{party};
+ghost use Rattle.rules.specs.declared.state.Turn.TheVariants.{Speak};
+ghost use Rattle.exchange.specs.Boxes.{Ready, heard_after, works};
+ghost use Rattle.exchange.specs.Memory.{blank_work};
 ghost use Rattle.vectors.specs.Numbers.{spelled};
 ghost use Rattle.vectors.specs.Due.{Due};
-ghost use Rattle.vectors.specs.Job.{messages, messages_to, transcript, unused_tally, share_in, job_told, tapes_told, agreed, tape_number, name_of};
+ghost use Rattle.vectors.specs.Job.{messages, messages_to, transcript, unused_tally, share_in, comes, job_told, tapes_told, agreed, tape_number, name_of};
 ghost use Rattle.vectors.specs.Sent.{respelled_in, job_sent, tapes_sent, sent, Agreeing};
 
 use crate::numbers::Reader;
@@ -111,29 +114,41 @@ fn unused_tally() -> [u8; tally::LONGEST_TALLY]
     [255; tally::LONGEST_TALLY]
 }
 
-// Both boxes come to the job. One that is refused doesn't agree.
-#[tactic(auto, using(crate::proofs::Jobs::begun_comes), unfolding(crate::specs::Job::job_told))]
-fn opened(text: &mut Reader, job: Job, t1: &[u32], t2: &[u32], spelling: Spelling) -> Option<usize>
-    ensures agrees { is_some result ≡ job_told text.old.text.now job t1.now t2.now }
-    ensures zeros { IfSome result (λ zeros. zeros ≡ respelled_in spelling (job_sent job t1.now t2.now)) }
+// A box comes to the job, if it isn't refused.
+#[tactic(auto, using(crate::proofs::Jobs::begun_comes))]
+fn begun(job: Job, side: u32, own: Shares, tape: &[u32], work: &[u32]) -> Option<State>
+    requires { work.now ≡ blank_work }
+    ensures comes { is_some result ≡ comes job side own tape.now }
+    ensures ready { IfSome result (λ s. Ready s job.number (Speak 1) tape.now work.now) }
+    ensures party { IfSome result (λ s. party_of s tape.now ≡ party job.n side own.x own.y tape.now) }
 {
+    let mut state = state::FIRST;
+    let mut tally = unused_tally();
     let Job {
         n,
         pair,
         number,
-        box1,
-        box2,
+        ..
     } = job;
+    exchange::begin(
+        &mut state, n, side, pair, number, own, tape, work, &mut tally,
+    )
+    .ok()?;
+    Some(state)
+}
+
+// Both boxes come to the job, and the rounds follow.
+#[tactic(auto, unfolding(crate::specs::Job::job_told, crate::specs::Sent::job_sent))]
+fn opened(text: &mut Reader, job: Job, t1: &[u32], t2: &[u32], spelling: Spelling) -> Option<usize>
+    ensures agrees { is_some result ≡ job_told text.old.text.now job t1.now t2.now }
+    ensures zeros { IfSome result (λ zeros. zeros ≡ respelled_in spelling (job_sent job t1.now t2.now)) }
+{
     let mut w1 = exchange::memory::blank_work();
     let mut w2 = exchange::memory::blank_work();
-    let mut k1 = unused_tally();
-    let mut k2 = unused_tally();
-    let mut s1 = state::FIRST;
-    let mut s2 = state::FIRST;
-    exchange::begin(&mut s1, n, 1, pair, number, box1, t1, &w1, &mut k1).ok()?;
-    exchange::begin(&mut s2, n, 2, pair, number, box2, t2, &w2, &mut k2).ok()?;
+    let mut s1 = begun(job, 1, job.box1, t1, &w1)?;
+    let mut s2 = begun(job, 2, job.box2, t2, &w2)?;
     exchanged(
-        text, number, &mut s1, &mut s2, t1, t2, &mut w1, &mut w2, spelling,
+        text, job.number, &mut s1, &mut s2, t1, t2, &mut w1, &mut w2, spelling,
     )
 }
 
