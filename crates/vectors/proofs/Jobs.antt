@@ -22,7 +22,7 @@ use Rattle.protocol.specs.Products.{party}
 use Rattle.rules.specs.declared.state.Turn.TheVariants.{Speak}
 use Rattle.exchange.specs.Memory.{blank_work}
 use Rattle.vectors.specs.declared.job.Job.{Job}
-use Rattle.vectors.specs.Numbers.{read_to, after}
+use Rattle.vectors.specs.Numbers.{read_to, rest_after}
 use Rattle.vectors.specs.Job.{unused_tally, share_in, comes, job_in, tapes_told, agreed}
 
 went : (answer : Result ⊤ Refusal) → eqb (refusal_of (reply_of (λ _. started) answer)) 0 ≡ is_ok answer
@@ -63,9 +63,9 @@ unfolding tapes_told
 tapes_width text job e =
     let words = tape_length job.n in
     let read1 = is_some (read_to words text) in
-    let read2 = is_some (read_to words (after words text)) in
+    let read2 = is_some (read_to words (rest_after words text)) in
     and_left (listed job.n) read1 (and_left (listed job.n && read1) read2 (and_left (listed job.n && read1 && read2) _ e))
 
 pub agreed_width : (w : ℕ) (text : List ℕ) → agreed w text ≡ true → listed (job_in text).n ≡ true
 unfolding agreed
-agreed_width w text e = tapes_width (after 7 text) (job_in text) (and_right (is_some (read_to 7 text) && eqb (job_in text).n w) _ e)
+agreed_width w text e = tapes_width (rest_after 7 text) (job_in text) (and_right (is_some (read_to 7 text) && eqb (job_in text).n w) _ e)

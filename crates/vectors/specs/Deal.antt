@@ -4,7 +4,7 @@ use Rattle.std.specs.Option.{is_some}
 use Rattle.field.specs.Width.{listed}
 use Rattle.deals.specs.Deals.{dealt_tape}
 use Rattle.vectors.specs.declared.deal.Deal.{Deal}
-use Rattle.vectors.specs.Numbers.{numbers_from, read_to, after, spelled}
+use Rattle.vectors.specs.Numbers.{numbers_from, read_to, rest_after, spelled}
 
 -- box 1's tape and box 2's
 abbrev pub both_dealt : Deal → List ℕ
@@ -20,7 +20,7 @@ deal_of h = record { seed = get_or h 0 0; width = get_or h 1 0; pair = get_or h 
 
 -- a text has those four, then both tapes
 unfoldable pub deal_agreed : List ℕ → Bool
-deal_agreed text = is_some (read_to 4 text) && deal_told (after 4 text) (deal_of (numbers_from 4 text))
+deal_agreed text = is_some (read_to 4 text) && deal_told (rest_after 4 text) (deal_of (numbers_from 4 text))
 
 -- the numbers at the front of a text
 abbrev pub headed : List ℕ → Deal → Type 0

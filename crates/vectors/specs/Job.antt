@@ -13,7 +13,7 @@ use Rattle.exchange.specs.Opening.{first_state, refusal_of, begun}
 use Rattle.exchange.specs.Boxes.{works}
 use Rattle.exchange.specs.Memory.{blank_work}
 use Rattle.vectors.specs.declared.job.Job.{Job}
-use Rattle.vectors.specs.Numbers.{numbers_from, read_to, after, spelled}
+use Rattle.vectors.specs.Numbers.{numbers_from, read_to, rest_after, spelled}
 
 -- both messages of a round, box 1's first
 abbrev pub messages : Party → Party → Both → ℕ → List ℕ
@@ -60,11 +60,11 @@ job_told text job t1 t2 =
 unfoldable pub tapes_told : List ℕ → Job → Bool
 tapes_told text job =
     let words = tape_length job.n in
-    let rest = after words text in
+    let rest = rest_after words text in
     listed job.n
     && is_some (read_to words text)
     && is_some (read_to words rest)
-    && job_told (after words rest) job (numbers_from words text) (numbers_from words rest)
+    && job_told (rest_after words rest) job (numbers_from words text) (numbers_from words rest)
 
 -- n, pair and tape number, the shares x1 y1 x2 y2, in that order
 abbrev pub job_of : List ℕ → Job
@@ -83,7 +83,7 @@ job_in text = job_of (numbers_from 7 text)
 
 -- a text of width w has those seven numbers, both tapes, both messages of each round, both answer shares
 unfoldable pub agreed : ℕ → List ℕ → Bool
-agreed w text = is_some (read_to 7 text) && eqb (job_in text).n w && tapes_told (after 7 text) (job_in text)
+agreed w text = is_some (read_to 7 text) && eqb (job_in text).n w && tapes_told (rest_after 7 text) (job_in text)
 
 -- the tape number that a text names
 abbrev pub tape_number : List ℕ → ℕ

@@ -26,9 +26,9 @@ unfoldable pub read_to : ℕ → List ℕ → Option (List ℕ)
 read_to zero text = Some text
 read_to (suc count) text = option_and_then (λ x. read_to count x.1) (next_at text)
 
--- the same, where there are so many
-abbrev pub after : ℕ → List ℕ → List ℕ
-after count text = unwrap_or (read_to count text) []
+-- the same as a text, of no account where there are fewer numbers
+abbrev pub rest_after : ℕ → List ℕ → List ℕ
+rest_after count text = unwrap_or (read_to count text) []
 
 -- the text after these words, if they are the next numbers
 unfoldable pub spelled : List ℕ → List ℕ → Option (List ℕ)

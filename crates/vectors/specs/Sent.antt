@@ -8,7 +8,7 @@ use Rattle.exchange.specs.Memory.{blank_work}
 use Rattle.vectors.specs.declared.job.Job.{Job}
 use Rattle.vectors.specs.declared.spelling.Spelling.{Spelling}
 use Rattle.vectors.specs.declared.spelling.Spelling.TheVariants.{AsSent, Respelled}
-use Rattle.vectors.specs.Numbers.{numbers_from, after}
+use Rattle.vectors.specs.Numbers.{numbers_from, rest_after}
 use Rattle.vectors.specs.Job.{messages_to, box1_of, box2_of, job_in, agreed, tape_number}
 
 -- whether a zero comes to the other box as p
@@ -28,11 +28,11 @@ job_sent job t1 t2 = messages_to (box1_of job t1) (box2_of job t2) (works blank_
 unfoldable pub tapes_sent : List ℕ → Job → List ℕ
 tapes_sent text job =
     let words = tape_length job.n in
-    job_sent job (numbers_from words text) (numbers_from words (after words text))
+    job_sent job (numbers_from words text) (numbers_from words (rest_after words text))
 
 -- all that is sent in the job of a text
 unfoldable pub sent : List ℕ → List ℕ
-sent text = tapes_sent (after 7 text) (job_in text)
+sent text = tapes_sent (rest_after 7 text) (job_in text)
 
 -- there is a text of width w and that tape number that agrees, and so many zeros were respelled: of what both boxes send in all rounds of its job
 pub record Agreeing (w : ℕ) (spelling : Spelling) (number zeros : ℕ) : Type 0 where
