@@ -76,23 +76,6 @@ pub fn start(
     compared(state, after, answers::of_start(answer), tally == marks)
 }
 
-// The same on a box's plain tape.
-pub fn plain_start(
-    state: State,
-    number: u32,
-    x: u32,
-    y: u32,
-    side: u32,
-    tape: u32,
-    work: &[u32],
-    tally: [u8; 16],
-) -> Tried
-    ensures { Answered result state tally (start_rule state number x y (box_tape side tape) work.now tally) }
-{
-    let lent = crate::tapes::plain(side, tape);
-    start(state, number, x, y, &lent, work, tally)
-}
-
 // `out` is lent full of filler.
 pub fn speak(
     state: State,
@@ -110,22 +93,6 @@ pub fn speak(
     compared(state, after, answers::of_speak(answer), untouched(&*out))
 }
 
-pub fn plain_speak(
-    state: State,
-    number: u32,
-    round: u32,
-    side: u32,
-    tape: u32,
-    work: &[u32],
-    out: &mut [u32],
-) -> Tried
-    ensures answered { Answered result state (filler (length out.old)) (speak_rule state number round (box_tape side tape) work.now out.old) }
-    ensures left { out.new ≡ (speak_rule state number round (box_tape side tape) work.now out.old).buffer }
-{
-    let lent = crate::tapes::plain(side, tape);
-    speak(state, number, round, &lent, work, out)
-}
-
 // `work` is lent full of filler.
 pub fn hear(
     state: State,
@@ -141,39 +108,6 @@ pub fn hear(
     let mut after = state;
     let answer = limit_box::hear(&mut after, number, round, tape, &mut *work, incoming);
     compared(state, after, answers::of_hear(answer), untouched(&*work))
-}
-
-pub fn plain_hear(
-    state: State,
-    number: u32,
-    round: u32,
-    side: u32,
-    tape: u32,
-    work: &mut [u32],
-    incoming: &[u32],
-) -> Tried
-    ensures answered { Answered result state (filler (length work.old)) (hear_rule state number round (box_tape side tape) work.old incoming.now) }
-    ensures left { work.new ≡ (hear_rule state number round (box_tape side tape) work.old incoming.now).buffer }
-{
-    let lent = crate::tapes::plain(side, tape);
-    hear(state, number, round, &lent, work, incoming)
-}
-
-// A hear of as many words as the round has, from the front of these.
-pub fn round_hear(
-    state: State,
-    number: u32,
-    round: u32,
-    tape: &[u32],
-    work: &mut [u32],
-    incoming: [u32; 33],
-) -> Tried
-    ensures answered { Answered result state (filler (length work.old))
-        (hear_rule state number round tape.now work.old (take (round_words 3 round) incoming)) }
-    ensures left { work.new ≡ (hear_rule state number round tape.now work.old (take (round_words 3 round) incoming)).buffer }
-{
-    let count = crate::five::words(round);
-    hear(state, number, round, tape, work, &incoming[..count])
 }
 
 pub fn drop(state: State) -> Tried

@@ -1,104 +1,117 @@
 // Cuts and drops of box 1 at every point of a job.
-ghost use Rattle.std.specs.Prelude.{◌<◌};
+ghost use Rattle.std.specs.Prelude.{◌≡◌, ◌<◌};
 
+use crate::calls;
+use crate::calls::Tried;
+use crate::five::Box1;
 use crate::job_steps::{LAST, Step};
+use crate::progress::box1_after;
 use crate::say::{bytes, short};
 use crate::tallies::with_mark;
-use crate::{five, progress, states};
-use rules::state::State;
 use std::io;
 
-// Awake again: a start on tape 0, and one on tape 1.
-fn both_tapes(rt: &impl Print, state: State, tally: [u8; 16]) -> io::Result<()> {
-    print!(rt; ";")?;
-    short(rt, five::start_on(state, 0, tally))?;
-    short(rt, five::start_on(state, 1, tally))?;
+// What a wake or a drop leaves of the box: its tally is as it was.
+fn after(box1: Box1, tried: Tried) -> Box1
+    ensures { (result.state ≡ tried.state) × (result.tally ≡ box1.tally) }
+{
+    Box1 {
+        state: tried.state,
+        ..box1
+    }
+}
+
+// A start on each of so many tapes.
+fn starts(rt: &impl Print, box1: Box1, tapes: u32) -> io::Result<()> {
+    for number in 0..tapes {
+        short(rt, box1.start_on(number))?;
+    }
     println!(rt)
 }
 
-// The box asleep with that tally: the five calls, then it wakes.
-fn asleep(rt: &impl Print, state: State, round: u32, tally: [u8; 16]) -> io::Result<()> {
+// The box asleep: the five calls, then it wakes.
+fn asleep(rt: &impl Print, box1: Box1, round: u32) -> io::Result<()> {
     print!(rt; ":")?;
-    five::all(rt, state, round, tally)?;
-    let woken = crate::calls::wake(state, 3, 1, &tally);
-    both_tapes(rt, woken.state, tally)
+    box1.all(rt, round)?;
+    let woken = calls::wake(box1.state, 3, 1, &box1.tally);
+    print!(rt; ";")?;
+    starts(rt, after(box1, woken), 2)
 }
 
 fn cut(rt: &impl Print, number: u32) -> io::Result<()> {
-    let before = progress::box1_after(number);
     let step = Step::at(number);
     print!(rt; "cut after {step}")?;
-    asleep(rt, states::cut(before.state), step.round(), before.tally)
+    asleep(rt, box1_after(number).cut(), step.round())
+}
+
+// Box 1 awake, but for what a cut in a start's write left of that tape's mark.
+fn with_left(number: usize, mark: [u8; 4]) -> Box1
+    requires { number < 4 }
+{
+    let before = box1_after(0);
+    Box1 {
+        tally: with_mark(before.tally, number, mark),
+        ..before
+    }
 }
 
 // The start's write leaves those values in its four bytes, and the start answers nothing.
 fn cut_in_write(rt: &impl Print, mark: [u8; 4]) -> io::Result<()> {
-    let before = progress::box1_after(0);
-    let tally = with_mark(before.tally, 0, mark);
     print!(rt; "cut in the start's write, bytes")?;
     bytes(rt, &mark)?;
-    asleep(rt, states::cut(before.state), 1, tally)
+    asleep(rt, with_left(0, mark).cut(), 1)
 }
 
-// A byte that is not yet written, or 00 where the kind has a bit.
-fn byte_of(kind: u32, place: u32) -> u8
+// The byte at that place: 00 where the number has a bit, and FF, not yet written, where it has none. A number, since counting goes through all mixtures.
+fn byte_of(bits: u32, place: u32) -> u8
     requires { place < 4 }
 {
-    if (kind >> place) & 1 == 1 { 0 } else { 255 }
+    if (bits >> place) & 1 == 1 { 0 } else { 255 }
 }
 
 // Every kind of group: each byte is FF or 00.
 fn kinds(rt: &impl Print) -> io::Result<()> {
-    for kind in 0..16 {
+    for bits in 0..16 {
         cut_in_write(
             rt,
             [
-                byte_of(kind, 0),
-                byte_of(kind, 1),
-                byte_of(kind, 2),
-                byte_of(kind, 3),
+                byte_of(bits, 0),
+                byte_of(bits, 1),
+                byte_of(bits, 2),
+                byte_of(bits, 3),
             ],
         )?;
     }
     Ok(())
 }
 
-// A start on each tape.
-fn each_tape(rt: &impl Print, state: State, tally: [u8; 16]) -> io::Result<()> {
-    short(rt, five::start_on(state, 0, tally))?;
-    short(rt, five::start_on(state, 1, tally))?;
-    short(rt, five::start_on(state, 2, tally))?;
-    short(rt, five::start_on(state, 3, tally))?;
-    println!(rt)
-}
-
 // In a start on tape 2: the tapes below it are late, unless FF was left.
 fn cut_above(rt: &impl Print, mark: [u8; 4]) -> io::Result<()> {
-    let before = progress::box1_after(0);
-    let tally = with_mark(before.tally, 2, mark);
+    let box1 = with_left(2, mark).cut();
     print!(rt; "cut in the write of a start on tape 2, bytes")?;
     bytes(rt, &mark)?;
     print!(rt; ": wake")?;
-    let woken = crate::calls::wake(states::cut(before.state), 3, 1, &tally);
+    let woken = calls::wake(box1.state, 3, 1, &box1.tally);
     short(rt, woken)?;
     print!(rt; ", a start on each tape")?;
-    each_tape(rt, woken.state, tally)
+    starts(rt, after(box1, woken), 4)
 }
 
 fn drop(rt: &impl Print, number: u32) -> io::Result<()> {
-    let before = progress::box1_after(number);
+    let before = box1_after(number);
     let step = Step::at(number);
     print!(rt; "drop after {step}:")?;
-    let dropped = crate::calls::drop(before.state);
+    let dropped = calls::drop(before.state);
     short(rt, dropped)?;
     print!(rt; ";")?;
-    five::all(rt, dropped.state, step.round(), before.tally)?;
-    both_tapes(rt, dropped.state, before.tally)
+    let left = after(before, dropped);
+    left.all(rt, step.round())?;
+    print!(rt; ";")?;
+    starts(rt, left, 2)
 }
 
 // Both at every point of a job.
 fn points(rt: &impl Print) -> io::Result<()> {
-    for number in 0..LAST + 1 {
+    for number in 0..=LAST {
         cut(rt, number)?;
         drop(rt, number)?;
     }

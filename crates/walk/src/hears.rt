@@ -1,11 +1,13 @@
 // Hear's grounds: 1, 6, 11, 10, 12, 13.
+#![tactic(auto, unfolding(rules::specs::Calls::hear_rule, rules::specs::Grounds::hear_ground))]
+
 ghost use Rattle.std.specs.Prelude.{◌≡◌, ◌<◌, length, set};
 ghost use Rattle.lists.specs.Tabulate.{tabulate};
 ghost use Rattle.rules.specs.Calls.{hear_rule};
 ghost use Rattle.rules.specs.declared.state.Turn.TheVariants.{Hear};
 ghost use Rattle.walk.specs.Walk.{box_tape, job_state, filler, Answered};
 
-use crate::calls::{FILLER, Tried, hear, plain_hear};
+use crate::calls::{FILLER, Tried, hear};
 use crate::five::hear_on;
 use crate::say::line;
 use crate::{states, tapes};
@@ -25,15 +27,13 @@ fn on_tape(tape: &[u32]) -> Tried
     ensures { Answered result (job_state 16 (Hear 1)) (filler 100) (hear_rule (job_state 16 (Hear 1)) 0 1 tape.now (filler 100) (tabulate 33 (λ k. 0))) }
 {
     let mut work = [FILLER; 100];
-    let incoming = [0u32; 33];
-    hear(states::spoken(), 0, 1, tape, &mut work, &incoming)
+    hear(states::spoken(), 0, 1, tape, &mut work, &[0; 33])
 }
 
 fn tapes_lent(rt: &impl Print) -> io::Result<()> {
-    let short = tapes::short();
     let other = tapes::plain(2, 0);
     let high = tapes::changed(141, 7);
-    line(rt, "hear, tape of 148 words: ", on_tape(&short))?;
+    line(rt, "hear, tape of 148 words: ", on_tape(&tapes::short()))?;
     line(rt, "hear, the other box's tape: ", on_tape(&other))?;
     line(rt, "hear, last body word 7: ", on_tape(&high))
 }
@@ -43,21 +43,20 @@ pub fn of_words(incoming: &[u32]) -> Tried
     ensures { Answered result (job_state 16 (Hear 1)) (filler 100) (hear_rule (job_state 16 (Hear 1)) 0 1 (box_tape 1 0) (filler 100) incoming.now) }
 {
     let mut work = [FILLER; 100];
-    plain_hear(states::spoken(), 0, 1, 1, 0, &mut work, incoming)
+    let tape = tapes::plain(1, 0);
+    hear(states::spoken(), 0, 1, &tape, &mut work, incoming)
 }
 
 fn rooms(rt: &impl Print) -> io::Result<()> {
+    let tape = tapes::plain(1, 0);
     let mut work = [FILLER; 99];
-    let incoming = [0u32; 33];
-    let short = [0u32; 32];
-    let long = [0u32; 34];
     line(
         rt,
         "hear, work of 99 words: ",
-        plain_hear(states::spoken(), 0, 1, 1, 0, &mut work, &incoming),
+        hear(states::spoken(), 0, 1, &tape, &mut work, &[0; 33]),
     )?;
-    line(rt, "hear, 32 words: ", of_words(&short))?;
-    line(rt, "hear, 34 words: ", of_words(&long))
+    line(rt, "hear, 32 words: ", of_words(&[0; 32]))?;
+    line(rt, "hear, 34 words: ", of_words(&[0; 34]))
 }
 
 // Zeros with another word in one place.
@@ -75,8 +74,7 @@ pub fn of_changed(place: usize, word: u32) -> Tried
     requires { place < 33 }
     ensures { Answered result (job_state 16 (Hear 1)) (filler 100) (hear_rule (job_state 16 (Hear 1)) 0 1 (box_tape 1 0) (filler 100) (set (tabulate 33 (λ k. 0)) place word)) }
 {
-    let incoming = changed(place, word);
-    of_words(&incoming)
+    of_words(&changed(place, word))
 }
 
 pub fn lines(rt: &impl Print) -> io::Result<()> {

@@ -2,8 +2,7 @@
 ghost use Rattle.std.specs.Prelude.{◌≡◌, ◌+◌, ◌%◌, ◌≤◌};
 ghost use Rattle.protocol.specs.Rounds.{last_round};
 ghost use Rattle.rules.specs.Answers.{reply_of};
-ghost use Rattle.exchange.specs.Opening.{share_of};
-ghost use Rattle.walk.specs.Said.{as_reply};
+ghost use Rattle.walk.specs.Said.{as_reply, share_in};
 
 use crate::answers::{Answer, Said};
 use crate::progress::Pair;
@@ -24,7 +23,7 @@ fn answer_of(pair: Pair, side: u32) -> Answer
 // What a box answers at each step.
 fn answers(rt: &impl Print, side: u32) -> io::Result<()> {
     print!(rt; "box {side}:")?;
-    for step in 0..job_steps::LAST + 1 {
+    for step in 0..=job_steps::LAST {
         print!(rt; " ")?;
         crate::say::answer(rt, answer_of(progress::reached(step), side))?;
     }
@@ -51,13 +50,13 @@ fn openings(rt: &impl Print, round: u32) -> io::Result<()>
     println!(rt)
 }
 
-// The answer share, and 0 for any other answer.
-fn share_of(answer: Answer) -> u32
-    ensures { result ≡ share_of (reply_of as_reply answer) }
+// The answer share, if one was answered.
+fn share_in(answer: Answer) -> Option<u32>
+    ensures { result ≡ share_in (reply_of as_reply answer) }
 {
     match answer {
-        Ok(Said::Share(share)) => share,
-        _ => 0,
+        Ok(Said::Share(share)) => Some(share),
+        _ => None,
     }
 }
 
@@ -68,7 +67,8 @@ pub fn lines(rt: &impl Print) -> io::Result<()> {
     openings(rt, 4)?;
     openings(rt, 5)?;
     let last = progress::reached(job_steps::LAST);
-    let share1 = share_of(last.box1.answer);
-    let share2 = share_of(last.box2.answer);
-    println!(rt; "less {}", opened(share1, share2))
+    match (share_in(last.box1.answer), share_in(last.box2.answer)) {
+        (Some(share1), Some(share2)) => println!(rt; "less {}", opened(share1, share2)),
+        _ => println!(rt; "NO answer share"),
+    }
 }

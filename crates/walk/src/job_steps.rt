@@ -20,16 +20,12 @@ impl Step {
     pub fn at(number: u32) -> Step
         ensures { result ≡ step_at number }
     {
-        if number == 0 {
-            return Step::Wake;
+        match number {
+            0 => Step::Wake,
+            1 => Step::Start,
+            _ if number % 2 == 0 => Step::Speak(number / 2),
+            _ => Step::Hear(number / 2),
         }
-        if number == 1 {
-            return Step::Start;
-        }
-        if number % 2 == 0 {
-            return Step::Speak(number / 2);
-        }
-        Step::Hear(number / 2)
     }
 
     // Its round, or the first that follows it.

@@ -4,57 +4,42 @@ ghost use Rattle.rules.specs.Calls.{start_rule, speak_rule, hear_rule};
 ghost use Rattle.walk.specs.Walk.{box_tape, filler, spent_tally, Answered};
 
 use crate::calls::{FILLER, Tried};
+use crate::hears::of_words;
 use crate::say::short;
+use crate::tallies::{FRESH, spent};
+use crate::tapes::plain;
 use crate::{calls, states};
 use rules::state::{FIRST, State};
 use std::io;
 
 fn wakes(rt: &impl Print) -> io::Result<()> {
-    let tally = [255u8; 16];
     print!(rt; "wake, first of several:")?;
-    short(rt, calls::wake(states::idle(), 4, 3, &tally[..0]))?;
-    short(rt, calls::wake(FIRST, 4, 3, &tally[..0]))?;
-    short(rt, calls::wake(FIRST, 3, 3, &tally[..0]))?;
-    short(rt, calls::wake(FIRST, 3, 1, &tally[..0]))?;
-    short(rt, calls::wake(FIRST, 3, 1, &tally))?;
+    short(rt, calls::wake(states::idle(), 4, 3, &[]))?;
+    short(rt, calls::wake(FIRST, 4, 3, &[]))?;
+    short(rt, calls::wake(FIRST, 3, 3, &[]))?;
+    short(rt, calls::wake(FIRST, 3, 1, &[]))?;
+    short(rt, calls::wake(FIRST, 3, 1, &FRESH))?;
     println!(rt)
 }
 
 // A start with shares, tape and work that are refused, where tapes 0 and 2 are spent: 0 and 1 are late.
+#[tactic(auto, unfolding(rules::specs::Calls::start_rule, rules::specs::Grounds::start_ground))]
 fn wrong_start(state: State, number: u32) -> Tried
     ensures { Answered result state spent_tally (start_rule state number 7 7 (box_tape 2 0) (tabulate 99 (λ k. 0)) spent_tally) }
 {
-    let work = [0u32; 99];
-    calls::plain_start(state, number, 7, 7, 2, 0, &work, crate::tallies::spent())
+    let tape = plain(2, 0);
+    calls::start(state, number, 7, 7, &tape, &[0; 99], spent())
 }
 
-// The same, where all are fresh.
-fn wrong_tapes(rt: &impl Print) -> io::Result<()> {
-    let less = [0u32; 99];
-    let fresh = [255u8; 16];
-    short(
-        rt,
-        calls::plain_start(states::idle(), 0, 7, 7, 2, 0, &less, fresh),
-    )?;
-    short(
-        rt,
-        calls::plain_start(states::idle(), 0, 5, 1, 2, 0, &less, fresh),
-    )
-}
-
-// What a start asks of a tape in order.
-fn right_tapes(rt: &impl Print) -> io::Result<()> {
-    let less = [0u32; 99];
-    let work = [0u32; 100];
-    let fresh = [255u8; 16];
-    short(
-        rt,
-        calls::plain_start(states::idle(), 0, 5, 1, 1, 0, &less, fresh),
-    )?;
-    short(
-        rt,
-        calls::plain_start(states::idle(), 0, 5, 1, 1, 0, &work, fresh),
-    )
+// On a fresh tape: without the wrong shares, then without the other box's tape, then with all of the work.
+fn fresh_starts(rt: &impl Print) -> io::Result<()> {
+    let idle = states::idle();
+    let other = plain(2, 0);
+    let own = plain(1, 0);
+    short(rt, calls::start(idle, 0, 7, 7, &other, &[0; 99], FRESH))?;
+    short(rt, calls::start(idle, 0, 5, 1, &other, &[0; 99], FRESH))?;
+    short(rt, calls::start(idle, 0, 5, 1, &own, &[0; 99], FRESH))?;
+    short(rt, calls::start(idle, 0, 5, 1, &own, &[0; 100], FRESH))
 }
 
 fn starts(rt: &impl Print) -> io::Result<()> {
@@ -65,8 +50,7 @@ fn starts(rt: &impl Print) -> io::Result<()> {
     short(rt, wrong_start(states::idle(), 4))?;
     short(rt, wrong_start(states::idle(), 0))?;
     short(rt, wrong_start(states::idle(), 1))?;
-    wrong_tapes(rt)?;
-    right_tapes(rt)?;
+    fresh_starts(rt)?;
     println!(rt)
 }
 
@@ -74,24 +58,17 @@ fn starts(rt: &impl Print) -> io::Result<()> {
 fn wrong_speak(state: State, number: u32) -> Tried
     ensures { Answered result state (filler 32) (speak_rule state number 1 (box_tape 2 0) (tabulate 99 (λ k. 0)) (filler 32)) }
 {
-    let work = [0u32; 99];
     let mut out = [FILLER; 32];
-    calls::plain_speak(state, number, 1, 2, 0, &work, &mut out)
+    calls::speak(state, number, 1, &plain(2, 0), &[0; 99], &mut out)
 }
 
 // What a speak asks of a tape in order.
 fn due_speaks(rt: &impl Print) -> io::Result<()> {
-    let less = [0u32; 99];
-    let work = [0u32; 100];
+    let opened = states::opened();
+    let tape = plain(1, 0);
     let mut out = [FILLER; 33];
-    short(
-        rt,
-        calls::plain_speak(states::opened(), 0, 1, 1, 0, &less, &mut out),
-    )?;
-    short(
-        rt,
-        calls::plain_speak(states::opened(), 0, 1, 1, 0, &work, &mut out),
-    )
+    short(rt, calls::speak(opened, 0, 1, &tape, &[0; 99], &mut out))?;
+    short(rt, calls::speak(opened, 0, 1, &tape, &[0; 100], &mut out))
 }
 
 fn speaks(rt: &impl Print) -> io::Result<()> {
@@ -109,26 +86,17 @@ fn wrong_hear(state: State, number: u32) -> Tried
     ensures { Answered result state (filler 99) (hear_rule state number 1 (box_tape 2 0) (filler 99) (tabulate 32 (λ k. 8))) }
 {
     let mut work = [FILLER; 99];
-    let incoming = [8u32; 32];
-    calls::plain_hear(state, number, 1, 2, 0, &mut work, &incoming)
+    calls::hear(state, number, 1, &plain(2, 0), &mut work, &[8; 32])
 }
 
-// The tape is in order; work and the words are too few.
-fn short_hears(rt: &impl Print) -> io::Result<()> {
+// On a tape in order: work and the words are too few, then the words are above p, then zeros.
+fn due_hears(rt: &impl Print) -> io::Result<()> {
+    let spoken = states::spoken();
+    let tape = plain(1, 0);
     let mut less = [FILLER; 99];
-    let few = [8u32; 32];
-    short(
-        rt,
-        calls::plain_hear(states::spoken(), 0, 1, 1, 0, &mut less, &few),
-    )
-}
-
-// With words above p, and with zeros.
-fn whole_hears(rt: &impl Print) -> io::Result<()> {
-    let high = [8u32; 33];
-    let incoming = [0u32; 33];
-    short(rt, crate::hears::of_words(&high))?;
-    short(rt, crate::hears::of_words(&incoming))
+    short(rt, calls::hear(spoken, 0, 1, &tape, &mut less, &[8; 32]))?;
+    short(rt, of_words(&[8; 33]))?;
+    short(rt, of_words(&[0; 33]))
 }
 
 fn hears(rt: &impl Print) -> io::Result<()> {
@@ -137,8 +105,7 @@ fn hears(rt: &impl Print) -> io::Result<()> {
     short(rt, wrong_hear(states::idle(), 1))?;
     short(rt, wrong_hear(states::spoken(), 1))?;
     short(rt, wrong_hear(states::spoken(), 0))?;
-    short_hears(rt)?;
-    whole_hears(rt)?;
+    due_hears(rt)?;
     println!(rt)
 }
 

@@ -9,8 +9,9 @@ ghost use Rattle.walk.specs.Walk.{fresh_tally, box_tape, tally_after, After};
 ghost use Rattle.walk.specs.declared.job_steps.Step.TheVariants.{Start};
 
 use crate::answers::Answer;
+use crate::five::Box1;
 use crate::job_steps::Step;
-use crate::{answers, tapes};
+use crate::{answers, tallies, tapes};
 use rules::state;
 use rules::state::State;
 
@@ -29,7 +30,7 @@ impl BoxMemory {
     pub fn woken(side: u32) -> BoxMemory
         ensures { After result result.tally (wake_rule first_state 3 side 5 fresh_tally) × (result.work ≡ tabulate 100 (λ k. 6)) × (result.out ≡ tabulate 33 (λ k. 6)) }
     {
-        let tally = [255u8; 16];
+        let tally = tallies::FRESH;
         let mut state = state::FIRST;
         let answer = limit_box::wake(&mut state, 3, side, tapes::PAIR, &tally);
         BoxMemory {
@@ -141,9 +142,10 @@ pub fn reached(steps: u32) -> Pair
     pair
 }
 
-// Box 1 after so many steps.
-pub fn box1_after(steps: u32) -> BoxMemory
+// What is left of box 1 after so many steps.
+pub fn box1_after(steps: u32) -> Box1
     ensures { result.tally ≡ tally_after steps }
 {
-    reached(steps).box1
+    let BoxMemory { state, tally, .. } = reached(steps).box1;
+    Box1 { state, tally }
 }

@@ -1,10 +1,12 @@
 // Speak's grounds: 1, 6, 11, 10, 12.
+#![tactic(auto, unfolding(rules::specs::Calls::speak_rule, rules::specs::Grounds::speak_ground))]
+
 ghost use Rattle.lists.specs.Tabulate.{tabulate};
 ghost use Rattle.rules.specs.Calls.{speak_rule};
 ghost use Rattle.rules.specs.declared.state.Turn.TheVariants.{Speak};
 ghost use Rattle.walk.specs.Walk.{job_state, filler, Answered};
 
-use crate::calls::{FILLER, Tried, plain_speak, speak};
+use crate::calls::{FILLER, Tried, speak};
 use crate::five::speak_on;
 use crate::say::line;
 use crate::{states, tapes};
@@ -24,34 +26,31 @@ fn turns(rt: &impl Print) -> io::Result<()> {
 fn on_tape(tape: &[u32]) -> Tried
     ensures { Answered result (job_state 16 (Speak 1)) (filler 33) (speak_rule (job_state 16 (Speak 1)) 0 1 tape.now (tabulate 100 (λ k. 0)) (filler 33)) }
 {
-    let work = [0u32; 100];
     let mut out = [FILLER; 33];
-    speak(states::opened(), 0, 1, tape, &work, &mut out)
+    speak(states::opened(), 0, 1, tape, &[0; 100], &mut out)
 }
 
 fn tapes_lent(rt: &impl Print) -> io::Result<()> {
-    let short = tapes::short();
     let other = tapes::plain(2, 0);
     let high = tapes::changed(141, 7);
-    line(rt, "speak, tape of 148 words: ", on_tape(&short))?;
+    line(rt, "speak, tape of 148 words: ", on_tape(&tapes::short()))?;
     line(rt, "speak, the other box's tape: ", on_tape(&other))?;
     line(rt, "speak, last body word 7: ", on_tape(&high))
 }
 
 fn rooms(rt: &impl Print) -> io::Result<()> {
-    let work = [0u32; 100];
-    let less = [0u32; 99];
+    let tape = tapes::plain(1, 0);
     let mut out = [FILLER; 33];
     let mut short = [FILLER; 32];
     line(
         rt,
         "speak, work of 99 words: ",
-        plain_speak(states::opened(), 0, 1, 1, 0, &less, &mut out),
+        speak(states::opened(), 0, 1, &tape, &[0; 99], &mut out),
     )?;
     line(
         rt,
         "speak, out of 32 words: ",
-        plain_speak(states::opened(), 0, 1, 1, 0, &work, &mut short),
+        speak(states::opened(), 0, 1, &tape, &[0; 100], &mut short),
     )
 }
 

@@ -1,12 +1,15 @@
 // Start's grounds: 1, 5, 4, 7, 8, 15, 9, 10, 12.
+#![tactic(auto, unfolding(rules::specs::Calls::start_rule, rules::specs::Grounds::start_ground))]
+
 ghost use Rattle.std.specs.Prelude.{◌≡◌, ◌<◌, set};
 ghost use Rattle.lists.specs.Tabulate.{tabulate};
 ghost use Rattle.rules.specs.Calls.{start_rule};
 ghost use Rattle.walk.specs.Walk.{idle_state, box_tape, fresh_tally, Answered};
 
-use crate::calls::{Tried, plain_start, start};
-use crate::five::start_on;
+use crate::calls::{Tried, start};
+use crate::five::Box1;
 use crate::say::{bytes, line};
+use crate::tallies::FRESH;
 use crate::{states, tallies, tapes};
 use rules::state::{FIRST, State};
 use std::io;
@@ -15,7 +18,11 @@ use std::io;
 fn on_number(state: State, number: u32) -> Tried
     ensures { Answered result state fresh_tally (start_rule state number 5 1 (box_tape 1 number) (tabulate 100 (λ k. 0)) fresh_tally) }
 {
-    start_on(state, number, [255u8; 16])
+    let box1 = Box1 {
+        state,
+        tally: FRESH,
+    };
+    box1.start_on(number)
 }
 
 fn states_and_numbers(rt: &impl Print) -> io::Result<()> {
@@ -38,7 +45,11 @@ fn states_and_numbers(rt: &impl Print) -> io::Result<()> {
 pub fn on_marks(tally: [u8; 16]) -> Tried
     ensures { Answered result (idle_state 16) tally (start_rule (idle_state 16) 0 5 1 (box_tape 1 0) (tabulate 100 (λ k. 0)) tally) }
 {
-    start_on(states::idle(), 0, tally)
+    let box1 = Box1 {
+        state: states::idle(),
+        tally,
+    };
+    box1.start_on(0)
 }
 
 // One byte is enough to spend a tape, first or last of its mark.
@@ -48,31 +59,24 @@ fn spent_marks(rt: &impl Print) -> io::Result<()> {
         rt,
         "start, byte 3 FE: ",
         on_marks(tallies::one_byte(3, 254)),
-    )?;
-    line(
-        rt,
-        "start, tapes 0 and 2 spent, number 0: ",
-        on_marks(tallies::spent()),
     )
 }
 
-// Around the highest spent number, and far below it. Of the four only number 1 is fresh and late.
+// Around the highest spent number. Of the four only number 1 is fresh and late.
 fn around_spent(rt: &impl Print) -> io::Result<()> {
-    line(
-        rt,
-        "start, tapes 0 and 2 spent, number 1: ",
-        start_on(states::idle(), 1, tallies::spent()),
-    )?;
-    line(
-        rt,
-        "start, tapes 0 and 2 spent, number 2: ",
-        start_on(states::idle(), 2, tallies::spent()),
-    )?;
-    line(
-        rt,
-        "start, tapes 0 and 2 spent, number 3: ",
-        start_on(states::idle(), 3, tallies::spent()),
-    )?;
+    let box1 = Box1 {
+        state: states::idle(),
+        tally: tallies::spent(),
+    };
+    for number in 0..4 {
+        print!(rt; "start, tapes 0 and 2 spent, number {number}")?;
+        line(rt, ": ", box1.start_on(number))?;
+    }
+    Ok(())
+}
+
+// Far below it.
+fn below_spent(rt: &impl Print) -> io::Result<()> {
     line(
         rt,
         "start, byte 15 00, number 0: ",
@@ -84,30 +88,26 @@ fn around_spent(rt: &impl Print) -> io::Result<()> {
 fn on_shares(x: u32, y: u32, work: &[u32]) -> Tried
     ensures { Answered result (idle_state 16) fresh_tally (start_rule (idle_state 16) 0 x y (box_tape 1 0) work.now fresh_tally) }
 {
-    plain_start(states::idle(), 0, x, y, 1, 0, work, [255u8; 16])
+    let tape = tapes::plain(1, 0);
+    start(states::idle(), 0, x, y, &tape, work, FRESH)
 }
 
 fn shares_and_room(rt: &impl Print) -> io::Result<()> {
-    let work = [0u32; 100];
-    let short = [0u32; 99];
-    line(rt, "start, x 7: ", on_shares(7, 1, &work))?;
-    line(rt, "start, y 7: ", on_shares(5, 7, &work))?;
-    line(rt, "start, work of 99 words: ", on_shares(5, 1, &short))
+    line(rt, "start, x 7: ", on_shares(7, 1, &[0; 100]))?;
+    line(rt, "start, y 7: ", on_shares(5, 7, &[0; 100]))?;
+    line(rt, "start, work of 99 words: ", on_shares(5, 1, &[0; 99]))
 }
 
 // A start on number 0 that is lent this tape.
 fn on_tape(tape: &[u32]) -> Tried
     ensures { Answered result (idle_state 16) fresh_tally (start_rule (idle_state 16) 0 5 1 tape.now (tabulate 100 (λ k. 0)) fresh_tally) }
 {
-    let work = [0u32; 100];
-    start(states::idle(), 0, 5, 1, tape, &work, [255u8; 16])
+    start(states::idle(), 0, 5, 1, tape, &[0; 100], FRESH)
 }
 
 fn tape_lengths(rt: &impl Print) -> io::Result<()> {
-    let short = tapes::short();
-    let long = tapes::long();
-    line(rt, "start, tape of 148 words: ", on_tape(&short))?;
-    line(rt, "start, tape of 150 words: ", on_tape(&long))
+    line(rt, "start, tape of 148 words: ", on_tape(&tapes::short()))?;
+    line(rt, "start, tape of 150 words: ", on_tape(&tapes::long()))
 }
 
 // Another word in one place of the tape.
@@ -115,8 +115,7 @@ pub fn on_changed(place: usize, word: u32) -> Tried
     requires { place < 149 }
     ensures { Answered result (idle_state 16) fresh_tally (start_rule (idle_state 16) 0 5 1 (set (box_tape 1 0) place word) (tabulate 100 (λ k. 0)) fresh_tally) }
 {
-    let tape = tapes::changed(place, word);
-    on_tape(&tape)
+    on_tape(&tapes::changed(place, word))
 }
 
 // Distances that did not grow with the last group; then whose tape it is.
@@ -146,18 +145,17 @@ fn trailers(rt: &impl Print) -> io::Result<()> {
 fn tally_after(number: u32, tally: [u8; 16]) -> [u8; 16]
     ensures { result ≡ (start_rule (idle_state 16) number 5 1 (box_tape 1 number) (tabulate 100 (λ k. 0)) tally).buffer }
 {
-    let tape = tapes::plain(1, number);
-    let work = [0u32; 100];
     let mut state = states::idle();
     let mut after = tally;
-    let _ = limit_box::start(&mut state, number, 5, 1, &tape, &work, &mut after);
+    let tape = tapes::plain(1, number);
+    let _ = limit_box::start(&mut state, number, 5, 1, &tape, &[0; 100], &mut after);
     after
 }
 
 // A start that is taken marks its tape's four bytes, and no other: its neighbours below are spent and half written, the one above is fresh.
 fn mark(rt: &impl Print) -> io::Result<()> {
-    let half = tallies::with_mark([255; 16], 1, [255, 255, 255, 0]);
-    let before = tallies::with_mark(half, 0, [0, 0, 0, 0]);
+    let half = tallies::with_mark(FRESH, 1, [255, 255, 255, 0]);
+    let before = tallies::with_mark(half, 0, [0; 4]);
     print!(rt; "start on tape 2, the tally before it:")?;
     bytes(rt, &before)?;
     let after = tally_after(2, before);
@@ -170,6 +168,7 @@ pub fn lines(rt: &impl Print) -> io::Result<()> {
     states_and_numbers(rt)?;
     spent_marks(rt)?;
     around_spent(rt)?;
+    below_spent(rt)?;
     shares_and_room(rt)?;
     tape_lengths(rt)?;
     trailers(rt)?;

@@ -3,12 +3,15 @@ ghost use Rattle.std.specs.Prelude.{◌≡◌, ◌<◌, set};
 ghost use Rattle.tally.specs.Tally.{mark_of, cut_marked};
 ghost use Rattle.walk.specs.Walk.{fresh_tally, spent_tally};
 
+// All four are fresh.
+pub const FRESH: [u8; 16] = [255; 16];
+
 // All bytes are FF but for one.
 pub fn one_byte(place: usize, byte: u8) -> [u8; 16]
     requires { place < 16 }
     ensures { result ≡ set fresh_tally place byte }
 {
-    let mut tally = [255u8; 16];
+    let mut tally = FRESH;
     tally[place] = byte;
     tally
 }
@@ -20,10 +23,7 @@ pub fn with_mark(tally: [u8; 16], number: usize, mark: [u8; 4]) -> [u8; 16]
 {
     let mut after = tally;
     let at = 4 * number;
-    after[at] = mark[0];
-    after[at + 1] = mark[1];
-    after[at + 2] = mark[2];
-    after[at + 3] = mark[3];
+    after[at..at + 4].copy_from_slice(&mark);
     after
 }
 
@@ -31,5 +31,5 @@ pub fn with_mark(tally: [u8; 16], number: usize, mark: [u8; 4]) -> [u8; 16]
 pub fn spent() -> [u8; 16]
     ensures { result ≡ spent_tally }
 {
-    with_mark(with_mark([255; 16], 0, [0, 0, 0, 0]), 2, [0, 0, 0, 0])
+    with_mark(with_mark(FRESH, 0, [0; 4]), 2, [0; 4])
 }

@@ -1,5 +1,5 @@
 // The plain tapes of width 3, the tapes of threes, and such as are no tapes.
-ghost use Rattle.std.specs.Prelude.{◌≡◌, ◌<◌, length, set, ◌++◌};
+ghost use Rattle.std.specs.Prelude.{◌≡◌, ◌<◌, ◌≤◌, ◌-◌, length, replicate, set, ◌++◌};
 ghost use Rattle.lists.specs.Tabulate.{tabulate};
 ghost use Rattle.tape.specs.Layout.{trailer};
 ghost use Rattle.walk.specs.Walk.{box_tape, threes_tape};
@@ -31,47 +31,35 @@ pub fn changed(place: usize, word: u32) -> [u32; 149]
     tape
 }
 
+// The same word all through, but for the last seven: a trailer of that box's tape 0, which is right.
+#[tactic(auto, unfolding(field::specs::Width::listed))]
+fn of_word<const N: usize>(word: u32, side: u32) -> [u32; N]
+    requires { 7 ≤ N }
+    ensures { result ≡ replicate (N - 7) word ++ trailer 3 5 side 0 }
+{
+    let mut tape = [word; N];
+    let words = &mut tape[..];
+    words[N - tape::TRAILER..].copy_from_slice(&tape::trailer_of(Width { bits: 3 }, PAIR, side, 0));
+    tape
+}
+
 // A box's tape 0 with a body of threes. On the plain tapes, whose masks are 0, box 2 would hold the same whatever it heard.
 pub fn threes(side: u32) -> [u32; 149]
     ensures { (length result ≡ 149) × (result ≡ threes_tape side) }
 {
-    let mut tape = [3u32; 149];
-    tape[142] = 142;
-    tape[143] = 88;
-    tape[144] = 52;
-    tape[145] = PAIR;
-    tape[146] = side;
-    tape[147] = 0;
-    tape[148] = 3;
-    tape
+    of_word(3, side)
 }
 
 // A tape with a word too few before its trailer, which is right.
 pub fn short() -> [u32; 148]
     ensures { (length result ≡ 148) × (result ≡ tabulate 141 (λ k. 0) ++ trailer 3 5 1 0) }
 {
-    let mut tape = [0u32; 148];
-    tape[141] = 142;
-    tape[142] = 88;
-    tape[143] = 52;
-    tape[144] = PAIR;
-    tape[145] = 1;
-    tape[146] = 0;
-    tape[147] = 3;
-    tape
+    of_word(0, 1)
 }
 
 // A tape with a word too many before its trailer, which is right.
 pub fn long() -> [u32; 150]
     ensures { (length result ≡ 150) × (result ≡ tabulate 143 (λ k. 0) ++ trailer 3 5 1 0) }
 {
-    let mut tape = [0u32; 150];
-    tape[143] = 142;
-    tape[144] = 88;
-    tape[145] = 52;
-    tape[146] = PAIR;
-    tape[147] = 1;
-    tape[148] = 0;
-    tape[149] = 3;
-    tape
+    of_word(0, 1)
 }

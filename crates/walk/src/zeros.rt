@@ -9,7 +9,7 @@ use crate::progress::BoxMemory;
 use std::io;
 
 // Whether two boxes gave the same answer, and have the same state and work.
-// Part by part: with a derived == on the whole box the proof of the caller was tried and did not close.
+// Part by part: == on the whole memory of a box would ask for out and the tally to be equal too, which is more than is meant.
 fn same(a: BoxMemory, b: BoxMemory) -> bool
     ensures { (result ≡ true → (a.answer ≡ b.answer) × (a.state ≡ b.state) × (a.work ≡ b.work))
         × (a.answer ≡ b.answer → a.state ≡ b.state → a.work ≡ b.work → result ≡ true) }
@@ -68,7 +68,7 @@ fn line(rt: &impl Print, round: u32) -> io::Result<()>
 }
 
 pub fn lines(rt: &impl Print) -> io::Result<()> {
-    for round in 1..compare::words::LAST_ROUND + 1 {
+    for round in 1..=compare::words::LAST_ROUND {
         line(rt, round)?;
     }
     Ok(())

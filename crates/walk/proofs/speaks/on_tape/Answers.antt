@@ -1,6 +1,0 @@
--- `walk::speaks::on_tape` meets its contract: the state is the one that was reached.
-use Rattle.walk.proofs.speaks.on_tape.Goals as goal
-
-pub returns : goal.returns
-returns c =
-    rw c.opened.ensures at c.speak.ensures.answered
