@@ -1,4 +1,4 @@
 pub mod Reached
-pub mod Refused
 mod Same
-mod Deals
+pub mod Deals
+pub mod Marks

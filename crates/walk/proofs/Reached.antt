@@ -1,12 +1,7 @@
 -- Where the first calls of the walk lead, by the rules, and what a call that is its rule tells.
-use Prim.Native.Nat.{ℕ, zero, suc, ◌+◌, ◌%◌, ◌<◌}
-use mathlib.Core.Path.{◌≡◌, refl, sym, ap, ◌∙◌}
-use mathlib.Core.Bool.{Bool, true, false, cond, false≢true}
-use mathlib.Core.List.{◌++◌}
+use Prim.Native.Nat.{ℕ, zero, suc, ◌+◌}
+use mathlib.Core.Path.{◌≡◌, refl}
 use native.Mathlib.Omega.{arith}
-use borrow.Author.Tests.{ne_eqb}
-use lib.Dec.{eqb}
-use lib.ListN.{replicate}
 use Rattle.lists.specs.Tabulate.{tabulate}
 use Rattle.field.specs.Width.{listed, modulus}
 use Rattle.shares.specs.Side.{is_side}
@@ -19,8 +14,7 @@ use Rattle.rules.specs.Grounds.{wake_ground, start_ground, speak_ground}
 use Rattle.rules.specs.Calls.{wake_rule, start_rule, speak_rule}
 use Rattle.rules.specs.declared.state.Turn.TheVariants.{Speak as SpeakDue, Hear as HearDue}
 use Rattle.exchange.specs.Opening.{first_state}
-use Rattle.walk.specs.declared.job_steps.Step.{Step}
-use Rattle.walk.specs.declared.job_steps.Step.TheVariants.{Wake, Start, Speak, Hear}
+use Rattle.walk.specs.declared.job_steps.Step.TheVariants.{Start}
 use Rattle.walk.specs.JobSteps.{step_at}
 use Rattle.walk.specs.declared.progress.BoxMemory.{BoxMemory}
 use Rattle.walk.specs.Walk.{idle_state, job_state, box_tape, fresh_tally, tally_after, After}
@@ -49,32 +43,11 @@ marked_four = refl
 
 -- ---- the tally through a job
 
-spent_after : (steps : ℕ) → 0 < steps → tally_after steps ≡ replicate 4 0 ++ replicate 12 255
-spent_after steps some = rw (ne_eqb steps 0 (λ e. omega arith)) refl
-
-is_start : Step → Bool
-is_start Start = true
-is_start Wake = false
-is_start (Speak round) = false
-is_start (Hear round) = false
-
--- a later step is another than the start
-starts_once : (k : ℕ) → step_at (suc k + 1) ≡ Start → ⊥
-unfolding is_start
-starts_once k e =
-    go _ _ (eqb ((suc k + 1) % 2) 0) (rw (ne_eqb (suc k + 1) 0 (λ e. omega arith), ne_eqb (suc k + 1) 1 (λ e. omega arith)) at e)
-  where
-    go : (round1 round2 : ℕ) (even : Bool) → cond even (Speak round1) (Hear round2) ≡ Start → ⊥
-    go round1 round2 true e = false≢true (ap is_start e)
-    go round1 round2 false e = false≢true (ap is_start e)
-
 -- the start marks tape 0, and no later step changes the tally
 pub next_tally : (step : ℕ) (b a : BoxMemory) → b.tally ≡ tally_after step
     → (step ≡ 0 → (b.state ≡ idle_state 16) × (b.work ≡ tabulate 100 (λ k. 6)))
     → (step_at (step + 1) ≡ Start → After a a.tally (start_rule b.state 0 5 1 (box_tape 1 0) b.work b.tally))
     → ((step_at (step + 1) ≡ Start → ⊥) → a.tally ≡ b.tally)
     → a.tally ≡ tally_after (step + 1)
-next_tally zero b a tally woken started later =
-    let s = woken refl in
-    (started refl).left ∙ rw (s.0, s.1, tally) marked_four
-next_tally (suc k) b a tally woken started later = later (starts_once k) ∙ tally ∙ spent_after (suc k) (omega arith) ∙ sym (spent_after (suc k + 1) (omega arith))
+next_tally zero b a tally woken started later = grind (arith, marked_four, (started refl).left, woken refl, tally)
+next_tally (suc k) b a tally woken started later = grind (arith, later, tally)

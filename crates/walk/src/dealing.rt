@@ -28,19 +28,14 @@ fn deal(seed: u32, n: u32, t1: &mut [u32], t2: &mut [u32]) -> Attempt
     }
 }
 
-fn buffer() -> [u32; 150]
-    ensures { (length result ≡ 150) × (result ≡ filler 150) }
-{
-    [FILLER; 150]
-}
-
 // Into buffers of so many words.
+#[tactic(auto, using(crate::proofs::Deals::front, crate::proofs::Deals::whole))]
 fn sized(seed: u32, n: u32, words1: usize, words2: usize) -> Attempt
     requires { (words1 ≤ 150) × (words2 ≤ 150) }
     ensures { Told result (filler words1) (filler words2) (dealt seed n (filler words1) (filler words2)) }
 {
-    let mut t1 = buffer();
-    let mut t2 = buffer();
+    let mut t1 = [FILLER; 150];
+    let mut t2 = [FILLER; 150];
     deal(seed, n, &mut t1[..words1], &mut t2[..words2])
 }
 

@@ -15,7 +15,7 @@ use rules::state::{Phase, State};
 use std::io;
 
 // The words of a round at width 3: no more than the first has.
-#[tactic(auto, unfolding(field::specs::Width::listed))]
+#[tactic(auto, using(protocol::proofs::Lengths::most_words), unfolding(field::specs::Width::listed, protocol::specs::Rounds::round_words))]
 pub fn words(round: u32) -> usize
     ensures { (result ≤ 33) × (result ≡ round_words 3 round) }
 {

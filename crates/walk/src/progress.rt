@@ -129,6 +129,7 @@ impl Pair {
 }
 
 // Both boxes after so many steps; after wake at 0.
+#[tactic(auto, using(crate::proofs::Reached::woken_four, crate::proofs::Reached::woken_tally, crate::proofs::Reached::next_tally))]
 pub fn reached(steps: u32) -> Pair
     ensures { result.box1.tally ≡ tally_after steps }
 {

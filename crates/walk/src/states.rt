@@ -19,6 +19,7 @@ pub fn cut(state: State) -> State
 }
 
 // Awake, with a tally of four tapes.
+#[tactic(auto, using(crate::proofs::Reached::woken_four))]
 pub fn idle() -> State
     ensures { result ≡ idle_state 16 }
 {
@@ -40,6 +41,7 @@ fn of_box2(state: State) -> State
 }
 
 // Box 1 in a job on tape 0: speak 1 is due.
+#[tactic(auto, using(crate::proofs::Reached::woken_four, crate::proofs::Reached::woken_tally, crate::proofs::Reached::opened_four))]
 fn started() -> BoxMemory
     ensures { (result.state ≡ job_state 16 (Speak 1)) × (result.work ≡ tabulate 100 (λ k. 6)) × (result.out ≡ tabulate 33 (λ k. 6)) }
 {
@@ -55,6 +57,7 @@ pub fn opened() -> State
 }
 
 // The same job, where hear 1 is due.
+#[tactic(auto, using(crate::proofs::Reached::spoken_four))]
 pub fn hearing() -> BoxMemory
     ensures { (result.state ≡ job_state 16 (Hear 1)) × (result.work ≡ tabulate 100 (λ k. 6)) }
 {

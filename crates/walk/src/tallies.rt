@@ -17,6 +17,7 @@ pub fn one_byte(place: usize, byte: u8) -> [u8; 16]
 }
 
 // What a cut in the write of a tape's mark might leave.
+#[tactic(auto, using(lists::proofs::Parts::put_whole, crate::proofs::Marks::four), unfolding(tally::specs::Tally::cut_marked))]
 pub fn with_mark(tally: [u8; 16], number: usize, mark: [u8; 4]) -> [u8; 16]
     requires { number < 4 }
     ensures { result ≡ cut_marked tally number (mark_of mark 0) }
@@ -28,6 +29,7 @@ pub fn with_mark(tally: [u8; 16], number: usize, mark: [u8; 4]) -> [u8; 16]
 }
 
 // Tapes 0 and 2 are spent.
+#[tactic(auto, unfolding(tally::specs::Tally::cut_marked))]
 pub fn spent() -> [u8; 16]
     ensures { result ≡ spent_tally }
 {
