@@ -20,11 +20,9 @@ fn deal(seed: u32, n: u32, t1: &mut [u32], t2: &mut [u32]) -> Attempt
     ensures { Told result t1.old t2.old (dealt seed n t1.old t2.old) }
 {
     let answer = deals::deal(seed, n, crate::tapes::PAIR, 0, &mut *t1, &mut *t2);
-    let first = untouched(&*t1);
-    let second = untouched(&*t2);
     Attempt {
         answer,
-        kept: first && second,
+        kept: untouched(t1) && untouched(t2),
     }
 }
 

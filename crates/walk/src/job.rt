@@ -44,8 +44,8 @@ fn openings(rt: &impl Print, round: u32) -> io::Result<()>
     let pair = progress::reached(2 * round);
     let count = crate::five::words(round);
     print!(rt; "round {round} opens")?;
-    for k in 0..count {
-        print!(rt; " {}", opened(pair.box1.out[k], pair.box2.out[k]))?;
+    for (&word1, &word2) in pair.box1.out[..count].iter().zip(&pair.box2.out[..count]) {
+        print!(rt; " {}", opened(word1, word2))?;
     }
     println!(rt)
 }

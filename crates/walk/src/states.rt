@@ -1,22 +1,11 @@
 // Box 1's states on the way to its first hear, and such a one of a box 2.
 ghost use Rattle.std.specs.Prelude.{◌≡◌};
 ghost use Rattle.lists.specs.Tabulate.{tabulate};
-ghost use Rattle.rules.specs.Modes.{asleep_state};
 ghost use Rattle.walk.specs.Walk.{idle_state, job_state, with_tally, with_side};
 ghost use Rattle.rules.specs.declared.state.Turn.TheVariants.{Speak, Hear};
 
 use crate::progress::BoxMemory;
-use rules::state::{Phase, State};
-
-// The power is cut: the box is asleep.
-pub fn cut(state: State) -> State
-    ensures { result ≡ asleep_state state }
-{
-    State {
-        phase: Phase::Asleep,
-        ..state
-    }
-}
+use rules::state::State;
 
 // Awake, with a tally of four tapes.
 #[tactic(auto, using(crate::proofs::Reached::woken_four))]
@@ -31,13 +20,6 @@ pub fn longer(state: State) -> State
     ensures { result ≡ with_tally state 20 }
 {
     State { tally: 20, ..state }
-}
-
-// A state as a box 2 would hold it: the side alone changes.
-fn of_box2(state: State) -> State
-    ensures { result ≡ with_side state 2 }
-{
-    State { side: 2, ..state }
 }
 
 // Box 1 in a job on tape 0: speak 1 is due.
@@ -66,12 +48,12 @@ pub fn hearing() -> BoxMemory
     memory
 }
 
-// A box 2 in such a job, with the same shares.
+// A box 2 in such a job, with the same shares: the side alone is another.
 pub fn box2_hearing() -> BoxMemory
     ensures { (result.state ≡ with_side (job_state 16 (Hear 1)) 2) × (result.work ≡ tabulate 100 (λ k. 6)) }
 {
     let mut memory = hearing();
-    memory.state = of_box2(memory.state);
+    memory.state.side = 2;
     memory
 }
 
