@@ -61,7 +61,7 @@ fn cut_in_write(rt: &impl Print, mark: [u8; 4]) -> io::Result<()> {
     asleep(rt, with_left(0, mark).cut(), 1)
 }
 
-// The byte at that place: 00 where the number has a bit, and FF, not yet written, where it has none. A number, since counting goes through all mixtures.
+// The byte there: 00 where the number has a bit, FF, not yet written, where it has none. A number, as counting goes through all mixtures.
 fn byte_of(bits: u32, place: u32) -> u8
     requires { place < 4 }
 {

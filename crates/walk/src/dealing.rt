@@ -37,45 +37,38 @@ fn sized(seed: u32, n: u32, words1: usize, words2: usize) -> Attempt
     deal(seed, n, &mut t1[..words1], &mut t2[..words2])
 }
 
-fn line(rt: &impl Print, label: &str, attempt: Attempt) -> io::Result<()> {
-    whole_line(rt, label, attempt.answer.map(|_| "dealt"), attempt.kept)
-}
-
-fn short(rt: &impl Print, attempt: Attempt) -> io::Result<()> {
-    in_line(rt, attempt.answer.map(|_| "dealt"), attempt.kept)
-}
-
+// One ground at a time.
 fn single(rt: &impl Print) -> io::Result<()> {
-    line(rt, "deal, seed 0: ", sized(0, 3, 149, 149))?;
-    line(rt, "deal, n 4: ", sized(1, 4, 149, 149))?;
-    line(
-        rt,
-        "deal, box 1's buffer of 148 words: ",
-        sized(1, 3, 148, 149),
-    )?;
-    line(
-        rt,
-        "deal, box 1's buffer of 150 words: ",
-        sized(1, 3, 150, 149),
-    )?;
-    line(
-        rt,
-        "deal, box 2's buffer of 148 words: ",
-        sized(1, 3, 149, 148),
-    )?;
-    line(
-        rt,
-        "deal, box 2's buffer of 150 words: ",
-        sized(1, 3, 149, 150),
-    )
+    for (label, seed, n, words1, words2) in [
+        ("deal, seed 0: ", 0, 3, 149, 149),
+        ("deal, n 4: ", 1, 4, 149, 149),
+        ("deal, box 1's buffer of 148 words: ", 1, 3, 148, 149),
+        ("deal, box 1's buffer of 150 words: ", 1, 3, 150, 149),
+        ("deal, box 2's buffer of 148 words: ", 1, 3, 149, 148),
+        ("deal, box 2's buffer of 150 words: ", 1, 3, 149, 150),
+    ] {
+        let Attempt { answer, kept } = sized(seed, n, words1, words2);
+        whole_line(rt, label, answer.map(|_| "dealt"), kept)?;
+    }
+    Ok(())
+}
+
+// All at once, then without the first of them, and so on until it is taken.
+fn several(rt: &impl Print) -> io::Result<()> {
+    print!(rt; "deal, first of several:")?;
+    for (seed, n, words1, words2) in [
+        (0, 4, 148, 150),
+        (1, 4, 148, 150),
+        (1, 3, 148, 150),
+        (1, 3, 149, 149),
+    ] {
+        let Attempt { answer, kept } = sized(seed, n, words1, words2);
+        in_line(rt, answer.map(|_| "dealt"), kept)?;
+    }
+    println!(rt)
 }
 
 pub fn lines(rt: &impl Print) -> io::Result<()> {
     single(rt)?;
-    print!(rt; "deal, first of several:")?;
-    short(rt, sized(0, 4, 148, 150))?;
-    short(rt, sized(1, 4, 148, 150))?;
-    short(rt, sized(1, 3, 148, 150))?;
-    short(rt, sized(1, 3, 149, 149))?;
-    println!(rt)
+    several(rt)
 }

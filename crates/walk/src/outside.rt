@@ -29,22 +29,20 @@ fn kept_words(rt: &impl Print) -> io::Result<()> {
 }
 
 // In a job, with that length of tally, which wake keeps too.
-fn of_tally(rt: &impl Print, label: &str, tally: u32) -> io::Result<()> {
-    let state = State {
-        tally,
-        ..states::opened()
-    };
-    line(rt, label, state)
-}
-
 fn tally_lengths(rt: &impl Print) -> io::Result<()> {
-    of_tally(rt, "tally 0:", 0)?;
-    of_tally(rt, "tally 3:", 3)?;
-    of_tally(rt, "in range, tally 4:", 4)?;
-    of_tally(rt, "tally 5:", 5)?;
-    of_tally(rt, "in range, tally 11680:", 11680)?;
-    of_tally(rt, "tally 11681:", 11681)?;
-    of_tally(rt, "tally 11684:", 11684)
+    for (label, tally) in [
+        ("tally 0:", 0),
+        ("tally 3:", 3),
+        ("in range, tally 4:", 4),
+        ("tally 5:", 5),
+        ("in range, tally 11680:", 11680),
+        ("tally 11681:", 11681),
+        ("tally 11684:", 11684),
+    ] {
+        let due = states::opened();
+        line(rt, label, State { tally, ..due })?;
+    }
+    Ok(())
 }
 
 fn job(turn: Turn, number: u32, x: u32, y: u32) -> State

@@ -120,25 +120,19 @@ pub fn on_changed(place: usize, word: u32) -> Tried
 
 // Distances that did not grow with the last group; then whose tape it is.
 fn trailers(rt: &impl Print) -> io::Result<()> {
-    line(
-        rt,
-        "start, distance to the squares 141: ",
-        on_changed(142, 141),
-    )?;
-    line(
-        rt,
-        "start, distance to the powers 87: ",
-        on_changed(143, 87),
-    )?;
-    line(
-        rt,
-        "start, distance to the triples 51: ",
-        on_changed(144, 51),
-    )?;
-    line(rt, "start, tape of pair 6: ", on_changed(145, 6))?;
-    line(rt, "start, tape of side 2: ", on_changed(146, 2))?;
-    line(rt, "start, tape of number 1: ", on_changed(147, 1))?;
-    line(rt, "start, tape of n 5: ", on_changed(148, 5))
+    for (what, place, word) in [
+        ("distance to the squares 141", 142, 141),
+        ("distance to the powers 87", 143, 87),
+        ("distance to the triples 51", 144, 51),
+        ("tape of pair 6", 145, 6),
+        ("tape of side 2", 146, 2),
+        ("tape of number 1", 147, 1),
+        ("tape of n 5", 148, 5),
+    ] {
+        print!(rt; "start, {what}")?;
+        line(rt, ": ", on_changed(place, word))?;
+    }
+    Ok(())
 }
 
 // The tally after a start on that tape.

@@ -1,5 +1,5 @@
-// Four refusals at every place that can give them: each byte but FF in each place of a mark, for its own tape and for those below it, the word 7 in each
-// place of a tape's body, and the word 8 in each place of the words that a hear is lent. There a 7 is heard as 0 at every place: by
+// Four refusals at every place that can give them: each byte but FF in each place of a mark, for its own tape and for those below it, the word 7 in
+// each place of a tape's body, and the word 8 in each place of the words that a hear is lent. There a 7 is heard as 0 at every place: by
 // box 2, whose hear is linear in each word. Box 1 multiplies a word of a product by what it has of the other factor, and of β that
 // is 0.
 ghost use Rattle.std.specs.Prelude.{◌≡◌, true, ◌<◌};
@@ -13,7 +13,7 @@ use crate::zeros::as_zeros;
 use refusals::Refusal;
 use std::io;
 
-// An enum and not a closure for each test: the theorem on the counts is stated over the sweeps, so every closure would need its sweep's clause beside it.
+// An enum and not a closure for each test: the theorem on the counts is over the sweeps, so every closure would need its sweep's clause beside it.
 #[derive(Clone, Copy)]
 pub enum Sweep {
     Bytes,
@@ -70,29 +70,23 @@ fn count(sweep: Sweep) -> usize
     right
 }
 
-fn line(rt: &impl Print, label: &str, sweep: Sweep, end: &str) -> io::Result<()> {
-    println!(rt; "{label}{} of {} {end}", count(sweep), places(sweep))
-}
-
 pub fn lines(rt: &impl Print) -> io::Result<()> {
-    line(
-        rt,
-        "start, a byte of its mark not FF: ",
-        Sweep::Bytes,
-        "refused 8",
-    )?;
-    line(
-        rt,
-        "start, a byte above its mark not FF: ",
-        Sweep::Above,
-        "refused 15",
-    )?;
-    line(
-        rt,
-        "start, a body word 7: ",
-        Sweep::Body,
-        "places refused 10",
-    )?;
-    line(rt, "hear, a word 8: ", Sweep::Words, "places refused 13")?;
-    line(rt, "hear, a word 7: ", Sweep::Zeros, "places heard as 0")
+    for (label, sweep, end) in [
+        (
+            "start, a byte of its mark not FF",
+            Sweep::Bytes,
+            "refused 8",
+        ),
+        (
+            "start, a byte above its mark not FF",
+            Sweep::Above,
+            "refused 15",
+        ),
+        ("start, a body word 7", Sweep::Body, "places refused 10"),
+        ("hear, a word 8", Sweep::Words, "places refused 13"),
+        ("hear, a word 7", Sweep::Zeros, "places heard as 0"),
+    ] {
+        println!(rt; "{label}: {} of {} {end}", count(sweep), places(sweep))?;
+    }
+    Ok(())
 }
