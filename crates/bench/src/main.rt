@@ -76,13 +76,9 @@ fn main(rt: HostRuntime) -> io::Result<()> {
     }
 }
 
-#[tactic(auto, unfolding(field::specs::Width::listed))]
 fn all_sizes(rt: &impl Print) -> io::Result<()> {
-    sizes(rt, Width { bits: 3 })?;
-    sizes(rt, Width { bits: 5 })?;
-    sizes(rt, Width { bits: 7 })?;
-    sizes(rt, Width { bits: 13 })?;
-    sizes(rt, Width { bits: 17 })?;
-    sizes(rt, Width { bits: 19 })?;
-    sizes(rt, Width { bits: 31 })
+    for n in Width::all() {
+        sizes(rt, n)?;
+    }
+    Ok(())
 }

@@ -8,6 +8,7 @@ ghost use Rattle.bench.specs.Work.{is_right, right_at, both_in_order};
 
 use exchange::Shares;
 use field::Width;
+use tape::Label;
 
 // What the tapes are dealt from.
 const SEED: u32 = 2463534242;
@@ -15,6 +16,18 @@ const SEED: u32 = 2463534242;
 const PAIR: u32 = 1;
 
 const NUMBER: u32 = 0;
+
+const BOX1: Label = Label {
+    pair: PAIR,
+    side: 1,
+    number: NUMBER,
+};
+
+const BOX2: Label = Label {
+    pair: PAIR,
+    side: 2,
+    number: NUMBER,
+};
 
 // What is done often: whole jobs, or checks of a job's tapes.
 #[derive(Clone, Copy, Debug, PartialEq, Eq)]
@@ -54,9 +67,9 @@ fn check(n: u32, turn: u32, t1: &[u32], t2: &[u32]) -> bool
     ensures { result ≡ both_in_order n t1.now t2.now }
 {
     if turn % 2 == 0 {
-        tape::in_order(t1, n, PAIR, 1, NUMBER) && tape::in_order(t2, n, PAIR, 2, NUMBER)
+        tape::in_order(t1, n, BOX1) && tape::in_order(t2, n, BOX2)
     } else {
-        tape::in_order(t2, n, PAIR, 2, NUMBER) && tape::in_order(t1, n, PAIR, 1, NUMBER)
+        tape::in_order(t2, n, BOX2) && tape::in_order(t1, n, BOX1)
     }
 }
 

@@ -5,10 +5,23 @@ ghost use Rattle.tape.specs.Dealt.{Dealt};
 ghost use Rattle.exhaustive.specs.Inputs.{tape_of, seed_of};
 
 use field::Width;
+use tape::Label;
 
 pub const PAIR: u32 = 7;
 
 const NUMBER: u32 = 0;
+
+const BOX1: Label = Label {
+    pair: PAIR,
+    side: 1,
+    number: NUMBER,
+};
+
+const BOX2: Label = Label {
+    pair: PAIR,
+    side: 2,
+    number: NUMBER,
+};
 
 // Where the tapes come from: the plain ones, or those dealt from a seed.
 #[derive(Clone, Copy, Debug, PartialEq, Eq)]
@@ -34,8 +47,8 @@ pub fn pair(n: Width, source: Source, seed: u32, t1: &mut [u32], t2: &mut [u32])
 {
     match source {
         Source::Plain => {
-            dealer::plain(n, PAIR, 1, NUMBER, t1);
-            dealer::plain(n, PAIR, 2, NUMBER, t2);
+            dealer::plain(n, BOX1, t1);
+            dealer::plain(n, BOX2, t2);
         }
         Source::Dealt => deals::write(seed, n, PAIR, NUMBER, t1, t2),
     }

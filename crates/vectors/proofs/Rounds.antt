@@ -5,10 +5,10 @@ use Rattle.protocol.specs.Exchange.{exchanged, answer_own, answer_others}
 use Rattle.protocol.specs.Rounds.{earlier_rounds, last_round, message}
 use Rattle.refusals.specs.declared.Refusal.{Refusal}
 use Rattle.rules.specs.Answers.{share, heard_or_share, reply_of}
-use Rattle.rules.specs.Calls.{outcome, party_of}
+use Rattle.rules.specs.Calls.{outcome, party_of, heard_after}
 use Rattle.rules.specs.declared.state.State.{State}
 use Rattle.rules.proofs.Ranges.{ranged}
-use Rattle.exchange.specs.Boxes.{heard_after, works, after}
+use Rattle.exchange.specs.Boxes.{works, after}
 use Rattle.exchange.proofs.Exchanges.{more_own, more_others, last_own, last_others}
 use Rattle.exchange.proofs.Course.{Course, course_first, course_width, course_sends, course_next, course_last}
 use Rattle.vectors.specs.declared.spelling.Spelling.{Spelling}

@@ -55,15 +55,11 @@ fn run_width(rt: &(impl Files + Print), n: Width, count: u8, spelling: Spelling)
 }
 
 // Every job: the words go from box to box as they are, or every zero spelled p.
-#[tactic(auto, unfolding(field::specs::Width::listed))]
 fn run_widths(rt: &(impl Files + Print), spelling: Spelling) -> io::Result<()> {
-    run_width(rt, Width { bits: 3 }, 5, spelling)?;
-    run_width(rt, Width { bits: 5 }, 4, spelling)?;
-    run_width(rt, Width { bits: 7 }, 3, spelling)?;
-    run_width(rt, Width { bits: 13 }, 2, spelling)?;
-    run_width(rt, Width { bits: 17 }, 2, spelling)?;
-    run_width(rt, Width { bits: 19 }, 2, spelling)?;
-    run_width(rt, Width { bits: 31 }, 2, spelling)
+    for (n, count) in Width::all().into_iter().zip([5, 4, 3, 2, 2, 2, 2]) {
+        run_width(rt, n, count, spelling)?;
+    }
+    Ok(())
 }
 
 // Says that a deal agrees, and which: only of one that does.

@@ -5,6 +5,7 @@ ghost use Rattle.tape.specs.Layout.{trailer};
 ghost use Rattle.walk.specs.Walk.{box_tape, threes_tape};
 
 use field::Width;
+use tape::Label;
 
 pub const PAIR: u32 = 5;
 
@@ -17,7 +18,12 @@ pub fn plain(side: u32, number: u32) -> [u32; 149]
     ensures { (length result ≡ 149) × (result ≡ box_tape side number) }
 {
     let mut tape = [0u32; 149];
-    dealer::plain(Width { bits: 3 }, PAIR, side, number, &mut tape);
+    let label = Label {
+        pair: PAIR,
+        side,
+        number,
+    };
+    dealer::plain(Width { bits: 3 }, label, &mut tape);
     tape
 }
 
@@ -39,7 +45,12 @@ fn of_word<const N: usize>(word: u32, side: u32) -> [u32; N]
 {
     let mut tape = [word; N];
     let words = &mut tape[..];
-    words[N - tape::TRAILER..].copy_from_slice(&tape::trailer_of(Width { bits: 3 }, PAIR, side, 0));
+    let label = Label {
+        pair: PAIR,
+        side,
+        number: 0,
+    };
+    words[N - tape::TRAILER..].copy_from_slice(&tape::trailer_of(Width { bits: 3 }, label));
     tape
 }
 
