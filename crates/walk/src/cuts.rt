@@ -1,5 +1,7 @@
 // Cuts and drops of box 1 at every point of a job.
 ghost use Rattle.std.specs.Prelude.{◌≡◌, ◌<◌};
+ghost use Rattle.tally.specs.Tally.{mark_of, cut_marked};
+ghost use Rattle.walk.specs.Walk.{fresh_tally};
 
 use crate::calls;
 use crate::calls::Tried;
@@ -46,6 +48,7 @@ fn cut(rt: &impl Print, number: u32) -> io::Result<()> {
 // Box 1 awake, but for what a cut in a start's write left of that tape's mark.
 fn with_left(number: usize, mark: [u8; 4]) -> Box1
     requires { number < 4 }
+    ensures { result.tally ≡ cut_marked fresh_tally number (mark_of mark 0) }
 {
     let before = box1_after(0);
     Box1 {
