@@ -36,7 +36,7 @@ fn places(sweep: Sweep) -> usize
 }
 
 // Whether the call is refused as it must be, with nothing changed, or heard as zeros.
-#[tactic(auto, unfolding(rules::specs::Calls::start_rule, rules::specs::Calls::hear_rule))]
+#[tactic(auto, unfolding(rules::specs::Calls::start_rule, rules::specs::Calls::hear_rule, rules::specs::Calls::heard_after))]
 fn right_at(sweep: Sweep, place: usize) -> bool
     requires { place < places_of sweep }
     ensures { (result ≡ true → RightAt sweep place) × (RightAt sweep place → result ≡ true) }
