@@ -8,6 +8,6 @@ use Rattle.exhaustive.proofs.inputs.right.Given as goal
 abbrev pub invariant-loop-i : goal.invariant-loop-i
 invariant-loop-i l =
     record {
-      value : l.right ≡ sum l.i (right_on l.source (modulus l.n.bits) l.n.bits);
+      value : l.right ≡ sum l.i (right_on l.fn.source (modulus l.n.bits) l.n.bits);
       all : l.right ≡ l.i * (modulus l.n.bits * modulus l.n.bits);
     }
