@@ -3,10 +3,13 @@
 // the message is said too.
 #![tactic(auto)]
 
-ghost use Rattle.std.specs.Prelude.{◌≡◌, true, ◌+◌, ◌-◌, ◌<◌, ◌≤◌, length, get_or, IfOk, All};
+ghost use Rattle.std.specs.Prelude.{◌≡◌, true, ◌+◌, ◌-◌, ◌<◌, ◌≤◌, ◌∷◌, [], length, map, IfOk, All};
 ghost use Rattle.lists.specs.Tabulate.{sum};
 ghost use Rattle.field.specs.Width.{modulus};
+ghost use Rattle.protocol.specs.Products.{party};
 ghost use Rattle.protocol.specs.Rounds.{round_words};
+ghost use Rattle.deals.specs.Deals.{dealt_tape};
+ghost use Rattle.compare.specs.Parties.{party_of};
 ghost use Rattle.fills.specs.Fillings.{message_of, fill_agrees, right_at};
 
 use compare::Party;
@@ -68,7 +71,7 @@ fn tell_right(rt: &impl Print, right: usize, all: usize) -> io::Result<()>
     println!(rt; " as they must be, {right} of {all}")
 }
 
-// The counts of each range, which are those from one number to another.
+// The line of the counts in these ranges, each from its first count to its last; so few ranges that the number of all counts fits.
 #[tactic(auto, using(protocol::proofs::Lengths::words_most, crate::proofs::Fillings::words_length))]
 fn tell_counts(rt: &impl Print, party: Party, ranges: &[(usize, usize)]) -> io::Result<()>
     requires few { length ranges.now ≤ 5 }
@@ -86,7 +89,7 @@ fn tell_counts(rt: &impl Print, party: Party, ranges: &[(usize, usize)]) -> io::
     tell_right(rt, right, all)
 }
 
-// Both boxes in a job on dealt tapes, each with its shares of x and y.
+// Both boxes in a job on dealt tapes, each with its shares of x and y. There is no heap, so the tapes are in room for the longest.
 #[tactic(auto, using(tape::proofs::Sizes::small), unfolding(shares::specs::Side::is_side))]
 fn boxes<'a>(
     n: Width,
@@ -96,7 +99,11 @@ fn boxes<'a>(
     t2: &'a mut [u32; 9053],
 ) -> [Party<'a>; 2]
     requires { (box1.0 < modulus n.bits) × (box1.1 < modulus n.bits) × (box2.0 < modulus n.bits) × (box2.1 < modulus n.bits) }
-    ensures { All (λ party. party.n.bits ≡ n.bits) result }
+    ensures whose { map party_of result
+        ≡ party n.bits 1 box1.0 box1.1 (dealt_tape 20051 n.bits 7 1 3)
+        ∷ party n.bits 2 box2.0 box2.1 (dealt_tape 20051 n.bits 7 2 3)
+        ∷ [] }
+    ensures widths { All (λ party. party.n.bits ≡ n.bits) result }
 {
     let words = tape::tape_words(n);
     let t1 = &mut t1[..words];
@@ -119,7 +126,7 @@ fn boxes<'a>(
     [box1, box2]
 }
 
-// Every count.
+// Every count, and the message.
 #[tactic(auto, unfolding(field::specs::Width::listed, field::specs::Width::modulus, protocol::specs::Rounds::round_words))]
 fn width_3(rt: &impl Print) -> io::Result<()> {
     let mut t1 = [0; 9053];
@@ -131,7 +138,7 @@ fn width_3(rt: &impl Print) -> io::Result<()> {
     Ok(())
 }
 
-// 6 words are alpha * beta's, 31 a level's.
+// Some counts: 6 words are alpha * beta's, 31 a level's.
 #[tactic(auto, unfolding(field::specs::Width::listed, field::specs::Width::modulus, protocol::specs::Rounds::round_words))]
 fn width_31(rt: &impl Print) -> io::Result<()> {
     let mut t1 = [0; 9053];

@@ -20,7 +20,7 @@ pub fn spoken<'a>(party: Party, room: &'a mut [u32; 2889]) -> &'a [u32]
     words
 }
 
-// Whether every place of out holds what it must once the last `count` words are filled in: these, and elsewhere the filler.
+// Whether every place of out holds what it must once the last `count` words are filled in: those words in their places, and else the filler.
 #[tactic(auto, using(crate::proofs::Parts::parts_due))]
 fn as_due(out: &[u32], words: &[u32], count: usize) -> bool
     requires { (count ≤ length words.now) × (length words.now ≤ length out.now) }
