@@ -47,7 +47,9 @@ module _ (text : List ℕ) (d : Deal) (t1 t2 new1 new2 : List ℕ) (answer : Res
           rw (refused answer (omega (arith, why)))
       go false some =
           let above : 0 < d.seed = pos_of_ne-zero (eqb-false d.seed 0 some) in
-          let taken = call ∙ deal_taken d.seed d.width d.pair d.number t1 t2 above (sym width) (long1 ∙ ap tape_length is) (long2 ∙ ap tape_length is) in
+          let length1 = long1 ∙ ap tape_length is in
+          let length2 = long2 ∙ ap tape_length is in
+          let taken = call ∙ deal_taken d.seed d.width d.pair d.number t1 t2 above (sym width) length1 length2 in
           rw (← width, went_on answer (ap (λ (c : Call). c.refusal) taken), ap (λ (c : Call). c.tape1) taken, ap (λ (c : Call). c.tape2) taken)
 
   pub deal_refused : false ≡ is_ok answer → deal_told text d ≡ false
@@ -75,3 +77,5 @@ module _ (text rest h : List ℕ) (head : Some rest ≡ read_to 4 text) (is : h 
       sym is
       ∙ drop-cons h 0 0 (omega arith)
       ∙ rw (drop-cons h 1 0 (omega arith), drop-cons h 2 0 (omega arith), drop-cons h 3 0 (omega arith), drop_of_length-le h {i = 4} (omega arith))
+
+pub ruleset heads = (agreed_none, agreed_told, agreed_named)

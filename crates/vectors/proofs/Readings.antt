@@ -24,20 +24,26 @@ passes f (Some x) = refl
 -- ---- one number
 
 -- a place that was found, or the length
-pub place_or_length : (p : ℕ → Bool) (s : List ℕ) → unwrap_or (position p s) (length s) ≡ position_or_len p s
+place_or_length : (p : ℕ → Bool) (s : List ℕ) → unwrap_or (position p s) (length s) ≡ position_or_len p s
 place_or_length p s =
     let place : ℕ = position_or_len p s in
     let most = prefix_len-le-length (λ (x : ℕ). not (p x)) s in
-    ⊎_elim (λ found. rw (lt-ltb place (length s) found)) (λ none. rw (le-ltb place (length s) none) (omega (arith, most, none))) (cases_lt place (length s))
+    ⊎_elim
+    (λ found. rw (lt-ltb place (length s) found))
+    (λ none. rw (le-ltb place (length s) none) (omega (arith, most, none)))
+    (cases_lt place (length s))
+
+place_is : (p : ℕ → Bool) (s : List ℕ) (o : Option ℕ) → position p s ≡ o → position_or_len p s ≡ unwrap_or o (length s)
+place_is p s o e = sym (place_or_length p s) ∙ ap (λ (q : Option ℕ). unwrap_or q (length s)) e
 
 -- no digit is left
 pub next_none : (text : List ℕ) → position is_ascii_digit text ≡ None → next_at text ≡ None
 unfolding next_at is_number
 next_none text e =
-    let place : position_or_len is_ascii_digit text ≡ length text = sym (place_or_length is_ascii_digit text) ∙ ap (λ (o : Option ℕ). unwrap_or o (length text)) e in
-    rw (place, drop_of_length-le text {i = length text} (omega arith))
+    rw (place_is is_ascii_digit text None e, drop_of_length-le text {i = length text} (omega arith))
 
-with_rest : (t : Bool) (value : ℕ) (rest : List ℕ) → option_map {U = ℕ × List ℕ} (λ v. (v, rest)) (cond t (Some value) None) ≡ cond t (Some (value, rest)) None
+with_rest : (t : Bool) (value : ℕ) (rest : List ℕ)
+    → option_map {U = ℕ × List ℕ} (λ v. (v, rest)) (cond t (Some value) None) ≡ cond t (Some (value, rest)) None
 with_rest true value rest = refl
 with_rest false value rest = refl
 
@@ -48,9 +54,8 @@ pub next_read : (text digits part rest : List ℕ) (first end : ℕ) (value : Op
     → option_map {U = ℕ × List ℕ} (λ v. (v, rest)) value ≡ next_at text
 unfolding next_at
 next_read text digits part rest first end value found begun ended front back read =
-    let start : position_or_len is_ascii_digit text ≡ first = sym (place_or_length is_ascii_digit text) ∙ ap (λ (o : Option ℕ). unwrap_or o (length text)) found in
     let count = ended ∙ place_or_length (λ b. not (is_ascii_digit b)) digits in
-    rw (start, ← begun, ← count, ← front, ← back, read) (with_rest (is_number part) (value_of part) rest)
+    rw (place_is is_ascii_digit text (Some first) found, ← begun, ← count, ← front, ← back, read) (with_rest (is_number part) (value_of part) rest)
 
 -- ---- numbers one after another
 
@@ -70,7 +75,8 @@ module _ (text : List ℕ) (e : next_at text ≡ None) where
 
 -- there is
 module _ (text rest : List ℕ) (x : ℕ) (e : Some (x, rest) ≡ next_at text) where
-  pub spelled_next : (words : List ℕ) (i : ℕ) → i < length words → x ≡ get_or words i 0 → spelled text (drop i words) ≡ spelled rest (drop (i + 1) words)
+  pub spelled_next : (words : List ℕ) (i : ℕ) → i < length words → x ≡ get_or words i 0
+      → spelled text (drop i words) ≡ spelled rest (drop (i + 1) words)
   unfolding spelled
   spelled_next words i less same = rw (add-one i, drop-cons words i 0 less, ← e, eq-eqb _ _ same)
 

@@ -26,7 +26,7 @@ pub fn compared_with(rt: &impl Files, name: &[u8]) -> Option<Deal>
 }
 
 // A text has seed, n, pair and tape number, then both tapes.
-#[tactic(auto, using(crate::proofs::Readings::filled, crate::proofs::Deals::agreed_told, crate::proofs::Deals::agreed_named, crate::proofs::Deals::agreed_none))]
+#[tactic(auto, using(crate::proofs::Readings::filled, crate::proofs::Deals::heads))]
 fn run(text: &[u8]) -> Option<Deal>
     ensures agrees { is_some result ≡ deal_agreed text.now }
     ensures names { IfSome result (headed text.now) }

@@ -74,7 +74,9 @@ overflow_add-result c =
     let most1 = respelled_most v.spelling (take (words a) a.both_speak.new.o1) in
     let most2 = respelled_most v.spelling (take (words a) a.both_speak.new.o2) in
     let most = words_most v.s1.now.n v.round (width1 a) in
-    omega (arith, c.carry-zeros1.ensures.value, most1, (front1 a).long, c.carry-zeros2.ensures.value, most2, (front2 a).long, c.words_of-words.ensures, most)
+    let zeros1 = c.carry-zeros1.ensures.value in
+    let zeros2 = c.carry-zeros2.ensures.value in
+    omega (arith, zeros1, most1, (front1 a).long, zeros2, most2, (front2 a).long, c.words_of-words.ensures, most)
 
 pub returns-clause-read : goal.returns-clause-read
 returns-clause-read c = c.in_ok-both_same.ensures ∙ told (goal.at.returns-clause-read c).After-both_speak _
@@ -100,5 +102,6 @@ pub returns-clause-zeros : goal.returns-clause-zeros
 returns-clause-zeros c =
     let a = (goal.at.returns-clause-zeros c).After-both_speak in
     let spelling = c.args.spelling in
-    ap₂ ◌+◌ (c.carry-zeros1.ensures.value ∙ ap (respelled_in spelling) (front1 a).front) (c.carry-zeros2.ensures.value ∙ ap (respelled_in spelling) (front2 a).front)
-    ∙ sym (respelled_append spelling (message1 a) (message2 a))
+    let zeros1 = c.carry-zeros1.ensures.value ∙ ap (respelled_in spelling) (front1 a).front in
+    let zeros2 = c.carry-zeros2.ensures.value ∙ ap (respelled_in spelling) (front2 a).front in
+    ap₂ ◌+◌ zeros1 zeros2 ∙ sym (respelled_append spelling (message1 a) (message2 a))

@@ -36,7 +36,8 @@ pub returns-in_err-answers_same-clause-agrees : goal.returns-in_err-answers_same
 returns-in_err-answers_same-clause-agrees c =
     let r = ended (goal.at.returns-in_err-answers_same-clause-agrees c).At-loop-heard c.loop-heard-test.false in
     let e = c.in_ok-last.ensures in
-    rw (c.from_residual-in_err-answers_same.ensures, ← told_shares _ _ _ _ _ _ _ _ _ c.requires r _ _ e.read e.box1 e.box2) c.in_err-answers_same.ensures
+    rw (c.from_residual-in_err-answers_same.ensures, ← told_shares _ _ _ _ _ _ _ _ _ c.requires r _ _ e.read e.box1 e.box2)
+    c.in_err-answers_same.ensures
 
 pub overflow_add-result : goal.overflow_add-result
 overflow_add-result c =
@@ -51,4 +52,5 @@ returns-clause-agrees c =
 
 pub returns-clause-zeros : goal.returns-clause-zeros
 returns-clause-zeros c =
-    told_counts _ _ _ _ _ _ _ _ _ c.requires (ended (goal.at.returns-clause-zeros c).At-loop-heard c.loop-heard-test.false) _ c.in_ok-last.ensures.zeros
+    let r = ended (goal.at.returns-clause-zeros c).At-loop-heard c.loop-heard-test.false in
+    told_counts _ _ _ _ _ _ _ _ _ c.requires r _ c.in_ok-last.ensures.zeros

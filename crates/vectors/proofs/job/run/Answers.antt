@@ -21,7 +21,8 @@ returns-then-n-w-clause-agrees c =
 pub returns-in_err-zeros-clause-agrees : goal.returns-in_err-zeros-clause-agrees
 unfolding agreed
 returns-in_err-zeros-clause-agrees c =
-    rw (c.from_residual-in_err-zeros.ensures, ← front (goal.at.returns-in_err-zeros-clause-agrees c).In_ok-fill, ← c.in_ok-fill.ensures.rest, eq-eqb _ _ c.if-n-w.false)
+    let head = front (goal.at.returns-in_err-zeros-clause-agrees c).In_ok-fill in
+    rw (c.from_residual-in_err-zeros.ensures, ← head, ← c.in_ok-fill.ensures.rest, eq-eqb _ _ c.if-n-w.false)
     c.in_err-zeros.ensures.agrees
 
 pub returns-clause-agrees : goal.returns-clause-agrees

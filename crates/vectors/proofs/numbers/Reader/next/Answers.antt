@@ -12,7 +12,8 @@ use Rattle.vectors.proofs.numbers.Reader.next.Goals as goal
 -- where the digits begin
 at_first : (p : After-position) → p.position.result ≡ position is_ascii_digit p.args.self.now.text.now
 at_first p =
-    position_from_yields_List is_ascii_digit _ _ p.position.result p.position.ensures.ran (YieldsList-from_slice _ p.iter.ensures.rest) (λ x b q k. search rules)
+    position_from_yields_List is_ascii_digit _ _ p.position.result p.position.ensures.ran
+    (YieldsList-from_slice _ p.iter.ensures.rest) (λ x b q k. search rules)
 
 pub returns-in_err-first : goal.returns-in_err-first
 returns-in_err-first c =
@@ -26,6 +27,7 @@ returns c =
     let first = c.in_ok-first.first in
     let digits = take (length text - first) (drop first text) in
     let end : c.position-end.result ≡ position (λ (b : ℕ). not (is_ascii_digit b)) digits =
-    position_from_yields_List (λ (b : ℕ). not (is_ascii_digit b)) _ _ c.position-end.result c.position-end.ensures.ran (YieldsList-from_slice _ c.iter-2.ensures.rest) (λ x b q k. search rules) in
+    position_from_yields_List (λ (b : ℕ). not (is_ascii_digit b)) _ _ c.position-end.result c.position-end.ensures.ran
+    (YieldsList-from_slice _ c.iter-2.ensures.rest) (λ x b q k. search rules) in
     next_read text digits _ _ _ _ _ found (take_rest text first)
     (c.unwrap_or.ensures ∙ rw end) c.split_at.ensures.front c.split_at.ensures.back c.number_of.ensures
