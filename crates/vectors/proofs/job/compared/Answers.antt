@@ -21,9 +21,6 @@ module _ (a : After-both_speak) where
   width1 : listed a.args.s1.now.n ≡ true
   width1 = (ranged a.args.s1.now a.requires.box1.ranged).width
 
-  width2 : listed a.args.s2.now.n ≡ true
-  width2 = (ranged a.args.s2.now a.requires.box2.ranged).width
-
   -- the two messages, and the outs that they were written to
   abbrev message1 : List ℕ
   message1 = let v = a.args in message (party_of v.s1.now v.t1.now) v.w1.now v.round
