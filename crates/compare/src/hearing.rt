@@ -53,7 +53,7 @@ impl Party<'_> {
         products
     }
 
-    // u + v - 2uv for each test, by the same triples and words.
+    // u + v - 2uv for each test, by the same triples and words. Both in one function were tried: what the closure asks of the products did not close.
     fn exclusive_three(
         self,
         u: [u32; 3],

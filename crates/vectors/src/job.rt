@@ -203,7 +203,8 @@ struct Round {
     zeros: usize,
 }
 
-// One round, both messages against the text as they are sent; then each goes to the other box. After the last no turn is due.
+// One round, both messages against the text as they are sent; then each goes to the other box. After the last no turn is due. In two steps and not
+// by exchange's round: the words are looked at before they are heard, and their zeros may be respelled on the way.
 #[tactic(auto, using(crate::proofs::Carried::room))]
 fn compared(
     text: &mut Reader,
