@@ -30,6 +30,16 @@ pub struct Shares {
     pub y: u32,
 }
 
+// What a job is asked with: the width, the pair and the number of its tapes, and both boxes' shares.
+#[derive(Clone, Copy, Debug, PartialEq, Eq)]
+pub struct Job {
+    pub n: u32,
+    pub pair: u32,
+    pub number: u32,
+    pub box1: Shares,
+    pub box2: Shares,
+}
+
 // How many rounds come before the last one.
 pub const EARLIER_ROUNDS: u32 = LAST_ROUND - 1;
 
@@ -140,6 +150,7 @@ fn round(
         t2,
         w1,
         w2,
+        // the room is the longest message's: a shorter one has its first words
         &o2[..words],
         &o1[..words],
     )
@@ -191,11 +202,7 @@ fn answers(
 
 // A whole job: the opened answer, or the first refusal. On a pair of tapes dealt by the rules the answer is 1 if x < y, and 0 otherwise.
 pub fn less(
-    n: u32,
-    pair: u32,
-    number: u32,
-    box1: Shares,
-    box2: Shares,
+    job: Job,
     t1: &[u32],
     t2: &[u32],
     w1: &mut [u32],
@@ -206,11 +213,18 @@ pub fn less(
     o2: &mut [u32],
 ) -> Result<u32, Refusal>
     ensures ended { ended result k1.new k2.new
-        ≡ job_of n pair number (lent box1 t1.now w1.old k1.old o1.old)
-        (lent box2 t2.now w2.old k2.old o2.old) }
-    ensures right { IfOk result (λ less. Dealt n pair number t1.now t2.now
-        → less ≡ indicator (ltb ((box1.x + box2.x) % modulus n) ((box1.y + box2.y) % modulus n))) }
+        ≡ job_of job.n job.pair job.number (lent job.box1 t1.now w1.old k1.old o1.old)
+        (lent job.box2 t2.now w2.old k2.old o2.old) }
+    ensures right { IfOk result (λ less. Dealt job.n job.pair job.number t1.now t2.now
+        → less ≡ indicator (ltb ((job.box1.x + job.box2.x) % modulus job.n) ((job.box1.y + job.box2.y) % modulus job.n))) }
 {
+    let Job {
+        n,
+        pair,
+        number,
+        box1,
+        box2,
+    } = job;
     let mut s1 = state::FIRST;
     let mut s2 = state::FIRST;
     begin(&mut s1, n, 1, pair, number, box1, t1, &*w1, k1)?;

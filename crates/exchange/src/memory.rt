@@ -9,7 +9,7 @@ ghost use Rattle.refusals.specs.Checks.{ground_of};
 ghost use Rattle.exchange.specs.Jobs.{less_of};
 ghost use Rattle.exchange.specs.Memory.{blank_work, blank_words, fresh_job};
 
-use crate::Shares;
+use crate::{Job, Shares};
 use field::Width;
 use refusals::Refusal;
 
@@ -47,17 +47,9 @@ pub fn blank_words() -> [u32; 2889]
 }
 
 // A whole job on one fresh tape of each box.
-pub fn fresh_job(
-    n: u32,
-    pair: u32,
-    number: u32,
-    box1: Shares,
-    box2: Shares,
-    t1: &[u32],
-    t2: &[u32],
-) -> Result<u32, Refusal>
-    ensures refusal { ground_of result ≡ (fresh_job n pair number box1 box2 t1.now t2.now).refusal }
-    ensures less { less_of result ≡ (fresh_job n pair number box1 box2 t1.now t2.now).less }
+pub fn fresh_job(job: Job, t1: &[u32], t2: &[u32]) -> Result<u32, Refusal>
+    ensures refusal { ground_of result ≡ (fresh_job job.n job.pair job.number job.box1 job.box2 t1.now t2.now).refusal }
+    ensures less { less_of result ≡ (fresh_job job.n job.pair job.number job.box1 job.box2 t1.now t2.now).less }
 {
     let mut w1 = blank_work();
     let mut w2 = blank_work();
@@ -66,7 +58,7 @@ pub fn fresh_job(
     let mut o1 = blank_words();
     let mut o2 = blank_words();
     crate::less(
-        n, pair, number, box1, box2, t1, t2, &mut w1, &mut w2, &mut k1, &mut k2, &mut o1, &mut o2,
+        job, t1, t2, &mut w1, &mut w2, &mut k1, &mut k2, &mut o1, &mut o2,
     )
 }
 
@@ -79,7 +71,7 @@ fn compared(n: Width, box1: Shares, box2: Shares) -> u32
     let p = n.modulus();
     let x = (box1.x + box2.x) % p;
     let y = (box1.y + box2.y) % p;
-    if x < y { 1 } else { 0 }
+    u32::from(x < y)
 }
 
 // Whether a job on one fresh tape of each box is taken, and answers as the ordinary comparison does: for programs that try many jobs.
@@ -91,7 +83,14 @@ pub fn is_right(n: Width, pair: u32, box1: Shares, box2: Shares, t1: &[u32], t2:
         (indicator (ltb ((box1.x + box2.x) % modulus n.bits) ((box1.y + box2.y) % modulus n.bits)))) }
     ensures dealt { Dealt n.bits pair 0 t1.now t2.now → result ≡ true }
 {
-    match fresh_job(n.bits, pair, FIRST_TAPE, box1, box2, t1, t2) {
+    let job = Job {
+        n: n.bits,
+        pair,
+        number: FIRST_TAPE,
+        box1,
+        box2,
+    };
+    match fresh_job(job, t1, t2) {
         Ok(less) => less == compared(n, box1, box2),
         Err(_) => false,
     }

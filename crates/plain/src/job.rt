@@ -5,8 +5,8 @@ ghost use Rattle.tape.specs.Layout.{tape_length};
 ghost use Rattle.exchange.specs.Jobs.{less_of};
 ghost use Rattle.plain.specs.Printed.{plain_refusal, plain_answer};
 
-use exchange::Shares;
 use exchange::memory::{blank_tape, fresh_job, tape_room};
+use exchange::{Job, Shares};
 use field::Width;
 use refusals::Refusal;
 use tape::Label;
@@ -39,7 +39,14 @@ fn dealt(
 {
     dealer::plain(n, BOX1, &mut *t1);
     dealer::plain(n, BOX2, &mut *t2);
-    fresh_job(n.bits, BOX1.pair, BOX1.number, box1, box2, &*t1, &*t2)
+    let job = Job {
+        n: n.bits,
+        pair: BOX1.pair,
+        number: BOX1.number,
+        box1,
+        box2,
+    };
+    fresh_job(job, &*t1, &*t2)
 }
 
 // In memory that has room for the longest tape.

@@ -21,7 +21,7 @@ use Rattle.exchange.proofs.Begun.{Begun, begin_ready}
 use Rattle.protocol.specs.Products.{party}
 use Rattle.rules.specs.declared.state.Turn.TheVariants.{Speak}
 use Rattle.exchange.specs.Memory.{blank_work}
-use Rattle.vectors.specs.declared.job.Job.{Job}
+use Rattle.exchange.specs.declared.Job.{Job}
 use Rattle.vectors.specs.Numbers.{read_to, rest_after}
 use Rattle.vectors.specs.Job.{unused_tally, share_in, comes, job_in, tapes_told, agreed}
 

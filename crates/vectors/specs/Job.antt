@@ -12,7 +12,7 @@ use Rattle.exchange.specs.declared.Shares.{Shares}
 use Rattle.exchange.specs.Opening.{first_state, refusal_of, begun}
 use Rattle.exchange.specs.Boxes.{works}
 use Rattle.exchange.specs.Memory.{blank_work}
-use Rattle.vectors.specs.declared.job.Job.{Job}
+use Rattle.exchange.specs.declared.Job.{Job}
 use Rattle.vectors.specs.Numbers.{numbers_from, read_to, rest_after, spelled}
 
 -- both messages of a round, box 1's first

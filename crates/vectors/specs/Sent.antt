@@ -5,7 +5,7 @@ use Rattle.tape.specs.Layout.{tape_length}
 use Rattle.protocol.specs.Rounds.{last_round}
 use Rattle.exchange.specs.Boxes.{works}
 use Rattle.exchange.specs.Memory.{blank_work}
-use Rattle.vectors.specs.declared.job.Job.{Job}
+use Rattle.exchange.specs.declared.Job.{Job}
 use Rattle.vectors.specs.declared.spelling.Spelling.{Spelling}
 use Rattle.vectors.specs.declared.spelling.Spelling.TheVariants.{AsSent, Respelled}
 use Rattle.vectors.specs.Numbers.{numbers_from, rest_after}

@@ -17,7 +17,7 @@ ghost use Rattle.vectors.specs.Sent.{respelled_in, job_sent, tapes_sent, sent, A
 use crate::numbers::Reader;
 use crate::spelling::{Spelling, carry};
 use compare::words::LAST_ROUND;
-use exchange::{Heard, Shares};
+use exchange::{Heard, Job, Shares};
 use field::Width;
 use rules::state;
 use rules::state::State;
@@ -32,16 +32,6 @@ fn name_of(w: u32, k: u8) -> [u8; 12]
     name[5] += (w % 10) as u8;
     name[7] += k % 10;
     name
-}
-
-// The numbers of a job, as its file names them.
-#[derive(Clone, Copy, Debug, PartialEq, Eq)]
-pub struct Job {
-    pub n: u32,
-    pub pair: u32,
-    pub number: u32,
-    pub box1: Shares,
-    pub box2: Shares,
 }
 
 // A file's job, both of whose boxes agree with it: the tape number that its text names, and how many zeros of its messages were respelled.
@@ -237,6 +227,7 @@ fn compared(
     exchange::both_speak(
         number, round, &mut *s1, &mut *s2, t1, t2, &*w1, &*w2, &mut o1, &mut o2,
     );
+    // the room is the longest message's: a shorter one has its first words
     let o1 = &mut o1[..words];
     let o2 = &mut o2[..words];
     text.both_same(&*o1, &*o2)?;

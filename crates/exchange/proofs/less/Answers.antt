@@ -11,29 +11,29 @@ use Rattle.exchange.proofs.less.Goals as goal
 
 -- what the two boxes come with
 abbrev lent1 : Start → Lent
-lent1 s = let v = s.args in lent v.box1 v.t1.now v.w1.now v.k1.now v.o1.now
+lent1 s = let v = s.args in lent v.job.box1 v.t1.now v.w1.now v.k1.now v.o1.now
 
 abbrev lent2 : Start → Lent
-lent2 s = let v = s.args in lent v.box2 v.t2.now v.w2.now v.k2.now v.o2.now
+lent2 s = let v = s.args in lent v.job.box2 v.t2.now v.w2.now v.k2.now v.o2.now
 
 -- where neither box is refused
-ready1 : (e : In_ok-begin-2) → let v = e.args in Begun v.n 1 v.pair v.number v.box1.x v.box1.y v.t1.now v.w1.now v.k1.now e.begin.new.state
+ready1 : (e : In_ok-begin-2) → let v = e.args in Begun v.job.n 1 v.job.pair v.job.number v.job.box1.x v.job.box1.y v.t1.now v.w1.now v.k1.now e.begin.new.state
 ready1 e =
     let v = e.args in
-    begin_ready v.n 1 v.pair v.number v.box1.x v.box1.y v.t1.now v.w1.now v.k1.now _ e.begin.new.state _ e.in_ok-begin.ensures refl
+    begin_ready v.job.n 1 v.job.pair v.job.number v.job.box1.x v.job.box1.y v.t1.now v.w1.now v.k1.now _ e.begin.new.state _ e.in_ok-begin.ensures refl
 
-ready2 : (e : In_ok-begin-2) → let v = e.args in Begun v.n 2 v.pair v.number v.box2.x v.box2.y v.t2.now v.w2.now v.k2.now e.begin-2.new.state
+ready2 : (e : In_ok-begin-2) → let v = e.args in Begun v.job.n 2 v.job.pair v.job.number v.job.box2.x v.job.box2.y v.t2.now v.w2.now v.k2.now e.begin-2.new.state
 ready2 e =
     let v = e.args in
-    begin_ready v.n 2 v.pair v.number v.box2.x v.box2.y v.t2.now v.w2.now v.k2.now _ e.begin-2.new.state _ e.in_ok-begin-2.ensures refl
+    begin_ready v.job.n 2 v.job.pair v.job.number v.job.box2.x v.job.box2.y v.t2.now v.w2.now v.k2.now _ e.begin-2.new.state _ e.in_ok-begin-2.ensures refl
 
 pub returns-in_err-begin : goal.returns-in_err-begin
 returns-in_err-begin c =
     let s = (goal.at.returns-in_err-begin c).Start in
     let v = s.args in
     let same : c.from_residual.result ≡ Err c.in_err-begin.field-0.0 = search rules in
-    let end = ends_at_box1 v.n v.pair v.number (lent1 s) (lent2 s) c.in_err-begin.field-0.0 _ _ c.in_err-begin.ensures in
-    rw same (record { ended = end; right = ended_right v.n v.pair v.number (lent1 s) (lent2 s) (Err c.in_err-begin.field-0.0) _ _ end })
+    let end = ends_at_box1 v.job.n v.job.pair v.job.number (lent1 s) (lent2 s) c.in_err-begin.field-0.0 _ _ c.in_err-begin.ensures in
+    rw same (record { ended = end; right = ended_right v.job.n v.job.pair v.job.number (lent1 s) (lent2 s) (Err c.in_err-begin.field-0.0) _ _ end })
 
 pub returns-in_err-begin-2 : goal.returns-in_err-begin-2
 returns-in_err-begin-2 c =
@@ -41,8 +41,8 @@ returns-in_err-begin-2 c =
     let v = s.args in
     let same : c.from_residual-in_err-begin-2.result ≡ Err c.in_err-begin-2.field-0.0 = search rules in
     let end =
-    ends_at_box2 v.n v.pair v.number (lent1 s) (lent2 s) _ _ c.in_ok-begin.ensures c.in_err-begin-2.field-0.0 _ _ c.in_err-begin-2.ensures in
-    rw same (record { ended = end; right = ended_right v.n v.pair v.number (lent1 s) (lent2 s) (Err c.in_err-begin-2.field-0.0) _ _ end })
+    ends_at_box2 v.job.n v.job.pair v.job.number (lent1 s) (lent2 s) _ _ c.in_ok-begin.ensures c.in_err-begin-2.field-0.0 _ _ c.in_err-begin-2.ensures in
+    rw same (record { ended = end; right = ended_right v.job.n v.job.pair v.job.number (lent1 s) (lent2 s) (Err c.in_err-begin-2.field-0.0) _ _ end })
 
 pub invariant_of-n : goal.invariant_of-n
 invariant_of-n c =
@@ -61,6 +61,6 @@ returns c =
     let s = (goal.at.returns c).Start in
     let v = s.args in
     let end =
-    ends_opened v.n v.pair v.number (lent1 s) (lent2 s) _ _ c.in_ok-begin.ensures _ _ c.in_ok-begin-2.ensures
+    ends_opened v.job.n v.job.pair v.job.number (lent1 s) (lent2 s) _ _ c.in_ok-begin.ensures _ _ c.in_ok-begin-2.ensures
     c.opened.result c.opened.ensures.0 c.opened.ensures.1 in
-    record { ended = end; right = ended_right v.n v.pair v.number (lent1 s) (lent2 s) c.opened.result _ _ end }
+    record { ended = end; right = ended_right v.job.n v.job.pair v.job.number (lent1 s) (lent2 s) c.opened.result _ _ end }

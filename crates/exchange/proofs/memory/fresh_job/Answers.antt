@@ -8,6 +8,6 @@ pub returns : goal.returns
 unfolding fresh_job
 returns c =
     let a = c.args in
-    let told : ended c.less.result _ _ ≡ fresh_job a.n a.pair a.number a.box1 a.box2 a.t1.now a.t2.now =
+    let told : ended c.less.result _ _ ≡ fresh_job a.job.n a.job.pair a.job.number a.job.box1 a.job.box2 a.t1.now a.t2.now =
     c.less.ensures.ended ∙ rw (c.blank_work-w1.ensures.1, c.blank_work-w2.ensures.1, c.blank_words-o1.ensures.1, c.blank_words-o2.ensures.1) in
     record { refusal = ap (λ (j : Ended). j.refusal) told; less = ap (λ (j : Ended). j.less) told }
