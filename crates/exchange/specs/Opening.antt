@@ -19,16 +19,6 @@ refusal_of (share v) = 0
 refusal_of dropped = 0
 refusal_of (refused k) = k
 
--- the answer share, and 0 for any other reply
-abbrev pub share_of : Reply → ℕ
-share_of (fresh k) = 0
-share_of started = 0
-share_of (spoke k) = 0
-share_of heard = 0
-share_of (share v) = v
-share_of dropped = 0
-share_of (refused k) = 0
-
 -- the start's result, or the wake's where that is refused
 unfoldable pub begun : State → ℕ → ℕ → ℕ → ℕ → ℕ → ℕ → List ℕ → List ℕ → List ℕ → Result
 begun s n side pair number x y tape work tally =

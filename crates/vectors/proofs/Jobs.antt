@@ -11,11 +11,11 @@ use Rattle.refusals.specs.Numbers.{number_of}
 use Rattle.refusals.specs.declared.Refusal.{Refusal}
 use Rattle.refusals.proofs.Numbers.{numbered}
 use Rattle.tape.specs.Layout.{tape_length}
-use Rattle.rules.specs.Answers.{Reply, started, share, heard_or_share, reply_of}
+use Rattle.rules.specs.Answers.{started, share, heard_or_share, reply_of}
 use Rattle.rules.specs.Calls.{Result as Called, outcome, party_of}
 use Rattle.rules.specs.declared.state.State.{State}
 use Rattle.exchange.specs.declared.Shares.{Shares}
-use Rattle.exchange.specs.Opening.{first_state, refusal_of, share_of, begun}
+use Rattle.exchange.specs.Opening.{first_state, refusal_of, begun}
 use Rattle.exchange.specs.Boxes.{Ready}
 use Rattle.exchange.proofs.Begun.{Begun, begin_ready}
 use Rattle.protocol.specs.Products.{party}
@@ -53,7 +53,7 @@ module _ (job : Job) (side : ℕ) (own : Shares) (tape work tally : List ℕ) (a
 
 -- a hear whose reply is an answer share gave that share
 pub share_told : (answer : Result (Option ℕ) Refusal) (word : ℕ) → reply_of heard_or_share answer ≡ share word → share_in answer ≡ Some word
-share_told (Ok (Some own)) word told = ap (λ (r : Reply). Some (share_of r)) told
+share_told (Ok (Some own)) word told = ap Some (cc)
 share_told (Ok None) word told = absurd (cc)
 share_told (Err refusal) word told = absurd (cc)
 
