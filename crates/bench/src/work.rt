@@ -73,7 +73,7 @@ fn check(n: u32, turn: u32, t1: &[u32], t2: &[u32]) -> bool
     }
 }
 
-// Checks: how many found both tapes in order.
+// Checks: how many found both tapes in order. As jobs is, but for the test and what it says of the count: one for both would take both clauses.
 pub fn checks(n: u32, count: u32, t1: &[u32], t2: &[u32]) -> u32
     ensures value { result ≡ count * indicator (both_in_order n t1.now t2.now) }
     ensures dealt { Dealt n 1 0 t1.now t2.now → result ≡ count }

@@ -1,4 +1,5 @@
-// What a box works out when it has heard a round's words.
+// What a box works out when it has heard a round's words. That these can be read and how many they are, and the room of work, stand in each clause: each
+// function asks for as many words as it reads, so with a type for heard words a clause would still stand beside it.
 ghost use Rattle.std.specs.Prelude.{◌≡◌, ◌+◌, ◌*◌, ◌%◌, ◌<◌, ◌≤◌, length, get_or, IfSome};
 ghost use Rattle.std.proofs.lemmas.List.Edits.{sets};
 ghost use Rattle.lists.specs.Tabulate.{tabulate};

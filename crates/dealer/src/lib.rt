@@ -1,9 +1,8 @@
 // Tapes for programs that run both boxes in one memory: the trailer of any tape, and the plain tapes of document 01's plainrun.
 #![tactic(auto)]
 
-ghost use Rattle.std.specs.Prelude.{◌≡◌, true, ◌&&◌, cond, ◌≤◌, eqb, leb, ltb, length};
+ghost use Rattle.std.specs.Prelude.{◌≡◌, ◌≤◌, length};
 ghost use Rattle.std.proofs.lemmas.List.Edits.{sets};
-ghost use Rattle.field.specs.Width.{listed};
 ghost use Rattle.lists.specs.Tabulate.{tabulate};
 ghost use Rattle.tape.specs.Layout.{body_length, tape_length, trailer as tail};
 ghost use Rattle.tape.specs.Plain.{plain_word, plain_tape};

@@ -1,9 +1,9 @@
 // The groups of a body, by their kind: box 1's words and some of box 2's are drawn, and the others are what the equations leave.
 // Both boxes' words go side by side as two slices: in a struct of both each step would lend each of them anew, and every clause is of one box.
-ghost use Rattle.std.specs.Prelude.{◌≡◌, true, ℕ, ◌+◌, ◌-◌, ◌*◌, ◌^◌, ◌<◌, ◌≤◌, length, get_or};
+ghost use Rattle.std.specs.Prelude.{◌≡◌, ℕ, ◌+◌, ◌-◌, ◌*◌, ◌^◌, ◌<◌, ◌≤◌, length, get_or};
 ghost use Rattle.std.proofs.lemmas.List.Edits.{sets};
 ghost use Rattle.lists.specs.Tabulate.{tabulate};
-ghost use Rattle.field.specs.Width.{listed, modulus};
+ghost use Rattle.field.specs.Width.{modulus};
 ghost use Rattle.field.specs.Subtraction.{minus};
 ghost use Rattle.draws.specs.Draws.{draw};
 ghost use Rattle.deals.specs.Groups.{groups_of, group_length, group_draws, group_word};

@@ -1,6 +1,5 @@
 // The kinds of groups in a body, and how many groups and words a tape has of each.
-ghost use Rattle.std.specs.Prelude.{◌≡◌, true};
-ghost use Rattle.field.specs.Width.{listed};
+ghost use Rattle.std.specs.Prelude.{◌≡◌};
 ghost use Rattle.deals.specs.Groups.{groups_of, group_length};
 ghost use Rattle.deals.specs.Deals.{kind_length};
 ghost use Rattle.deals.specs.Kinds.{number_of};

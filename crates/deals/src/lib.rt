@@ -1,9 +1,8 @@
 // The test dealer of document 02's P1 and P7: both tapes of a tape number, from a seed.
 #![tactic(auto)]
 
-ghost use Rattle.std.specs.Prelude.{◌≡◌, true, length, IfOk};
+ghost use Rattle.std.specs.Prelude.{◌≡◌, length, IfOk};
 ghost use Rattle.std.proofs.lemmas.List.Edits.{sets};
-ghost use Rattle.field.specs.Width.{listed};
 ghost use Rattle.refusals.specs.Checks.{ground_of};
 ghost use Rattle.tape.specs.Layout.{tape_length};
 ghost use Rattle.deals.specs.Deals.{dealt_body, dealt_tape, deal_ground, deal_rule, outcome};
@@ -33,7 +32,8 @@ fn deal_check(seed: u32, n: u32, t1: &[u32], t2: &[u32]) -> Result<Width, Refusa
     Ok(n)
 }
 
-// The bodies of both tapes: the groups of a kind after those of another, each kind from the draws after the last one's.
+// The bodies of both tapes: the groups of a kind after those of another, each kind from the draws after the last one's. Both boxes' tapes go side by
+// side, here and below, as their words do in groups.
 fn bodies(seed: u32, n: Width, t1: &mut [u32], t2: &mut [u32])
     requires { (length t1.old ≡ tape_length n.bits) × (length t2.old ≡ tape_length n.bits) }
     ensures box1 { t1.new ≡ sets t1.old 0 (dealt_body seed n.bits 1) }

@@ -1,9 +1,8 @@
 // Marsaglia's 32-bit xorshift generator, and words drawn from it.
 #![tactic(auto)]
 
-ghost use Rattle.std.specs.Prelude.{◌≡◌, true, suc, length};
+ghost use Rattle.std.specs.Prelude.{◌≡◌, suc, length};
 ghost use Rattle.lists.specs.Tabulate.{tabulate};
-ghost use Rattle.field.specs.Width.{listed};
 ghost use Rattle.draws.specs.Draws.{next, draw, word};
 
 use field::Width;

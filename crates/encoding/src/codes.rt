@@ -1,6 +1,6 @@
 // The encodings of a share, level by level: a range encoding at box 1, a point encoding at box 2.
-ghost use Rattle.std.specs.Prelude.{◌≡◌, true, ◌<◌};
-ghost use Rattle.field.specs.Width.{listed, modulus};
+ghost use Rattle.std.specs.Prelude.{◌≡◌, ◌<◌};
+ghost use Rattle.field.specs.Width.{modulus};
 ghost use Rattle.encoding.specs.Codes.{bit_of, range_code, level_code};
 
 use field::Width;

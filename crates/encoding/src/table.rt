@@ -1,6 +1,6 @@
 // The coefficients of P for all widths.
-ghost use Rattle.std.specs.Prelude.{◌≡◌, true, ℕ, ◌≤◌, length, get_or};
-ghost use Rattle.field.specs.Width.{listed, widths};
+ghost use Rattle.std.specs.Prelude.{◌≡◌, ℕ, ◌≤◌, length, get_or};
+ghost use Rattle.field.specs.Width.{widths};
 ghost use Rattle.encoding.specs.Polynomial.{coefficient, place_of};
 
 use field::Width;

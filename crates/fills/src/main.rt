@@ -105,6 +105,7 @@ fn boxes<'a>(
         ∷ [] }
     ensures widths { All (λ party. party.n.bits ≡ n.bits) result }
 {
+    // cut here: exchange, which cuts tapes for whole jobs, is not below this program
     let words = tape::tape_words(n);
     let t1 = &mut t1[..words];
     let t2 = &mut t2[..words];

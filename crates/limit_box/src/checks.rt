@@ -1,5 +1,6 @@
 // Each call's grounds of refusal, in document 01's order: the first that holds counts. A check reads what the call was lent and writes nothing. Where
-// none holds, a speak's and a hear's check give the box as the rounds know it, with what they showed of it.
+// none holds, a speak's and a hear's check give the box as the rounds know it, with what they showed of it. Each takes what its call takes, as document
+// 01 lists it.
 ghost use Rattle.std.specs.Prelude.{◌≡◌, IfOk};
 ghost use Rattle.refusals.specs.Grounds.{earliest_of};
 ghost use Rattle.refusals.specs.Checks.{ground_of};
@@ -48,7 +49,6 @@ pub fn start_check(
 }
 
 #[tactic(auto, unfolding(rules::specs::Grounds::speak_ground))]
-#[inline(always)]
 pub fn speak_check<'a>(
     state: State,
     number: u32,
@@ -64,7 +64,6 @@ pub fn speak_check<'a>(
 }
 
 #[tactic(auto, unfolding(rules::specs::Grounds::hear_ground))]
-#[inline(always)]
 pub fn hear_check<'a>(
     state: State,
     number: u32,

@@ -1,6 +1,5 @@
 // What a call's checks look at, one thing each.
-ghost use Rattle.std.specs.Prelude.{◌≡◌, true, not, [], ◌∷◌, length, IfOk};
-ghost use Rattle.field.specs.Width.{listed};
+ghost use Rattle.std.specs.Prelude.{◌≡◌, not, [], ◌∷◌, length, IfOk};
 ghost use Rattle.refusals.specs.declared.Refusal.TheVariants.{Busy};
 ghost use Rattle.refusals.specs.Grounds.{◌when◌, earliest_of};
 ghost use Rattle.refusals.specs.Checks.{ground_of};

@@ -50,7 +50,7 @@ pub fn start(
     Ok(())
 }
 
-// Writes the round's words at the front of out, and answers how many.
+// Writes the round's words at the front of out, and answers how many, as document 01 has it.
 #[tactic(auto, using(refusals::proofs::Numbers::numbered), unfolding(rules::specs::Calls::speak_rule))]
 pub fn speak(
     state: &mut State,

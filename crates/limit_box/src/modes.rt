@@ -1,6 +1,5 @@
 // What a state counts as. Outside document 01's ranges it counts as asleep.
 ghost use Rattle.std.specs.Prelude.{◌≡◌, true};
-ghost use Rattle.field.specs.Width.{listed};
 ghost use Rattle.rules.specs.Modes.{round_of, round_fits, phase_fits, in_range, mode_of, is_due};
 
 use field::Width;

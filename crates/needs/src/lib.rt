@@ -1,8 +1,7 @@
 // How much so many jobs need, told ahead and without running anything (document 02, P8).
 #![tactic(auto)]
 
-ghost use Rattle.std.specs.Prelude.{◌≡◌, true, ◌≤◌, length};
-ghost use Rattle.field.specs.Width.{listed};
+ghost use Rattle.std.specs.Prelude.{◌≡◌, ◌≤◌, length};
 ghost use Rattle.protocol.specs.Rounds.{last_round};
 ghost use Rattle.protocol.specs.Sizes.{most_jobs, count_fits, rounds_for};
 ghost use Rattle.needs.specs.Figures.{figures_for, needs_rule, figures_of, told};

@@ -1,9 +1,9 @@
 // Additive secret shares of two boxes: opening, and the shares of squares and products by dealt squares, Beaver triples and three masks.
 #![tactic(auto)]
 
-ghost use Rattle.std.specs.Prelude.{◌≡◌, true, ◌+◌, ◌*◌, ◌%◌, ◌<◌, ◌≤◌, length, get_or};
+ghost use Rattle.std.specs.Prelude.{◌≡◌, ◌+◌, ◌*◌, ◌%◌, ◌<◌, ◌≤◌, length, get_or};
 ghost use Rattle.lists.specs.Every.{every};
-ghost use Rattle.field.specs.Width.{listed, modulus};
+ghost use Rattle.field.specs.Width.{modulus};
 ghost use Rattle.shares.specs.Side.{is_side};
 ghost use Rattle.shares.specs.Reading.{legible};
 ghost use Rattle.shares.specs.Share.{constant_share, masked, opened, square_share, product_share, threefold_share};
