@@ -1,4 +1,4 @@
-// What a call answers: one type for all five.
+// What a call answers: one type for all five. Each call has its own function to it, as each clause names its own reply.
 ghost use Rattle.std.specs.Prelude.{◌≡◌};
 ghost use Rattle.rules.specs.Answers.{fresh, started, spoke, heard_or_share, dropped, reply_of};
 ghost use Rattle.walk.specs.Said.{as_reply};
@@ -38,20 +38,19 @@ pub type Answer = Result<Said, Refusal>;
 pub fn of_wake(answer: Result<u32, Refusal>) -> Answer
     ensures { reply_of as_reply result ≡ reply_of fresh answer }
 {
-    Ok(Said::Fresh(answer?))
+    answer.map(Said::Fresh)
 }
 
 pub fn of_start(answer: Result<(), Refusal>) -> Answer
     ensures { reply_of as_reply result ≡ reply_of (λ _. started) answer }
 {
-    answer?;
-    Ok(Said::Started)
+    answer.map(|()| Said::Started)
 }
 
 pub fn of_speak(answer: Result<usize, Refusal>) -> Answer
     ensures { reply_of as_reply result ≡ reply_of spoke answer }
 {
-    Ok(Said::Spoke(answer?))
+    answer.map(Said::Spoke)
 }
 
 pub fn of_hear(answer: Result<Option<u32>, Refusal>) -> Answer
@@ -66,6 +65,5 @@ pub fn of_hear(answer: Result<Option<u32>, Refusal>) -> Answer
 pub fn of_drop(answer: Result<(), Refusal>) -> Answer
     ensures { reply_of as_reply result ≡ reply_of (λ _. dropped) answer }
 {
-    answer?;
-    Ok(Said::Dropped)
+    answer.map(|()| Said::Dropped)
 }
