@@ -74,15 +74,7 @@ fn byte_of(bits: u32, place: u32) -> u8
 // Every kind of group: each byte is FF or 00.
 fn kinds(rt: &impl Print) -> io::Result<()> {
     for bits in 0..16 {
-        cut_in_write(
-            rt,
-            [
-                byte_of(bits, 0),
-                byte_of(bits, 1),
-                byte_of(bits, 2),
-                byte_of(bits, 3),
-            ],
-        )?;
+        cut_in_write(rt, std::array::from_fn(|place| byte_of(bits, place as u32)))?;
     }
     Ok(())
 }
