@@ -26,7 +26,7 @@ fn deal(seed: u32, n: u32, t1: &mut [u32], t2: &mut [u32]) -> Attempt
     }
 }
 
-// Into buffers of so many words.
+// Into buffers of so many words: without a heap the room is of one size, and what is shorter uses its first words.
 #[tactic(auto, using(crate::proofs::Deals::front, crate::proofs::Deals::whole))]
 fn sized(seed: u32, n: u32, words1: usize, words2: usize) -> Attempt
     requires { (words1 ≤ 150) × (words2 ≤ 150) }

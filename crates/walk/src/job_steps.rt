@@ -16,7 +16,7 @@ pub enum Step {
 pub const LAST: u32 = 2 * compare::words::LAST_ROUND + 1;
 
 impl Step {
-    // The step of that number.
+    // The step of that number. Steps are counted, since cuts and drops go through all of them, `0..=LAST`.
     pub fn at(number: u32) -> Step
         ensures { result ≡ step_at number }
     {
