@@ -9,23 +9,14 @@ use crate::progress::Pair;
 use crate::{job_steps, progress};
 use std::io;
 
-// What that box answered last.
-fn answer_of(pair: Pair, side: u32) -> Answer
-    ensures { (side ≡ 1 → result ≡ pair.box1.answer) × ((side ≡ 1 → ⊥) → result ≡ pair.box2.answer) }
+// What one of the boxes answers at each step.
+fn answers<F: Fn(Pair) -> Answer>(rt: &impl Print, label: &str, last_of: F) -> io::Result<()>
+    requires { F.IsAlwaysCallable last_of }
 {
-    if side == 1 {
-        pair.box1.answer
-    } else {
-        pair.box2.answer
-    }
-}
-
-// What a box answers at each step.
-fn answers(rt: &impl Print, side: u32) -> io::Result<()> {
-    print!(rt; "box {side}:")?;
+    print!(rt; "{label}:")?;
     for step in 0..=job_steps::LAST {
         print!(rt; " ")?;
-        crate::say::answer(rt, answer_of(progress::reached(step), side))?;
+        crate::say::answer(rt, last_of(progress::reached(step)))?;
     }
     println!(rt)
 }
@@ -44,6 +35,7 @@ fn openings(rt: &impl Print, round: u32) -> io::Result<()>
     let pair = progress::reached(2 * round);
     let count = crate::five::words(round);
     print!(rt; "round {round} opens")?;
+    // Without a heap the room for a message is of one size, and a shorter one is its first words.
     for (&word1, &word2) in pair.box1.out[..count].iter().zip(&pair.box2.out[..count]) {
         print!(rt; " {}", opened(word1, word2))?;
     }
@@ -62,8 +54,8 @@ fn share_in(answer: Answer) -> Option<u32>
 
 pub fn lines(rt: &impl Print) -> io::Result<()> {
     println!(rt; "a whole job, x 3 and y 4")?;
-    answers(rt, 1)?;
-    answers(rt, 2)?;
+    answers(rt, "box 1", |pair| pair.box1.answer)?;
+    answers(rt, "box 2", |pair| pair.box2.answer)?;
     openings(rt, 4)?;
     openings(rt, 5)?;
     let last = progress::reached(job_steps::LAST);
