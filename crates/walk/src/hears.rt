@@ -10,6 +10,7 @@ ghost use Rattle.walk.specs.Walk.{box_tape, job_state, filler, Answered};
 use crate::calls::{FILLER, Tried, hear};
 use crate::five::hear_on;
 use crate::say::line;
+use crate::speaks::tapes_lent;
 use crate::{states, tapes};
 use rules::state::FIRST;
 use std::io;
@@ -28,14 +29,6 @@ fn on_tape(tape: &[u32]) -> Tried
 {
     let mut work = [FILLER; 100];
     hear(states::spoken(), 0, 1, tape, &mut work, &[0; 33])
-}
-
-fn tapes_lent(rt: &impl Print) -> io::Result<()> {
-    let other = tapes::plain(2, 0);
-    let high = tapes::changed(141, 7);
-    line(rt, "hear, tape of 148 words: ", on_tape(&tapes::short()))?;
-    line(rt, "hear, the other box's tape: ", on_tape(&other))?;
-    line(rt, "hear, last body word 7: ", on_tape(&high))
 }
 
 // The hear that is due, of these words.
@@ -79,7 +72,7 @@ pub fn of_changed(place: usize, word: u32) -> Tried
 
 pub fn lines(rt: &impl Print) -> io::Result<()> {
     turns(rt)?;
-    tapes_lent(rt)?;
+    tapes_lent(rt, "hear", on_tape)?;
     rooms(rt)?;
     line(rt, "hear, first word 7: ", of_changed(0, 7))?;
     line(rt, "hear, first word 8: ", of_changed(0, 8))?;

@@ -30,12 +30,22 @@ fn on_tape(tape: &[u32]) -> Tried
     speak(states::opened(), 0, 1, tape, &[0; 100], &mut out)
 }
 
-fn tapes_lent(rt: &impl Print) -> io::Result<()> {
+// The call that is due, this one or a hear, lent tapes that it refuses.
+pub fn tapes_lent<F: Fn(&[u32]) -> Tried>(rt: &impl Print, call: &str, on_tape: F) -> io::Result<()>
+    requires { F.IsAlwaysCallable on_tape }
+{
+    let short = tapes::short();
     let other = tapes::plain(2, 0);
     let high = tapes::changed(141, 7);
-    line(rt, "speak, tape of 148 words: ", on_tape(&tapes::short()))?;
-    line(rt, "speak, the other box's tape: ", on_tape(&other))?;
-    line(rt, "speak, last body word 7: ", on_tape(&high))
+    for (what, tape) in [
+        ("tape of 148 words", &short[..]),
+        ("the other box's tape", &other),
+        ("last body word 7", &high),
+    ] {
+        print!(rt; "{call}, {what}")?;
+        line(rt, ": ", on_tape(tape))?;
+    }
+    Ok(())
 }
 
 fn rooms(rt: &impl Print) -> io::Result<()> {
@@ -56,6 +66,6 @@ fn rooms(rt: &impl Print) -> io::Result<()> {
 
 pub fn lines(rt: &impl Print) -> io::Result<()> {
     turns(rt)?;
-    tapes_lent(rt)?;
+    tapes_lent(rt, "speak", on_tape)?;
     rooms(rt)
 }
