@@ -58,8 +58,7 @@ impl BoxMemory {
         self.answer = answers::of_speak(answer);
     }
 
-    // The words of the message stand at the front of these, as in the other box's out: without a heap the room is of one size, and what is shorter uses
-    // its first words.
+    // The message is the first words of these, as in the other box's out: without a heap the room is of one size.
     pub fn hear(&mut self, tape: &[u32], round: u32, incoming: [u32; 33])
         ensures { After self.new self.new.work (hear_rule self.old.state 0 round tape.now self.old.work (take (round_words 3 round) incoming))
             × (self.new.tally ≡ self.old.tally) × (self.new.out ≡ self.old.out) }
