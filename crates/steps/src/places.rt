@@ -68,8 +68,5 @@ pub fn square_count(n: Width) -> usize
 pub fn beyond(place: usize, start: usize) -> usize
     ensures { result ≡ place - start }
 {
-    if place <= start {
-        return 0;
-    }
-    place - start
+    place.saturating_sub(start)
 }

@@ -10,7 +10,8 @@ ghost use Rattle.protocol.specs.Products.{closed, alternating};
 
 use field::Width;
 
-// The dealt triples of a width.
+// The dealt triples of a width. Their length stands in the clauses, not in the type as for Squares and Powers: open_products and
+// close_products serve shorter words too, and the type would ask more of their callers.
 #[derive(Clone, Copy)]
 pub struct Triples<'a> {
     pub n: Width,

@@ -24,8 +24,8 @@ fn opening(n: Width, side: u32, code: u32, k: u32, mask: u32) -> u32
     n.sub(shares::constant(side, 1), taken)
 }
 
-// Opens the bits of a code from bit `low` up, from the last one down. The squares and out are lent from the code's first one on: with the place of
-// the code's group added to each index, this takes a fifth longer at width 31.
+// Opens the bits of a code from bit `low` up, from the last one down. The squares and out are lent from the code's first one on: tried with the
+// place of the code's group added to each index, this takes a fifth longer at width 31.
 fn open_bits(n: Width, side: u32, code: u32, squares: &[u32], low: usize, out: &mut [u32])
     requires operands { low ≤ n.bits }
     requires below { Below (modulus n.bits) squares.now × (n.bits * 2 ≤ length squares.now) × (n.bits ≤ length out.old) }
@@ -161,7 +161,7 @@ impl Squares<'_> {
     }
 }
 
-// The test of group g. Groups stand in the order test, level; two comparisons take less time than a division.
+// The test of group g. Groups stand in the order test, level. Two comparisons: tried with a division, this takes longer.
 fn test_of(n: Width, g: usize) -> usize
     requires { g < group_count n.bits }
     ensures { result ≡ g / n.bits }
