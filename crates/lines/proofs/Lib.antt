@@ -1,4 +1,4 @@
-pub mod FirstPlace
+pub mod FirstLine
 pub mod Values
 pub mod Numbers
 pub mod Parts

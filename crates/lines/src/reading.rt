@@ -1,17 +1,9 @@
 // A text's first line as so many decimal numbers.
-ghost use Rattle.std.specs.Prelude.{◌≡◌, true, ◌&&◌, ◌<◌, ◌≤◌, ltb, length, if◌then◌else◌, IsSome, ◌↔◌};
-ghost use Rattle.lines.specs.Reading.{earliest_of, all_digits, value_of, is_number, is_numbers, numbers_of, is_line, line_numbers};
+ghost use Rattle.std.specs.Prelude.{◌≡◌, true, ◌&&◌, ltb, length, if◌then◌else◌, IsSome, ◌↔◌};
+ghost use Rattle.lines.specs.Reading.{all_digits, value_of, is_number, is_numbers, numbers_of, is_line, line_numbers};
 
 // A part of one byte may be the digit 0; in a longer one it would lead.
 const ONE_BYTE: usize = 1;
-
-// The place of the first byte b, and the text's length where there is none.
-fn first_of(text: &[u8], b: u8) -> usize
-    ensures value { result ≡ earliest_of b text.now }
-    ensures most { result ≤ length text.now }
-{
-    text.iter().position(|&c| c == b).unwrap_or(text.len())
-}
 
 // The value of digits, where it fits 32 bits.
 #[tactic(auto, using(crate::proofs::Values::readings))]
@@ -54,13 +46,12 @@ fn numbers_on(line: &[u8], numbers: &mut [u32]) -> Option<()>
     }
 }
 
-// A text's first line as so many numbers. What stands after the first newline isn't looked at.
-#[tactic(auto, unfolding(crate::specs::Reading::line_of))]
+// A text's first line as so many numbers. What stands after the first newline isn't looked at. `split` always gives a first part.
 pub fn numbers_of<const N: usize>(text: &[u8]) -> Option<[u32; N]>
     ensures { result ≡ (if is_line N text.now then Some (line_numbers text.now) else None) }
 {
     let mut numbers = [0; N];
-    let end = first_of(text, b'\n');
-    numbers_on(&text[..end], &mut numbers)?;
+    let line = text.split(|&b| b == b'\n').next()?;
+    numbers_on(line, &mut numbers)?;
     Some(numbers)
 }
