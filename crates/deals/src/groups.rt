@@ -42,6 +42,7 @@ fn product(n: Width, v: u32, w1: &mut [u32], w2: &mut [u32]) -> u32
 }
 
 // Box 2's words of a power group, given box 1's: what is left of w, r, r^2, .., r^n.
+// w1 by places: a zip of w2's iter_mut and w1 was tried, and its proof did not close: the invariant has no name for what such a loop has written.
 fn left_powers(n: Width, w: u32, r: u32, w1: &[u32], w2: &mut [u32])
     requires operands { (w < modulus n.bits) × (r < modulus n.bits) × (length w2.old ≡ length w1.now) }
     requires below { (j : ℕ) → j < length w1.now → get_or w1.now j 0 < modulus n.bits }

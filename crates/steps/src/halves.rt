@@ -13,6 +13,7 @@ use shares::Masks;
 
 impl Triples<'_> {
     // The words that open the half tests, at the front of out. v are the box's shares of H, U and Z.
+    // By places: a zip was tried, and its proof did not close, as in `send_levels`.
     pub fn open_halves(self, v: [u32; 3], out: &mut [u32])
         requires below { Below (modulus self.n.bits) v }
         requires places { (triple_count self.n.bits * 3 + 7 ≤ length self.words.now) × (3 ≤ length out.old) }

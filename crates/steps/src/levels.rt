@@ -12,6 +12,7 @@ ghost use Rattle.protocol.specs.Levels.{level_match, wrap_share};
 use field::Width;
 
 // The shares of d, as they are sent.
+// By places: a zip of out's iter_mut and work was tried, and its proof did not close: the invariant has no name for what such a loop has written.
 pub fn send_levels(n: Width, work: &[u32], out: &mut [u32])
     requires { (group_count n.bits ≤ length work.now) × (group_count n.bits ≤ length out.old) }
     ensures { out.new ≡ sets out.old 0 (tabulate (group_count n.bits) (held n.bits work.now)) }
