@@ -1,12 +1,11 @@
 // One call of a box on copies of its buffers: what it answered, and whether all is as it was.
-ghost use Rattle.std.specs.Prelude.{◌≡◌, true, ◌&&◌, [], eqb, length, take};
-ghost use Rattle.protocol.specs.Rounds.{round_words};
+ghost use Rattle.std.specs.Prelude.{◌≡◌, true, ◌&&◌, [], eqb, length};
 ghost use Rattle.refusals.specs.Numbers.{number_of};
 ghost use Rattle.rules.specs.Answers.{reply_of};
 ghost use Rattle.exchange.specs.Opening.{refusal_of};
 ghost use Rattle.rules.specs.Calls.{wake_rule, start_rule, speak_rule, hear_rule, drop_rule};
 ghost use Rattle.walk.specs.Said.{as_reply};
-ghost use Rattle.walk.specs.Walk.{box_tape, filler, Answered};
+ghost use Rattle.walk.specs.Walk.{filler, Answered};
 
 use crate::answers;
 use crate::answers::Answer;

@@ -1,10 +1,9 @@
 // Both boxes step by step through a job on tape 0.
-ghost use Rattle.std.specs.Prelude.{◌≡◌, ◌<◌, ◌≤◌, take};
+ghost use Rattle.std.specs.Prelude.{◌≡◌, take};
 ghost use Rattle.lists.specs.Tabulate.{tabulate};
 ghost use Rattle.protocol.specs.Rounds.{round_words};
 ghost use Rattle.rules.specs.Calls.{wake_rule, start_rule, speak_rule, hear_rule};
 ghost use Rattle.exchange.specs.Opening.{first_state};
-ghost use Rattle.walk.specs.JobSteps.{step_at};
 ghost use Rattle.walk.specs.Walk.{fresh_tally, box_tape, tally_after, After};
 ghost use Rattle.walk.specs.declared.job_steps.Step.TheVariants.{Start};
 
