@@ -161,7 +161,8 @@ impl Squares<'_> {
     }
 }
 
-// The test of group g. Groups stand in the order test, level. Two comparisons: tried with a division, this takes longer.
+// The test of group g. Groups stand in the order test, level. Two comparisons: tried with a division, a whole job
+// takes 1 to 3 hundredths longer at widths 3 and 7, and as long at width 31.
 fn test_of(n: Width, g: usize) -> usize
     requires { g < group_count n.bits }
     ensures { result ≡ g / n.bits }
