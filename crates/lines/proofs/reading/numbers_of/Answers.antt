@@ -9,7 +9,8 @@ use Rattle.lines.proofs.reading.numbers_of.Goals as goal
 first_part : (g : _) (c : In_ok-line g) → c.in_ok-line.line.now ≡ line_of c.args.text.now
 first_part g c =
     let took = rw (c.split.ensures.rest) at c.in_ok-line.ensures.steps in
-    line_next c.args.text.now c.in_ok-line.line.now c.next.new.self.rest.now c.next.new.self.done took.1 (took.2 is_newline (always_returns_same _ _ _ (λ a r q k. search rules))).1
+    let first = took.2 is_newline (always_returns_same _ _ _ (λ a r q k. search rules)) in
+    line_next c.args.text.now c.in_ok-line.line.now c.next.new.self.rest.now c.next.new.self.done took.1 first.1
 
 pub returns-in_err-numbers_on : goal.returns-in_err-numbers_on
 returns-in_err-numbers_on g c =
