@@ -23,11 +23,7 @@ const BOX1: Label = Label {
     number: NUMBER,
 };
 
-const BOX2: Label = Label {
-    pair: PAIR,
-    side: 2,
-    number: NUMBER,
-};
+const BOX2: Label = Label { side: 2, ..BOX1 };
 
 // What is done often: whole jobs, or checks of a job's tapes.
 #[derive(Clone, Copy, Debug, PartialEq, Eq)]

@@ -17,11 +17,7 @@ const BOX1: Label = Label {
     number: NUMBER,
 };
 
-const BOX2: Label = Label {
-    pair: PAIR,
-    side: 2,
-    number: NUMBER,
-};
+const BOX2: Label = Label { side: 2, ..BOX1 };
 
 // Where the tapes come from: the plain ones, or those dealt from a seed.
 #[derive(Clone, Copy, Debug, PartialEq, Eq)]

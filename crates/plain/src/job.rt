@@ -18,11 +18,7 @@ const BOX1: Label = Label {
     number: 0,
 };
 
-const BOX2: Label = Label {
-    pair: 1,
-    side: 2,
-    number: 0,
-};
+const BOX2: Label = Label { side: 2, ..BOX1 };
 
 // On plain tapes, one fresh one for each box.
 #[tactic(auto, using(crate::proofs::FirstRefusal::first_refusal, crate::proofs::FirstRefusal::right_answer))]
