@@ -1,6 +1,6 @@
 // Memory for jobs of any width: room for the longest tape, work and message, and a job with buffers of its own. There is no heap, so a job of a narrower
 // width uses the first words of each.
-ghost use Rattle.std.specs.Prelude.{◌≡◌, true, ◌+◌, ◌%◌, ◌<◌, ◌&&◌, eqb, ltb, length};
+ghost use Rattle.std.specs.Prelude.{◌≡◌, true, ◌+◌, ◌%◌, ◌<◌, ◌&&◌, eqb, ltb, length, take};
 ghost use Rattle.field.specs.Width.{modulus};
 ghost use Rattle.tape.specs.Layout.{tape_length};
 ghost use Rattle.tape.specs.Dealt.{Dealt};
@@ -26,7 +26,8 @@ pub fn blank_tape() -> [u32; 9053]
 // The first words of such room, as many as a tape of this width has.
 #[tactic(auto, using(tape::proofs::Sizes::small))]
 pub fn tape_room(n: Width, room: &mut [u32; 9053]) -> &mut [u32]
-    ensures { length result.now ≡ tape_length n.bits }
+    ensures first { result.now ≡ take (tape_length n.bits) room.old }
+    ensures long { length result.now ≡ tape_length n.bits }
 {
     let len = tape::tape_words(n);
     &mut room[..len]
