@@ -26,14 +26,14 @@ use Rattle.rules.specs.declared.state.Turn.TheVariants.{Speak, Hear}
 use Rattle.rules.specs.declared.state.State.{State}
 use Rattle.rules.proofs.Ranges.{awake_listed}
 use Rattle.rules.proofs.Passed.{speak_passed}
-use Rattle.needs.specs.Figures.{Figures, figures_for, needs_rule}
+use Rattle.needs.specs.Figures.{Figures, figures_for, needs_ground, needs_rule}
 use Rattle.needs.specs.AsRun.{before, Reached, tape_needed, round_needed, work_needed, TapeAsRun, SpeakAsRun, HearAsRun, times, AsRun}
-use Rattle.needs.proofs.Grounds.{no_ground, taken}
 
 -- ---- what one job needs
 
 figures_are : (n count : ℕ) → listed n ≡ true → count_fits count ≡ true → needs_rule n count ≡ figures_for n count
-figures_are n count width fits = taken n count (no_ground n count width fits)
+unfolding needs_ground needs_rule
+figures_are n count width fits = rw (width, fits) refl
 
 one_fits : count_fits 1 ≡ true
 unfolding count_fits

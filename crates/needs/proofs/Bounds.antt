@@ -33,3 +33,5 @@ module _ (n count : ℕ) (width : listed n ≡ true) (few : count ≤ most_jobs)
 
   pub work_most : work_for n count ≤ 3488
   work_most = mul-le-mul few (one_work n width)
+
+pub ruleset bounds = (one_tape, one_work, tape_most, round_most, work_most)

@@ -1,3 +1,3 @@
-mod Grounds
 mod Bounds
 pub mod AsRun
+mod Examples

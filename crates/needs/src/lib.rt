@@ -1,9 +1,8 @@
 // How much so many jobs need, told ahead and without running anything (document 02, P8).
 #![tactic(auto)]
 
-ghost use Rattle.std.specs.Prelude.{◌≡◌, ◌≤◌, length};
-ghost use Rattle.protocol.specs.Rounds.{last_round};
-ghost use Rattle.protocol.specs.Sizes.{most_jobs, count_fits, rounds_for};
+ghost use Rattle.std.specs.Prelude.{◌≡◌, ◌≤◌};
+ghost use Rattle.protocol.specs.Sizes.{most_jobs, count_fits, round_for, rounds_for};
 ghost use Rattle.needs.specs.Figures.{figures_for, needs_rule, figures_of, told};
 
 use field::Width;
@@ -28,35 +27,38 @@ pub fn count_fits(count: u32) -> bool
     (1..=MOST_JOBS).contains(&count)
 }
 
-// The words of every round, so many times.
-pub fn fill_rounds(n: Width, count: u32, rounds: &mut [u32])
-    requires { (count ≤ most_jobs) × (length rounds.old ≡ last_round) }
-    ensures { rounds.new ≡ rounds_for n.bits count }
+// The words of a round, so many times.
+#[tactic(auto, using(crate::proofs::Bounds::bounds, protocol::proofs::Lengths::words_most))]
+fn round_of(n: Width, count: u32, round: u32) -> u32
+    requires { count ≤ most_jobs }
+    ensures { result ≡ round_for n.bits count round }
 {
-    for (k, words) in rounds.iter_mut().enumerate() {
-        let once = compare::words::words_of(n, k as u32 + 1) as u32;
-        *words = count * once;
-    }
+    count * compare::words::words_of(n, round) as u32
+}
+
+// Of every round, the first one first.
+pub fn rounds_of(n: Width, count: u32) -> [u32; 5]
+    requires { count ≤ most_jobs }
+    ensures { result ≡ rounds_for n.bits count }
+{
+    [1, 2, 3, 4, 5].map(|round| round_of(n, count, round))
 }
 
 // The figures of a listed width.
+#[tactic(auto, using(crate::proofs::Bounds::bounds))]
 fn figures(n: Width, count: u32) -> Needs
     requires { count ≤ most_jobs }
     ensures { figures_of result ≡ figures_for n.bits count }
 {
-    let mut rounds = [0u32; 5];
-    fill_rounds(n, count, &mut rounds);
-    let tape = tape::tape_words(n) as u32;
-    let work = compare::words::work_words(n.bits) as u32;
     Needs {
-        tape: count * tape,
-        rounds,
-        work: count * work,
+        tape: count * tape::tape_words(n) as u32,
+        rounds: rounds_of(n, count),
+        work: count * compare::words::work_words(n.bits) as u32,
     }
 }
 
 // The figures, or refused: the grounds are 2, 16.
-#[tactic(auto, using(refusals::proofs::Numbers::numbered), unfolding(crate::specs::Figures::needs_ground, crate::specs::Figures::needs_rule))]
+#[tactic(auto, using(refusals::proofs::Numbers::numbered, crate::proofs::Bounds::most_jobs_lem), unfolding(crate::specs::Figures::needs_ground, crate::specs::Figures::needs_rule))]
 pub fn words_for(n: u32, count: u32) -> Result<Needs, Refusal>
     ensures { told result ≡ needs_rule n count }
 {

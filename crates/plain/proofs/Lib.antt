@@ -1,3 +1,2 @@
-mod Counts
 mod FirstRefusal
 mod Texts

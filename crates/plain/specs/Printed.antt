@@ -1,10 +1,10 @@
 -- What plainrun prints for a text (document 01, "The plainrun program"). Texts are lists of bytes.
-use Rattle.std.specs.Prelude.{ℕ, zero, suc, ◌+◌, ◌%◌, ◌&&◌, cond, List, [], ◌∷◌, ◌++◌, eqb, leb, ltb, get_or}
+use Rattle.std.specs.Prelude.{ℕ, ◌+◌, ◌%◌, ◌&&◌, cond, List, [], ◌∷◌, ◌++◌, eqb, leb, ltb, get_or}
 use Rattle.field.specs.Width.{listed, modulus}
 use Rattle.encoding.specs.Matching.{indicator}
-use Rattle.protocol.specs.Rounds.{last_round, round_words}
+use Rattle.protocol.specs.Sizes.{rounds_for}
 use Rattle.lines.specs.Reading.{is_line, line_numbers}
-use Rattle.lines.specs.Writing.{decimal, refused_text}
+use Rattle.lines.specs.Writing.{named, row, refused_text}
 
 -- the number of the first refusal, 0 where there is none: 2 for a width that is not listed or is above 13, 9 for a share that is p or more
 unfoldable pub plain_refusal : ℕ → ℕ → ℕ → ℕ → ℕ → ℕ
@@ -21,19 +21,11 @@ plain_less n x1 x2 y1 y2 = indicator (ltb ((x1 + x2) % modulus n) ((y1 + y2) % m
 unfoldable pub plain_answer : ℕ → ℕ → ℕ → ℕ → ℕ → ℕ
 plain_answer n x1 x2 y1 y2 = cond (eqb (plain_refusal n x1 x2 y1 y2) 0) (plain_less n x1 x2 y1 y2) 0
 
--- a space and the words of a round, for the first so many rounds
-unfoldable pub counts : ℕ → ℕ → List ℕ
-counts n zero = []
-counts n (suc r) = counts n r ++ (32 ∷ []) ++ decimal (round_words n (suc r))
-
--- `rounds`, the counts of all rounds, a newline; `less `, the answer, a newline
+-- the words of each round, by the figures for one job (document 02, P8); then x < y
 unfoldable pub answer_text : ℕ → ℕ → List ℕ
 answer_text n less =
-    (114 ∷ 111 ∷ 117 ∷ 110 ∷ 100 ∷ 115 ∷ [])
-    ++ counts n last_round
-    ++ (10 ∷ 108 ∷ 101 ∷ 115 ∷ 115 ∷ 32 ∷ [])
-    ++ decimal less
-    ++ (10 ∷ [])
+    row (114 ∷ 111 ∷ 117 ∷ 110 ∷ 100 ∷ 115 ∷ []) (rounds_for n 1)
+    ++ named (108 ∷ 101 ∷ 115 ∷ 115 ∷ 32 ∷ []) less
 
 -- for five numbers, n x1 x2 y1 y2
 unfoldable pub text_for : ℕ → ℕ → ℕ → ℕ → ℕ → List ℕ

@@ -3,7 +3,7 @@
 
 ghost use Rattle.std.specs.Prelude.{◌≡◌, ◌+◌, ◌≤◌, length};
 ghost use Rattle.lines.specs.Pages.{HasRoom, Puts};
-ghost use Rattle.plain.specs.Printed.{text_for, printed};
+ghost use Rattle.plain.specs.Printed.{answer_text, text_for, printed};
 
 use exchange::Shares;
 use field::Width;
@@ -11,7 +11,6 @@ use lines::writing::Page;
 use refusals::Refusal;
 
 mod job;
-mod text;
 
 // Memory is set aside for no width above this.
 const WIDEST: u32 = 13;
@@ -41,9 +40,19 @@ fn put_job(page: &mut Page<'_>, n: u32, box1: Shares, box2: Shares)
         return page.put_refused(u32::from(Refusal::Width));
     };
     match job::less(width, box1, box2) {
-        Ok(less) => text::put_answer(page, width, less),
+        Ok(less) => put_answer(page, width, less),
         Err(refusal) => page.put_refused(u32::from(refusal)),
     }
+}
+
+// The words of each round of a job, and the answer.
+fn put_answer(page: &mut Page<'_>, n: Width, less: u32)
+    requires { HasRoom page.old 78 }
+    ensures puts { Puts page.old page.new (answer_text n.bits less) }
+    ensures most { page.new.len ≤ page.old.len + 78 }
+{
+    page.put_row(b"rounds", &needs::rounds_of(n, 1));
+    page.put_named(b"less ", less);
 }
 
 // What is printed for a text, put into room that is lent: none is longer than 78 bytes.
