@@ -1,4 +1,4 @@
--- The premises of AsRun are met: at width 3, on document 01's plain tape, each call comes to its ground 12, and just the figures' words will do.
+-- The premises of AsRun are met: at width 3, on document 01's plain tape, each call comes to its ground 12, and with the figures' words it is taken.
 use Prim.Native.Nat.{ℕ}
 use mathlib.Core.Path.{◌≡◌, refl}
 use mathlib.Core.List.{List, [], ◌∷◌}
@@ -45,12 +45,12 @@ speak_with work out = speak 0 1 tape (zeros work) (zeros out)
 abbrev hear_with : ℕ → ℕ → Call
 hear_with work incoming = hear 0 1 tape (zeros work) (zeros incoming)
 
--- each comes to its ground 12, whatever its room
+-- each comes to its ground 12
 come : (Reached 12 (box Idle) (start_with 0)) × ((Reached 12 (in_job (Speak 1)) (speak_with 0 0)) × (Reached 12 (in_job (Hear 1)) (hear_with 0 0)))
 unfolding listed modulus is_side tally_fits tapes_of is_fresh late trailer_fits body_in_range in_order plain_tape in_range mode_of
 come = (refl, (refl, refl))
 
--- the figures' words will do
+-- with the figures' words none is refused
 enough : (ground_of (box Idle) (start_with (work_needed 3)) ≡ 0)
     × ((ground_of (in_job (Speak 1)) (speak_with (work_needed 3) (round_needed 3 1)) ≡ 0)
     × (ground_of (in_job (Hear 1)) (hear_with (work_needed 3) (round_needed 3 1)) ≡ 0))

@@ -8,7 +8,7 @@ use Rattle.refusals.specs.declared.Refusal.{Refusal}
 use Rattle.refusals.specs.declared.Refusal.TheVariants.{Width, Count}
 use Rattle.needs.specs.declared.Needs.{Needs}
 
--- a refusal's number, or 0, not refused; then the words of the tapes, of each round and of work
+-- a refusal's number, 0 where there is none; then the words of the tapes, of each round and of work
 pub record Figures : Type 0 where
   pub refusal : ℕ
   pub tape : ℕ

@@ -2,7 +2,7 @@
 #![tactic(auto)]
 
 ghost use Rattle.std.specs.Prelude.{◌≡◌, ◌≤◌};
-ghost use Rattle.protocol.specs.Sizes.{most_jobs, count_fits, round_for, rounds_for};
+ghost use Rattle.protocol.specs.Sizes.{most_jobs, count_fits, round_for};
 ghost use Rattle.needs.specs.Figures.{figures_for, needs_rule, figures_of, told};
 
 use field::Width;
@@ -19,9 +19,9 @@ pub struct Needs {
     pub work: u32,
 }
 
-// Whether so many jobs are taken together.
+// Whether a count of jobs is 1 to 8.
 #[tactic(auto, unfolding(protocol::specs::Sizes::count_fits))]
-pub fn count_fits(count: u32) -> bool
+fn count_fits(count: u32) -> bool
     ensures { result ≡ count_fits count }
 {
     (1..=MOST_JOBS).contains(&count)
@@ -36,15 +36,7 @@ fn round_of(n: Width, count: u32, round: u32) -> u32
     count * compare::words::words_of(n, round) as u32
 }
 
-// Of every round, the first one first.
-pub fn rounds_of(n: Width, count: u32) -> [u32; 5]
-    requires { count ≤ most_jobs }
-    ensures { result ≡ rounds_for n.bits count }
-{
-    [1, 2, 3, 4, 5].map(|round| round_of(n, count, round))
-}
-
-// The figures of a listed width.
+// The figures of so many jobs.
 #[tactic(auto, using(crate::proofs::Bounds::bounds))]
 fn figures(n: Width, count: u32) -> Needs
     requires { count ≤ most_jobs }
@@ -52,12 +44,19 @@ fn figures(n: Width, count: u32) -> Needs
 {
     Needs {
         tape: count * tape::tape_words(n) as u32,
-        rounds: rounds_of(n, count),
+        rounds: [1, 2, 3, 4, 5].map(|round| round_of(n, count, round)),
         work: count * compare::words::work_words(n.bits) as u32,
     }
 }
 
-// The figures, or refused: the grounds are 2, 16.
+// The figures of one job.
+pub fn one_job(n: Width) -> Needs
+    ensures { figures_of result ≡ figures_for n.bits 1 }
+{
+    figures(n, 1)
+}
+
+// The figures of a width and a count of jobs, or refused: the grounds are 2, 16.
 #[tactic(auto, using(refusals::proofs::Numbers::numbered, crate::proofs::Bounds::most_jobs_lem), unfolding(crate::specs::Figures::needs_ground, crate::specs::Figures::needs_rule))]
 pub fn words_for(n: u32, count: u32) -> Result<Needs, Refusal>
     ensures { told result ≡ needs_rule n count }

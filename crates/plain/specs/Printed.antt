@@ -21,7 +21,7 @@ plain_less n x1 x2 y1 y2 = indicator (ltb ((x1 + x2) % modulus n) ((y1 + y2) % m
 unfoldable pub plain_answer : ℕ → ℕ → ℕ → ℕ → ℕ → ℕ
 plain_answer n x1 x2 y1 y2 = cond (eqb (plain_refusal n x1 x2 y1 y2) 0) (plain_less n x1 x2 y1 y2) 0
 
--- the words of each round, by the figures for one job (document 02, P8); then x < y
+-- the words of each round of one job, then the answer
 unfoldable pub answer_text : ℕ → ℕ → List ℕ
 answer_text n less =
     row (114 ∷ 111 ∷ 117 ∷ 110 ∷ 100 ∷ 115 ∷ []) (rounds_for n 1)

@@ -51,7 +51,7 @@ fn put_answer(page: &mut Page<'_>, n: Width, less: u32)
     ensures puts { Puts page.old page.new (answer_text n.bits less) }
     ensures most { page.new.len ≤ page.old.len + 78 }
 {
-    page.put_row(b"rounds", &needs::rounds_of(n, 1));
+    page.put_row(b"rounds", &needs::one_job(n).rounds);
     page.put_named(b"less ", less);
 }
 
