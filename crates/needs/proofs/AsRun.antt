@@ -1,4 +1,4 @@
--- The figures are those of a run: a call that comes to its ground of room has only that left, and a hear its words'.
+-- The figures are those of a run: where no ground before that of room holds, only that one is left, and for a hear that of its words.
 use Prim.Native.Nat.{ℕ, ◌*◌}
 use mathlib.Core.Path.{◌≡◌, refl, sym, ap, ◌∙◌}
 use mathlib.Core.Bool.{Bool, true, false, not, ◌||◌, cond}

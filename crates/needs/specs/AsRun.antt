@@ -14,17 +14,17 @@ use Rattle.rules.specs.AnyCall.{Call, start, speak, hear, grounds_of, ground_of,
 use Rattle.rules.specs.declared.state.State.{State}
 use Rattle.needs.specs.Figures.{Figures, needs_grounds, needs_rule}
 
--- one of them has that number
-abbrev pub gives : ℕ → List Ground → Bool
-gives number [] = false
-gives number (g ∷ gs) = eqb (number_of g.refusal) number || gives number gs
+-- some ground of a list has that number
+abbrev pub has_number : ℕ → List Ground → Bool
+has_number number [] = false
+has_number number (g ∷ gs) = eqb (number_of g.refusal) number || has_number number gs
 
--- the grounds that a call looks at before its last one with that number
+-- those before the last that has it
 abbrev pub before : ℕ → List Ground → List Ground
 before number [] = []
-before number (g ∷ gs) = cond (gives number gs) (g ∷ before number gs) []
+before number (g ∷ gs) = cond (has_number number gs) (g ∷ before number gs) []
 
--- none of them holds
+-- the call comes to its last ground with that number: none before it holds
 abbrev pub Reached : ℕ → State → Call → Type 0
 Reached number s call = earliest_of (before number (grounds_of s call)) ≡ 0
 
@@ -48,19 +48,19 @@ times count f = record { refusal = f.refusal; tape = count * f.tape; rounds = ma
 pub record AsRun : Type 0 where
   -- a tape in order has the figure's length, and no other
   pub tape_words : (n pair side number : ℕ) (tape : List ℕ) → in_order n pair side number tape ≡ true → length tape ≡ tape_needed n
-  -- and there is one for every width, box and tape number: document 01's plain tape
+  -- and there is one for every listed width, each box and any tape number: document 01's plain tape
   pub tape_fits : (n pair side number : ℕ) → listed n ≡ true → is_side side ≡ true → in_order n pair side number (plain_tape n pair side number) ≡ true
   -- a speak that is not refused answers the round's figure
   pub spoken : (s : State) (number round : ℕ) (tape work out : List ℕ) → ground_of s (speak number round tape work out) ≡ 0
       → (result_of s (speak number round tape work out)).reply ≡ spoke (round_needed s.n round)
-  -- a call that comes to its 12 is refused with it just where work is shorter than its figure ..
+  -- a start that comes to its 12 is refused with it just when work is shorter than its figure
   pub start_room : (s : State) (number x y : ℕ) (tape work tally : List ℕ) → Reached 12 s (start number x y tape work tally)
       → ground_of s (start number x y tape work tally) ≡ cond (ltb (length work) (work_needed s.n)) 12 0
-  -- .. or out than the round's ..
+  -- a speak, just when work or out is shorter than its figure
   pub speak_room : (s : State) (number round : ℕ) (tape work out : List ℕ) → Reached 12 s (speak number round tape work out)
       → ground_of s (speak number round tape work out)
       ≡ cond (ltb (length work) (work_needed s.n) || ltb (length out) (round_needed s.n round)) 12 0
-  -- .. or incoming has any length but the round's; a hear that is not looks at the words, for 13
+  -- a hear, just when work is shorter or incoming has another length; otherwise only its words can be refused, with 13
   pub hear_room : (s : State) (number round : ℕ) (tape work incoming : List ℕ) → Reached 12 s (hear number round tape work incoming)
       → ground_of s (hear number round tape work incoming)
       ≡ cond (ltb (length work) (work_needed s.n) || not (eqb (length incoming) (round_needed s.n round))) 12

@@ -8,7 +8,7 @@ ghost use Rattle.needs.specs.Figures.{figures_for, needs_rule, figures_of, told}
 use field::Width;
 use refusals::Refusal;
 
-// No more jobs than these are taken together.
+// At most so many jobs are taken together.
 pub const MOST_JOBS: u32 = 8;
 
 // The words of the tapes, of each round, the first one first, and of work.
@@ -27,7 +27,7 @@ fn count_fits(count: u32) -> bool
     (1..=MOST_JOBS).contains(&count)
 }
 
-// The words of a round, so many times.
+// A round's words, times the count.
 #[tactic(auto, using(crate::proofs::Bounds::bounds, protocol::proofs::Lengths::words_most))]
 fn round_of(n: Width, count: u32, round: u32) -> u32
     requires { count ≤ most_jobs }

@@ -36,10 +36,9 @@ fn put_printed(page: &mut Page<'_>, text: &[u8])
 }
 
 // What is printed for a text, put into room that is lent: none is longer than 94 bytes.
-// As plain has it, but for the function and the length: one for both would take a closure, and say over it the clauses of put_printed.
+// As plain has it, but for the function and the room: one for both would take a closure, and say over it the clauses of put_printed.
 #[tactic(auto, using(lines::proofs::Runs::read_back))]
-pub fn answer<'a>(text: &[u8], out: &'a mut [u8]) -> &'a [u8]
-    requires { 94 ≤ length out.old }
+pub fn answer<'a>(text: &[u8], out: &'a mut [u8; 94]) -> &'a [u8]
     ensures value { result.now ≡ printed text.now }
     ensures most { length result.now ≤ 94 }
 {

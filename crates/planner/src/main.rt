@@ -4,7 +4,7 @@
 use std::io::{self, Write};
 
 // One expression as plainrun has it, but for the function and the room: one function for both would take a closure and be longer than the two.
-// Two numbers and a newline take 22 bytes at most: a line for which 64 are too few is none, whatever comes after.
+// Two numbers and a newline take 22 bytes at most, so a line that does not end within 64 is not two numbers, whatever follows.
 fn main(rt: HostRuntime) -> io::Result<()> {
     io::writer(&rt).write_all(plan::answer(input::read_line(&mut [0; 64]), &mut [0; 94]))
 }
