@@ -56,7 +56,7 @@ fn put_answer(page: &mut Page<'_>, n: Width, less: u32)
 }
 
 // What is printed for a text, put into room that is lent: none is longer than 78 bytes.
-// As plan has it, but for the function and the length: one for both would take a closure, and say over it the clauses of put_printed.
+// As plan has it, but for the function and the room: one for both would take a closure, and say over it the clauses of put_printed.
 #[tactic(auto, using(lines::proofs::Runs::read_back))]
 pub fn answer<'a>(text: &[u8], out: &'a mut [u8]) -> &'a [u8]
     requires { 78 ≤ length out.old }
