@@ -1,3 +1,4 @@
 pub mod Every
 pub mod Tabulate
 pub mod Span
+pub mod Joined

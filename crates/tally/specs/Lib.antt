@@ -1,4 +1,5 @@
 pub mod Tally
 pub mod Cuts
+pub mod Starts
 pub mod Highest
 pub mod Bytes

@@ -1,5 +1,5 @@
 -- The tally (document 01, "The tally and the calls"), with marks of four bytes (document 02, P6): bytes 4j to 4j + 3 are the mark of tape number j.
-use Rattle.std.specs.Prelude.{ℕ, ◌+◌, ◌*◌, ◌/◌, ◌%◌, Bool, ◌&&◌, ◌||◌, not, cond, List, [], ◌∷◌, eqb, leb, length, get_or}
+use Rattle.std.specs.Prelude.{ℕ, zero, suc, ◌+◌, ◌*◌, ◌/◌, ◌%◌, Bool, ◌&&◌, ◌||◌, not, cond, List, [], ◌∷◌, eqb, leb, length, get_or}
 use Rattle.std.proofs.lemmas.List.Edits.{sets}
 use Rattle.lists.specs.Every.{every}
 use Rattle.lists.specs.Tabulate.{sum}
@@ -58,6 +58,15 @@ marked tally number = with_mark tally number (record { first = 0; second = 0; th
 -- what a cut in that write leaves: any four values in that group
 unfoldable pub cut_marked : List ℕ → ℕ → Mark → List ℕ
 cut_marked tally number left = with_mark tally number left
+
+-- what the first so many marks of a start leave (document 02, P9): they are written one group at a time, the lowest number first
+abbrev pub first_marks : List ℕ → ℕ → ℕ → List ℕ
+first_marks tally first zero = tally
+first_marks tally first (suc k) = marked (first_marks tally first k) (first + k)
+
+-- what a cut in the next of them leaves: any four values in its group, the groups before it as they were written
+abbrev pub cut_marks : List ℕ → ℕ → ℕ → Mark → List ℕ
+cut_marks tally first k left = cut_marked (first_marks tally first k) (first + k) left
 
 unfoldable pub fresh_count : List ℕ → ℕ
 fresh_count tally = sum (tapes_of (length tally)) (λ j. cond (is_fresh tally j) 1 0)
