@@ -5,8 +5,7 @@ use Rattle.shares.specs.Side.{is_side}
 use Rattle.refusals.specs.Grounds.{earliest_of, numbers_of}
 use Rattle.rules.specs.Answers.{refused}
 use Rattle.tally.specs.Tally.{tally_fits}
-use Rattle.rules.specs.Modes.{in_range, mode_of, is_asleep, in_job, asleep_state}
-use Rattle.rules.specs.Calls.{in_phase}
+use Rattle.rules.specs.Modes.{in_range, mode_of, is_asleep, in_job, in_phase, asleep_state}
 use Rattle.rules.specs.AnyCall.{Call, wake, grounds_of, ground_of, result_of, buffer_of, is_wake, is_refused, order_of}
 use Rattle.rules.specs.Moves.{Moves, TakesJob}
 use Rattle.rules.specs.declared.state.State.{State}
@@ -54,9 +53,9 @@ pub record Answering : Type 0 where
       → is_asleep (mode_of (result_of s (wake n side pair tally)).state) ≡ false
   -- every call that is not refused is one of these moves
   pub moves : (s : State) (call : Call) → ground_of s call ≡ 0
-      → Moves s.n (mode_of s) call (result_of s call).reply (mode_of (result_of s call).state)
+      → Moves s.n (mode_of s) s.batch call (result_of s call).reply (mode_of (result_of s call).state) (result_of s call).state.batch
   -- only wake sets the width, the side, the pair number and the tally's length
-  pub keeps : (s : State) (call : Call) → is_wake call ≡ false → (result_of s call).state ≡ in_phase s (result_of s call).state.phase
+  pub keeps : (s : State) (call : Call) → is_wake call ≡ false → (result_of s call).state ≡ in_phase s (result_of s call).state.phase (result_of s call).state.batch
   -- an outcome in a job, from a state not in one, comes from such a start alone
   pub takes_job : (s : State) (call : Call) → in_job (mode_of s) ≡ false → in_job (mode_of (result_of s call).state) ≡ true → TakesJob s call
   pub outside : (s : State) (call : Call) → Outside s call

@@ -1,5 +1,5 @@
 -- What a call answers, and what each call's own answer says.
-use Rattle.std.specs.Prelude.{ℕ, Option, Some, None, Result, Ok, Err}
+use Rattle.std.specs.Prelude.{ℕ, List, Option, Some, None, Result, Ok, Err}
 use Rattle.refusals.specs.Numbers.{number_of}
 use Rattle.refusals.specs.declared.Refusal.{Refusal}
 
@@ -10,16 +10,16 @@ pub data Reply : Type 0 where
   -- speak: how many words it wrote
   spoke : ℕ → Reply
   heard : Reply
-  -- hear of the last round: the answer share
-  share : ℕ → Reply
+  -- hear of the last round: the answer shares, in job order, 0 past the count
+  finished : List ℕ → Reply
   dropped : Reply
   -- a refusal and its number
   refused : ℕ → Reply
 
--- what a hear answers: the share after the last round, and nothing before
-abbrev pub heard_or_share : Option ℕ → Reply
-heard_or_share None = heard
-heard_or_share (Some word) = share word
+-- what a hear answers: the shares after the last round, and nothing before
+abbrev pub heard_or_finished : Option (List ℕ) → Reply
+heard_or_finished None = heard
+heard_or_finished (Some words) = finished words
 
 -- a call's answer by what it says where the call goes on, or its refusal by the number
 abbrev pub reply_of : {A : Type 0} → (A → Reply) → Result A Refusal → Reply

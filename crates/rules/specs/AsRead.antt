@@ -7,5 +7,5 @@ use Rattle.rules.specs.declared.state.State.{State}
 
 abbrev pub HeardAsRead : Type 0
 HeardAsRead =
-    (s : State) (number round : ℕ) (tape work incoming : List ℕ)
-    → hear_rule s number round tape work (read_words s.n incoming) ≡ hear_rule s number round tape work incoming
+    (s : State) (first round : ℕ) (tapes work incoming : List ℕ)
+    → hear_rule s first round tapes work (read_words s.n incoming) ≡ hear_rule s first round tapes work incoming

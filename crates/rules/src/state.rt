@@ -1,4 +1,18 @@
 // What a box keeps between calls, beside the buffers that it is lent.
+ghost use Rattle.std.specs.Prelude.{◌≡◌};
+ghost use Rattle.protocol.specs.Sizes.{count_fits};
+
+// A start takes at most so many jobs (document 02, P9).
+pub const MOST_JOBS: usize = 8;
+
+// Whether a start can take so many: 1 to 8.
+#[tactic(auto, unfolding(protocol::specs::Sizes::count_fits))]
+pub fn count_fits(count: u32) -> bool
+    ensures { result ≡ count_fits count }
+{
+    (1..=MOST_JOBS as u32).contains(&count)
+}
+
 // The call that is due in a job, with its round.
 #[derive(Clone, Copy, Debug, PartialEq, Eq)]
 pub enum Turn {
@@ -6,17 +20,22 @@ pub enum Turn {
     Hear(u32),
 }
 
-// Asleep until wake has read the tally; then idle, or in a job with a tape number and the two shares.
+// Asleep until wake has read the tally; then idle, or in a job with the call that is due.
 #[derive(Clone, Copy, Debug, PartialEq, Eq)]
 pub enum Phase {
     Asleep,
     Idle,
-    Job {
-        turn: Turn,
-        number: u32,
-        x: u32,
-        y: u32,
-    },
+    Job(Turn),
+}
+
+// The jobs that one start took, on consecutive tapes: the first number, how many they are, and the shares of x and y of each. The count, which document 02
+// has beside the phase (P9), stands here with the arrays, which an enum cannot hold. Where no job is open all of it is 0, so that no share stays behind.
+#[derive(Clone, Copy, Debug, PartialEq, Eq)]
+pub struct Batch {
+    pub first: u32,
+    pub count: u32,
+    pub x: [u32; MOST_JOBS],
+    pub y: [u32; MOST_JOBS],
 }
 
 #[derive(Clone, Copy, Debug, PartialEq, Eq)]
@@ -26,7 +45,16 @@ pub struct State {
     pub pair: u32,
     pub tally: u32,
     pub phase: Phase,
+    pub batch: Batch,
 }
+
+// No job's.
+pub const NO_BATCH: Batch = Batch {
+    first: 0,
+    count: 0,
+    x: [0; MOST_JOBS],
+    y: [0; MOST_JOBS],
+};
 
 // A box at first.
 pub const FIRST: State = State {
@@ -35,4 +63,5 @@ pub const FIRST: State = State {
     pair: 0,
     tally: 0,
     phase: Phase::Asleep,
+    batch: NO_BATCH,
 };
