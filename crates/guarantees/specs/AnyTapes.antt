@@ -1,7 +1,7 @@
 -- Which lists meet the premises. Document 01 says that a list still meets them with any other valid tapes and in-range shares. That is so with
--- one exception: in rounds 4 and 5 a message has as many words at every width, so a hear can come as far as ground 13 with a message that the
--- other box spoke under a larger width. Whether all its words happen to be at most p depends on the tapes; where they are, the hear is not
--- refused though the message is not true.
+-- one exception: a message that the other box spoke under a larger width can have as many words as the one that is due, in rounds 4 and 5 at any count, and
+-- in any round where the counts make up for the widths (document 02, P9). Then a hear can come as far as ground 13 with it. Whether all its words happen to
+-- be at most p depends on the tapes; where they are, the hear is not refused though the message is not true.
 use Rattle.std.specs.Prelude.{ℕ, suc, ◌≤◌, ◌≡◌, List, [], ◌∷◌}
 use Rattle.rules.specs.Answers.{spoke}
 use Rattle.rules.specs.Grounds.{hear_ground}
@@ -18,15 +18,15 @@ NotWider log n (other words) = Unit {0}
 -- no hear that is refused with 13 is lent a message of a larger width. One that is not refused is lent a true message, of its own width
 abbrev pub Narrow : Setting → ℕ → World → Box → Step → Type 0
 Narrow g place w b (wake n side p) = Unit {0}
-Narrow g place w b (start number lent) = Unit {0}
-Narrow g place w b (speak number round lent out) = Unit {0}
-Narrow g place w b (hear number round lent incoming) =
-    hear_ground (memory_of w b).state number round (tape_words g lent) (memory_of w b).work
+Narrow g place w b (start first count lent) = Unit {0}
+Narrow g place w b (speak first round lent out) = Unit {0}
+Narrow g place w b (hear first round lent incoming) =
+    hear_ground (memory_of w b).state first round (tape_words g lent) (memory_of w b).work
     (incoming_words g place (memory_of w b).state w.log incoming) ≡ 13
     → NotWider w.log (memory_of w b).state.n incoming
 Narrow g place w b drop = Unit {0}
 Narrow g place w b (cut room) = Unit {0}
-Narrow g place w b (cut_start number lent mark room) = Unit {0}
+Narrow g place w b (cut_start first count lent at mark room) = Unit {0}
 
 -- every entry from a place on
 abbrev pub AllNarrow : Setting → ℕ → World → List Entry → Type 0

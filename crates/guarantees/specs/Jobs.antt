@@ -1,9 +1,11 @@
--- A job's exchange: what the two boxes of a job send and answer, by the rounds of document 01 (protocol, Exchange.antt), for given
--- tapes and for the shares that opened each job.
-use Rattle.std.specs.Prelude.{ℕ, List, replicate}
+-- A job's exchanges: what the two boxes send and answer in each of the jobs that its start took, by the rounds of document 01 (protocol, Exchange.antt), for
+-- given tapes and for the shares that opened each job. What a box sends in a round is joined from them, and so are its answers (document 02, P9).
+use Rattle.std.specs.Prelude.{ℕ, ◌+◌, List, replicate}
+use Rattle.lists.specs.Joined.{chained}
 use Rattle.protocol.specs.Work.{work_length}
 use Rattle.protocol.specs.Products.{Party, party}
 use Rattle.protocol.specs.Exchange.{Both, sent_own, sent_others, answer_own, answer_others}
+use Rattle.rules.specs.Batches.{x_in, y_in, each_job}
 use Rattle.guarantees.specs.Boxes.{Box, box1, box2, side_of}
 use Rattle.guarantees.specs.Keys.{Key}
 use Rattle.guarantees.specs.Run.{Lending}
@@ -14,15 +16,23 @@ blank n = record { own = replicate (work_length n) 0; others = replicate (work_l
 
 -- tapes by box, number and width, and the shares that opened each job
 module _ (tapes : Box → ℕ → ℕ → List ℕ) (book : Box → Key → Lending) where
-  abbrev pub party_at : Box → Key → Party
-  party_at b key = party key.width (side_of b) (book b key).x (book b key).y (tapes b key.number key.width)
+  -- a box in job i of those that a start took
+  abbrev pub party_at : Box → Key → ℕ → Party
+  party_at b key i = party key.width (side_of b) (x_in (book b key) i) (y_in (book b key) i) (tapes b (key.first + i) key.width)
 
-  -- what box b sends in a round
+  -- what it sends there in a round
+  abbrev pub sent_in : Box → Key → ℕ → ℕ → List ℕ
+  sent_in box1 key i round = sent_own (party_at box1 key i) (party_at box2 key i) (blank key.width) round
+  sent_in box2 key i round = sent_others (party_at box1 key i) (party_at box2 key i) (blank key.width) round
+
+  -- its answer share there
+  abbrev pub answer_in : Box → Key → ℕ → ℕ
+  answer_in box1 key i = answer_own (party_at box1 key i) (party_at box2 key i) (blank key.width)
+  answer_in box2 key i = answer_others (party_at box1 key i) (party_at box2 key i) (blank key.width)
+
+  -- what box b sends in a round, and its answer shares
   abbrev pub sent_by : Box → Key → ℕ → List ℕ
-  sent_by box1 key round = sent_own (party_at box1 key) (party_at box2 key) (blank key.width) round
-  sent_by box2 key round = sent_others (party_at box1 key) (party_at box2 key) (blank key.width) round
+  sent_by b key round = chained key.count (λ i. sent_in b key i round)
 
-  -- its answer share
-  abbrev pub answer_by : Box → Key → ℕ
-  answer_by box1 key = answer_own (party_at box1 key) (party_at box2 key) (blank key.width)
-  answer_by box2 key = answer_others (party_at box1 key) (party_at box2 key) (blank key.width)
+  abbrev pub answers_by : Box → Key → List ℕ
+  answers_by b key = each_job key.count (answer_in b key)

@@ -1,4 +1,4 @@
--- How a job is known (document 01): by its tape number and width.
+-- How a job is known: by its first tape number, its count and its width (document 02, P9). A joined start opens one job in this sense.
 use Rattle.std.specs.Prelude.{ℕ}
 use Rattle.rules.specs.Modes.{mode_of}
 use Rattle.rules.specs.declared.state.Phase.{Phase}
@@ -6,22 +6,27 @@ use Rattle.rules.specs.declared.state.Phase.TheVariants.{Asleep, Idle, Job}
 use Rattle.rules.specs.declared.state.State.{State}
 
 pub record Key : Type 0 where
-  pub number : ℕ
+  pub first : ℕ
+  pub count : ℕ
   pub width : ℕ
 
 -- every key is made here, so what a job is known by is one record and this line
-abbrev pub job_key : ℕ → ℕ → Key
-job_key number n = record { number = number; width = n }
+abbrev pub job_key : ℕ → ℕ → ℕ → Key
+job_key first count n = record { first = first; count = count; width = n }
 
--- the job that a call names by its tape number
+-- no job's
+abbrev pub no_key : ℕ → Key
+no_key n = job_key 0 0 n
+
+-- the job that a speak or a hear names by its first number
 abbrev pub key_at : State → ℕ → Key
-key_at s number = job_key number s.n
+key_at s first = job_key first s.batch.count s.n
 
 -- the job that is open, and nothing of account where none is
-abbrev pub key_of : ℕ → Phase → Key
-key_of n Asleep = job_key 0 n
-key_of n Idle = job_key 0 n
-key_of n (Job turn number x y) = job_key number n
+abbrev pub key_of : State → Phase → Key
+key_of s Asleep = no_key s.n
+key_of s Idle = no_key s.n
+key_of s (Job turn) = key_at s s.batch.first
 
 abbrev pub open_key : State → Key
-open_key s = key_of s.n (mode_of s)
+open_key s = key_of s (mode_of s)

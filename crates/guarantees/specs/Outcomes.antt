@@ -1,6 +1,6 @@
 -- What kind of thing an entry came to: the openings, messages and answers of jobs, and all else.
 use Rattle.std.specs.Prelude.{Bool, true, false}
-use Rattle.rules.specs.Answers.{fresh, started, spoke, heard, share, dropped, refused}
+use Rattle.rules.specs.Answers.{fresh, started, spoke, heard, finished, dropped, refused}
 use Rattle.guarantees.specs.Run.{Said, nothing, lost, replied}
 
 pub data Kind : Type 0 where
@@ -13,7 +13,7 @@ kind_of (replied (fresh k)) = plain
 kind_of (replied started) = opening
 kind_of (replied (spoke k)) = message
 kind_of (replied heard) = plain
-kind_of (replied (share v)) = answer
+kind_of (replied (finished vs)) = answer
 kind_of (replied dropped) = plain
 kind_of (replied (refused k)) = plain
 

@@ -1,5 +1,5 @@
 -- The premises of demand 3, along the run (document 01, "The lists of demand 3").
-use Rattle.std.specs.Prelude.{ℕ, suc, ◌<◌, ◌≡◌, true, List, [], ◌∷◌, ◌⊎◌, length}
+use Rattle.std.specs.Prelude.{ℕ, suc, ◌<◌, ◌≡◌, true, List, [], ◌∷◌, ◌⊎◌, length, get_or}
 use Rattle.field.specs.Width.{listed, modulus}
 use Rattle.tape.specs.Dealt.{Matched}
 use Rattle.rules.specs.Answers.{spoke}
@@ -23,20 +23,20 @@ pub record TrueMessage (log : List Event) (b : Box) (key : Key) (round : ℕ) (i
   pub uttered : (event_at log place).said ≡ replied (spoke count)
 
 -- what an entry that is not refused keeps to; a ground of 0 is none. Document 01 also has a wake name its box's own side and pair, and a
--- start lent its box's dealt tape. Nothing rests on either: under another side or pair a speak with the box's dealt tape is refused with 10
+-- start lent its box's dealt tapes. Nothing rests on either: under another side or pair a speak with the box's dealt tapes is refused with 10
 abbrev pub Keeps : Setting → ℕ → World → Box → Step → Type 0
 Keeps g place w b (wake n side pair) = Unit {0}
-Keeps g place w b (start number lent) = Unit {0}
-Keeps g place w b (speak number round lent out) =
-    speak_ground (memory_of w b).state number round (tape_words g lent) (memory_of w b).work out ≡ 0
-    → lent ≡ dealt b number (memory_of w b).state.n
-Keeps g place w b (hear number round lent incoming) =
-    hear_ground (memory_of w b).state number round (tape_words g lent) (memory_of w b).work
-    (incoming_words g place (memory_of w b).state w.log incoming) ≡ 0
-    → (lent ≡ dealt b number (memory_of w b).state.n) × TrueMessage w.log b (key_at (memory_of w b).state number) round incoming
+Keeps g place w b (start first count lent) = Unit {0}
+Keeps g place w b (speak first round lent out) =
+    let s = (memory_of w b).state in
+    speak_ground s first round (tape_words g lent) (memory_of w b).work out ≡ 0 → lent ≡ dealt b first s.batch.count s.n
+Keeps g place w b (hear first round lent incoming) =
+    let s = (memory_of w b).state in
+    hear_ground s first round (tape_words g lent) (memory_of w b).work (incoming_words g place s w.log incoming) ≡ 0
+    → (lent ≡ dealt b first s.batch.count s.n) × TrueMessage w.log b (key_at s first) round incoming
 Keeps g place w b drop = Unit {0}
 Keeps g place w b (cut room) = Unit {0}
-Keeps g place w b (cut_start number lent mark room) = Unit {0}
+Keeps g place w b (cut_start first count lent at mark room) = Unit {0}
 
 -- every entry from a place on keeps to them
 abbrev pub Meets : Setting → ℕ → World → List Entry → Type 0
@@ -57,17 +57,19 @@ AllDealt tapes b pair =
 abbrev pub InBoth : Memory → ℕ → ℕ → Type 0
 InBoth m v v' = (v ≡ v') ⊎ ((is_asleep (mode_of m.state) ≡ true) ⊎ ((v < modulus m.state.n) × (v' < modulus m.state.n)))
 
+-- a start's shares under both: as many, and each as above
+abbrev pub SharesInBoth : Memory → Lending → Lending → Type 0
+SharesInBoth m vs vs' = (length vs ≡ length vs') × ((i : ℕ) → i < length vs → InBoth m (get_or vs i 0) (get_or vs' i 0))
+
 -- the second table of shares, along the first run: at every start as above
 abbrev pub Compatible : (Box → ℕ → Lending) → Setting → ℕ → World → Box → Step → Type 0
 Compatible shares' g place w b (wake n side p) = Unit {0}
-Compatible shares' g place w b (start number lent) =
-    InBoth (memory_of w b) (g.shares b place).x (shares' b place).x × InBoth (memory_of w b) (g.shares b place).y (shares' b place).y
-Compatible shares' g place w b (speak number round lent out) = Unit {0}
-Compatible shares' g place w b (hear number round lent incoming) = Unit {0}
+Compatible shares' g place w b (start first count lent) = SharesInBoth (memory_of w b) (g.shares b place) (shares' b place)
+Compatible shares' g place w b (speak first round lent out) = Unit {0}
+Compatible shares' g place w b (hear first round lent incoming) = Unit {0}
 Compatible shares' g place w b drop = Unit {0}
 Compatible shares' g place w b (cut room) = Unit {0}
-Compatible shares' g place w b (cut_start number lent mark room) =
-    InBoth (memory_of w b) (g.shares b place).x (shares' b place).x × InBoth (memory_of w b) (g.shares b place).y (shares' b place).y
+Compatible shares' g place w b (cut_start first count lent at mark room) = SharesInBoth (memory_of w b) (g.shares b place) (shares' b place)
 
 abbrev pub AllCompatible : (Box → ℕ → Lending) → Setting → ℕ → World → List Entry → Type 0
 AllCompatible shares' g place w [] = Unit {0}

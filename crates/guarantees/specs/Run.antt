@@ -1,22 +1,22 @@
 -- A run threads state, work and tally of each box through the list, by the very rules that the contracts of the five calls cite.
-use Rattle.std.specs.Prelude.{ℕ, zero, suc, Bool, cond, List, [], ◌∷◌, ◌++◌, eqb, take}
+use Rattle.std.specs.Prelude.{ℕ, zero, suc, ◌+◌, Bool, ◌&&◌, cond, List, [], ◌∷◌, ◌++◌, eqb, ltb, take}
 use Rattle.lists.specs.Tabulate.{tabulate}
+use Rattle.lists.specs.Joined.{chained}
 use Rattle.field.specs.Width.{listed}
 use Rattle.shares.specs.Reading.{delivered}
-use Rattle.rules.specs.Answers.{Reply, fresh, started, spoke, heard, share, dropped, refused}
-use Rattle.tally.specs.Tally.{cut_marked}
+use Rattle.rules.specs.Answers.{Reply, fresh, started, spoke, heard, finished, dropped, refused}
+use Rattle.tally.specs.Tally.{cut_marks}
 use Rattle.rules.specs.Modes.{mode_of, in_job, asleep_state}
 use Rattle.rules.specs.Grounds.{start_ground}
 use Rattle.rules.specs.Calls.{Result, wake_rule, start_rule, speak_rule, hear_rule, drop_rule}
 use Rattle.rules.specs.declared.state.State.{State}
 use Rattle.guarantees.specs.Boxes.{Box, box1, box2}
-use Rattle.guarantees.specs.Keys.{Key, job_key, key_at, open_key}
+use Rattle.guarantees.specs.Keys.{Key, job_key, no_key, key_at, open_key}
 use Rattle.guarantees.specs.Entries.{Lent, dealt, loose, Incoming, spoken_at, other, Step, wake, start, speak, hear, drop, cut, cut_start, Entry}
 
--- the two shares lent at a start
-pub record Lending : Type 0 where
-  pub x : ℕ
-  pub y : ℕ
+-- the shares lent at a start: x and y of the first job, then of the next
+abbrev pub Lending : Type 0
+Lending = List ℕ
 
 -- what a run is given beside the list: the dealt tapes by box, number and width; the shares by box and the start's place; the words that
 -- work holds after a cut, by the cut's place; which zeros the link board spells as p, by the hear's place and the word's index
@@ -62,7 +62,7 @@ after w box1 m e = record { memory1 = m; memory2 = w.memory2; log = w.log ++ (e 
 after w box2 m e = record { memory1 = w.memory1; memory2 = m; log = w.log ++ (e ∷ []) }
 
 abbrev pub quiet : Event
-quiet = record { box = box1; key = job_key 0 0; round = 0; said = nothing; spoken = []; incoming = [] }
+quiet = record { box = box1; key = no_key 0; round = 0; said = nothing; spoken = []; incoming = [] }
 
 -- the place k of the log
 abbrev pub event_at : List Event → ℕ → Event
@@ -72,7 +72,7 @@ event_at (e ∷ es) (suc k) = event_at es k
 
 -- there are dealt tapes of the listed widths only
 abbrev pub tape_words : Setting → Lent → List ℕ
-tape_words g (dealt box number width) = cond (listed width) (g.tapes box number width) []
+tape_words g (dealt box first count width) = cond (listed width) (chained count (λ i. g.tapes box (first + i) width)) []
 tape_words g (loose words) = words
 
 -- the words that come over the line
@@ -91,7 +91,7 @@ spoken_words (fresh k) out = []
 spoken_words started out = []
 spoken_words (spoke k) out = take k out
 spoken_words heard out = []
-spoken_words (share v) out = []
+spoken_words (finished vs) out = []
 spoken_words dropped out = []
 spoken_words (refused k) out = []
 
@@ -114,30 +114,30 @@ stepped g place w b (wake n side pair) =
     let m = memory_of w b in
     let r = wake_rule m.state n side pair m.tally in
     after w b (record { state = r.state; work = m.work; tally = m.tally })
-    (record { box = b; key = job_key 0 n; round = 0; said = replied r.reply; spoken = []; incoming = [] })
-stepped g place w b (start number lent) =
+    (record { box = b; key = no_key n; round = 0; said = replied r.reply; spoken = []; incoming = [] })
+stepped g place w b (start first count lent) =
     let m = memory_of w b in
-    let r = start_rule m.state number (g.shares b place).x (g.shares b place).y (tape_words g lent) m.work m.tally in
+    let r = start_rule m.state first count (g.shares b place) (tape_words g lent) m.work m.tally in
     after w b (after_start m r)
-    (record { box = b; key = key_at m.state number; round = 0; said = replied r.reply; spoken = []; incoming = [] })
-stepped g place w b (speak number round lent out) =
+    (record { box = b; key = job_key first count m.state.n; round = 0; said = replied r.reply; spoken = []; incoming = [] })
+stepped g place w b (speak first round lent out) =
     let m = memory_of w b in
-    let r = speak_rule m.state number round (tape_words g lent) m.work out in
+    let r = speak_rule m.state first round (tape_words g lent) m.work out in
     after w b (record { state = r.state; work = m.work; tally = m.tally })
     (record {
       box = b;
-      key = key_at m.state number;
+      key = key_at m.state first;
       round = round;
       said = replied r.reply;
       spoken = spoken_words r.reply r.buffer;
       incoming = [];
     })
-stepped g place w b (hear number round lent named) =
+stepped g place w b (hear first round lent named) =
     let m = memory_of w b in
     let incoming = incoming_words g place m.state w.log named in
-    let r = hear_rule m.state number round (tape_words g lent) m.work incoming in
+    let r = hear_rule m.state first round (tape_words g lent) m.work incoming in
     after w b (record { state = r.state; work = r.buffer; tally = m.tally })
-    (record { box = b; key = key_at m.state number; round = round; said = replied r.reply; spoken = []; incoming = incoming })
+    (record { box = b; key = key_at m.state first; round = round; said = replied r.reply; spoken = []; incoming = incoming })
 stepped g place w b drop =
     let m = memory_of w b in
     let r = drop_rule m.state in
@@ -147,10 +147,10 @@ stepped g place w b (cut room) =
     let m = memory_of w b in
     after w b (after_cut g place room m m.tally)
     (record { box = b; key = open_key m.state; round = 0; said = cut_said m.state; spoken = []; incoming = [] })
-stepped g place w b (cut_start number lent mark room) =
+stepped g place w b (cut_start first count lent at mark room) =
     let m = memory_of w b in
-    let k = start_ground m.state number (g.shares b place).x (g.shares b place).y (tape_words g lent) m.work m.tally in
-    after w b (after_cut g place room m (cond (eqb k 0) (cut_marked m.tally number mark) m.tally))
+    let k = start_ground m.state first count (g.shares b place) (tape_words g lent) m.work m.tally in
+    after w b (after_cut g place room m (cond (eqb k 0 && ltb at count) (cut_marks m.tally first at mark) m.tally))
     (record { box = b; key = open_key m.state; round = 0; said = cut_said m.state; spoken = []; incoming = [] })
 
 -- the entries from a place on

@@ -1,11 +1,11 @@
--- What is compared: of every entry all that it came to, but for the answer share of the box whose shares are to stay hidden.
-use Rattle.std.specs.Prelude.{ℕ, List, map}
+-- What is compared: of every entry all that it came to, but for the answer shares of the box whose shares are to stay hidden.
+use Rattle.std.specs.Prelude.{ℕ, List, [], map}
 use Rattle.shares.specs.Reading.{read_words}
-use Rattle.rules.specs.Answers.{fresh, started, spoke, heard, share, dropped, refused}
+use Rattle.rules.specs.Answers.{fresh, started, spoke, heard, finished, dropped, refused}
 use Rattle.guarantees.specs.Boxes.{Box, box1, box2}
 use Rattle.guarantees.specs.Run.{Said, nothing, lost, replied, Event}
 
--- an answer share, covered
+-- the answer shares, covered
 abbrev pub covered : Said → Said
 covered nothing = nothing
 covered lost = lost
@@ -13,7 +13,7 @@ covered (replied (fresh k)) = replied (fresh k)
 covered (replied started) = replied started
 covered (replied (spoke k)) = replied (spoke k)
 covered (replied heard) = replied heard
-covered (replied (share v)) = replied (share 0)
+covered (replied (finished vs)) = replied (finished [])
 covered (replied dropped) = replied dropped
 covered (replied (refused k)) = replied (refused k)
 
