@@ -7,3 +7,4 @@ pub mod Span
 pub mod Stores
 pub mod Parts
 pub mod Sums
+pub mod Joined
