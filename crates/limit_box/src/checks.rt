@@ -1,25 +1,26 @@
 // Each call's grounds of refusal, in document 01's order: the first that holds counts. A check reads what the call was lent and writes nothing. Where
-// none holds, a speak's and a hear's check give the box as the rounds know it, with what they showed of it. Each takes what its call takes, as document
-// 01 lists it.
-ghost use Rattle.std.specs.Prelude.{◌≡◌, IfOk};
-ghost use Rattle.refusals.specs.Grounds.{earliest_of};
+// none holds, a speak's and a hear's check give the box in its jobs, with what they showed of it. Each takes what its call takes, as document 01 lists it.
+ghost use Rattle.std.specs.Prelude.{◌≡◌, true, false, ◌+◌, ◌*◌, ◌<◌, length, IfOk};
+ghost use Rattle.field.specs.Width.{listed};
+ghost use Rattle.lists.specs.Joined.{chained};
+ghost use Rattle.tally.specs.Tally.{is_fresh, late};
+ghost use Rattle.protocol.specs.Sizes.{count_fits};
+ghost use Rattle.refusals.specs.Grounds.{earliest_of, joined};
 ghost use Rattle.refusals.specs.Checks.{ground_of};
-ghost use Rattle.compare.specs.Parties.{party_of as given};
-ghost use Rattle.rules.specs.Calls.{party_of};
-ghost use Rattle.rules.specs.Grounds.{turn_grounds, wake_ground, start_ground, speak_ground, hear_ground, drop_ground};
+ghost use Rattle.rules.specs.Grounds.{one_parts, turn_grounds, wake_ground, start_ground, speak_ground, hear_ground, drop_ground};
 
 use crate::grounds::{
-    asleep_check, idle_check, job_check, mark_check, message_check, room_check, share_check,
-    tape_check, when, word_check,
+    asleep_check, count_check, idle_check, job_check, list_check, mark_check, message_check,
+    room_check, share_check, tape_check, tapes_check, when, word_check,
 };
-use compare::Party;
+use crate::joined::Joined;
 use field::Width;
 use refusals::Refusal;
 use rules::state::{State, Turn};
 
 #[tactic(auto, unfolding(rules::specs::Grounds::wake_ground))]
-pub fn wake_check(state: State, n: u32, side: u32, tally: &[u8]) -> Result<(), Refusal>
-    ensures { ground_of result ≡ wake_ground state n side tally.now }
+pub fn wake_check(state: &State, n: u32, side: u32, tally: &[u8]) -> Result<(), Refusal>
+    ensures { ground_of result ≡ wake_ground state.now n side tally.now }
 {
     asleep_check(crate::modes::mode_of(state))?;
     when(Width::new(n).is_none(), Refusal::Width)?;
@@ -29,91 +30,121 @@ pub fn wake_check(state: State, n: u32, side: u32, tally: &[u8]) -> Result<(), R
 
 #[tactic(auto, unfolding(rules::specs::Grounds::start_ground))]
 pub fn start_check(
-    state: State,
-    number: u32,
-    x: u32,
-    y: u32,
-    tape: &[u32],
+    state: &State,
+    first: u32,
+    count: u32,
+    shares: &[u32],
+    tapes: &[u32],
     work: &[u32],
     tally: &[u8],
 ) -> Result<(), Refusal>
-    ensures { ground_of result ≡ start_ground state number x y tape.now work.now tally.now }
+    ensures { ground_of result ≡ start_ground state.now first count shares.now tapes.now work.now tally.now }
 {
     idle_check(crate::modes::mode_of(state))?;
+    count_check(count)?;
     when(tally.len() != state.tally as usize, Refusal::Tally)?;
-    mark_check(number, tally)?;
-    let n = Width { bits: state.n };
-    share_check(n, x, y)?;
-    tape_check(state, number, tape)?;
-    room_check(state.n, work, true)
+    list_check(count, shares)?;
+    jobs_check(state, first, count, shares, tapes, tally)?;
+    room_check(Width { bits: state.n }, count, work, true)
+}
+
+// Every job of a start, one after the other.
+fn jobs_check(
+    state: &State,
+    first: u32,
+    count: u32,
+    shares: &[u32],
+    tapes: &[u32],
+    tally: &[u8],
+) -> Result<(), Refusal>
+    requires width { listed state.now.n ≡ true }
+    requires fits { (count_fits count ≡ true) × (length shares.now ≡ 2 * count) × (length tally.now ≡ state.now.tally) }
+    ensures { ground_of result ≡ earliest_of (chained count (λ i. joined (one_parts state.now first count shares.now tapes.now tally.now i))) }
+{
+    for i in 0..count as usize {
+        one_check(state, first, count, shares, tapes, tally, i)?;
+    }
+    Ok(())
+}
+
+// One job of a start.
+fn one_check(
+    state: &State,
+    first: u32,
+    count: u32,
+    shares: &[u32],
+    tapes: &[u32],
+    tally: &[u8],
+    i: usize,
+) -> Result<(), Refusal>
+    requires width { listed state.now.n ≡ true }
+    requires fits { (i < count) × (count_fits count ≡ true) × (length shares.now ≡ 2 * count) × (length tally.now ≡ state.now.tally) }
+    requires later { 0 < i → (is_fresh tally.now first ≡ true) × (late tally.now first ≡ false) }
+    ensures { ground_of result ≡ earliest_of (joined (one_parts state.now first count shares.now tapes.now tally.now i)) }
+{
+    mark_check(first, i, tally)?;
+    share_check(Width { bits: state.n }, shares[2 * i], shares[2 * i + 1])?;
+    tape_check(state, first, count, tapes, i)
 }
 
 #[tactic(auto, unfolding(rules::specs::Grounds::speak_ground))]
 pub fn speak_check<'a>(
-    state: State,
-    number: u32,
+    state: &'a State,
+    first: u32,
     round: u32,
-    tape: &'a [u32],
+    tapes: &'a [u32],
     work: &[u32],
     out: &[u32],
-) -> Result<Party<'a>, Refusal>
-    ensures ground { ground_of result ≡ speak_ground state number round tape.now work.now out.now }
-    ensures party { IfOk result (λ party. given party ≡ party_of state tape.now) }
+) -> Result<Joined<'a>, Refusal>
+    ensures ground { ground_of result ≡ speak_ground state.now first round tapes.now work.now out.now }
+    ensures joined { IfOk result (λ joined. (joined.state.now ≡ state.now) × (joined.tapes.now ≡ tapes.now)) }
 {
-    turn_check(state, number, Turn::Speak(round), tape, work, out)
+    turn_check(state, first, Turn::Speak(round), tapes, work, out)
 }
 
 #[tactic(auto, unfolding(rules::specs::Grounds::hear_ground))]
 pub fn hear_check<'a>(
-    state: State,
-    number: u32,
+    state: &'a State,
+    first: u32,
     round: u32,
-    tape: &'a [u32],
+    tapes: &'a [u32],
     work: &[u32],
     incoming: &[u32],
-) -> Result<Party<'a>, Refusal>
-    ensures ground { ground_of result ≡ hear_ground state number round tape.now work.now incoming.now }
-    ensures party { IfOk result (λ party. given party ≡ party_of state tape.now) }
+) -> Result<Joined<'a>, Refusal>
+    ensures ground { ground_of result ≡ hear_ground state.now first round tapes.now work.now incoming.now }
+    ensures joined { IfOk result (λ joined. (joined.state.now ≡ state.now) × (joined.tapes.now ≡ tapes.now)) }
 {
-    let party = turn_check(state, number, Turn::Hear(round), tape, work, incoming)?;
-    word_check(party.n, incoming)?;
-    Ok(party)
+    let joined = turn_check(state, first, Turn::Hear(round), tapes, work, incoming)?;
+    word_check(joined.width(), incoming)?;
+    Ok(joined)
 }
 
 #[tactic(auto, unfolding(rules::specs::Grounds::drop_ground))]
-pub fn drop_check(state: State) -> Result<(), Refusal>
-    ensures { ground_of result ≡ drop_ground state }
+pub fn drop_check(state: &State) -> Result<(), Refusal>
+    ensures { ground_of result ≡ drop_ground state.now }
 {
-    job_check(crate::modes::mode_of(state))?;
-    Ok(())
+    job_check(crate::modes::mode_of(state))
 }
 
-// What a speak and a hear have in common: the turn that is due, the tape and the room. The buffer is out or incoming. Inlined, so that the state
-// is not copied on its way here.
+// What a speak and a hear have in common: the turn that is due, the tapes and the room. The buffer is out or incoming.
 #[inline(always)]
 fn turn_check<'a>(
-    state: State,
-    number: u32,
+    state: &'a State,
+    first: u32,
     turn: Turn,
-    tape: &'a [u32],
+    tapes: &'a [u32],
     work: &[u32],
     buffer: &[u32],
-) -> Result<Party<'a>, Refusal>
-    ensures ground { ground_of result ≡ earliest_of (turn_grounds state number turn tape.now work.now buffer.now) }
-    ensures party { IfOk result (λ party. given party ≡ party_of state tape.now) }
+) -> Result<Joined<'a>, Refusal>
+    ensures ground { ground_of result ≡ earliest_of (turn_grounds state.now first turn tapes.now work.now buffer.now) }
+    ensures joined { IfOk result (λ joined. (joined.state.now ≡ state.now) × (joined.tapes.now ≡ tapes.now)) }
 {
     let mode = crate::modes::mode_of(state);
-    let (x, y) = job_check(mode)?;
-    when(!crate::modes::is_due(mode, number, turn), Refusal::Turn)?;
-    tape_check(state, number, tape)?;
+    job_check(mode)?;
+    let due = crate::modes::is_due(mode, state.batch.first, first, turn);
+    when(!due, Refusal::Turn)?;
+    tapes_check(state, tapes)?;
     let n = Width { bits: state.n };
-    message_check(n, turn, work, buffer)?;
-    let side = state.side;
-    Ok(Party {
-        n,
-        side,
-        x,
-        y,
-        tape,
-    })
+    message_check(n, state.batch.count, turn, work, buffer)?;
+    Ok(Joined { state, tapes })
 }

@@ -1,15 +1,19 @@
 // What a call's checks look at, one thing each.
-ghost use Rattle.std.specs.Prelude.{◌≡◌, not, [], ◌∷◌, length, IfOk};
+ghost use Rattle.std.specs.Prelude.{◌≡◌, true, false, not, [], ◌∷◌, ◌+◌, ◌*◌, ◌&&◌, ◌<◌, length};
 ghost use Rattle.refusals.specs.declared.Refusal.TheVariants.{Busy};
 ghost use Rattle.refusals.specs.Grounds.{◌when◌, earliest_of};
 ghost use Rattle.refusals.specs.Checks.{ground_of};
-ghost use Rattle.rules.specs.Calls.{x_of, y_of};
-ghost use Rattle.rules.specs.Modes.{is_asleep};
-ghost use Rattle.rules.specs.Grounds.{message_fits};
-ghost use Rattle.rules.specs.Grounds.{idle_grounds, job_grounds, mark_grounds, share_grounds, tape_grounds, room_grounds, word_grounds};
+ghost use Rattle.tally.specs.Tally.{tapes_of, is_fresh, late};
+ghost use Rattle.protocol.specs.Sizes.{count_fits, most_jobs};
+ghost use Rattle.field.specs.Width.{listed};
+ghost use Rattle.tape.specs.Layout.{tape_length};
+ghost use Rattle.rules.specs.Modes.{mode_of, is_asleep, in_job};
+ghost use Rattle.rules.specs.Grounds.{message_fits, tapes_long, tape_ordered};
+ghost use Rattle.rules.specs.Grounds.{idle_grounds, job_grounds, count_grounds, list_grounds, mark_grounds, share_grounds, tape_grounds, tapes_grounds, room_grounds, word_grounds};
 
 use field::Width;
 use refusals::Refusal;
+use rules::state;
 use rules::state::{Phase, State, Turn};
 use tape::Label;
 
@@ -26,7 +30,7 @@ pub fn asleep_check(mode: Phase) -> Result<(), Refusal>
 {
     match mode {
         Phase::Asleep => Ok(()),
-        Phase::Idle | Phase::Job { .. } => Err(Refusal::Busy),
+        Phase::Idle | Phase::Job(_) => Err(Refusal::Busy),
     }
 }
 
@@ -37,29 +41,47 @@ pub fn idle_check(mode: Phase) -> Result<(), Refusal>
     match mode {
         Phase::Asleep => Err(Refusal::Asleep),
         Phase::Idle => Ok(()),
-        Phase::Job { .. } => Err(Refusal::Busy),
+        Phase::Job(_) => Err(Refusal::Busy),
     }
 }
 
-// The box is in a job: its shares of x and y.
-pub fn job_check(mode: Phase) -> Result<(u32, u32), Refusal>
-    ensures ground { ground_of result ≡ earliest_of (job_grounds mode) }
-    ensures shares { IfOk result (λ shares. (shares.0 ≡ x_of mode) × (shares.1 ≡ y_of mode)) }
+// The box is in a job.
+pub fn job_check(mode: Phase) -> Result<(), Refusal>
+    ensures { ground_of result ≡ earliest_of (job_grounds mode) }
 {
     match mode {
         Phase::Asleep => Err(Refusal::Asleep),
         Phase::Idle => Err(Refusal::NoJob),
-        Phase::Job { x, y, .. } => Ok((x, y)),
+        Phase::Job(_) => Ok(()),
     }
 }
 
-// The tape has a mark, it is fresh, and so are those above it.
-pub fn mark_check(number: u32, tally: &[u8]) -> Result<(), Refusal>
-    ensures { ground_of result ≡ earliest_of (mark_grounds number tally.now) }
+// A start takes 1 to 8 jobs.
+pub fn count_check(count: u32) -> Result<(), Refusal>
+    ensures { ground_of result ≡ earliest_of (count_grounds count) }
 {
-    let own = number as usize;
+    when(!state::count_fits(count), Refusal::Count)
+}
+
+// Two shares for each of them.
+pub fn list_check(count: u32, shares: &[u32]) -> Result<(), Refusal>
+    ensures { ground_of result ≡ earliest_of (list_grounds count shares.now) }
+{
+    when(shares.len() != 2 * count as usize, Refusal::Room)
+}
+
+// Job i's tape has a mark, it is fresh, and so are those above it. Above a first number that passed this no tape is spent, so of the later ones only the
+// number is looked at, and the tally is read once.
+pub fn mark_check(first: u32, i: usize, tally: &[u8]) -> Result<(), Refusal>
+    requires { 0 < i → (is_fresh tally.now first ≡ true) × (late tally.now first ≡ false) }
+    ensures { ground_of result ≡ earliest_of (mark_grounds (first + i) tally.now) }
+{
+    let own = first as usize + i;
     if tally::tapes_of(tally.len()) <= own {
         return Err(Refusal::Number);
+    }
+    if 0 < i {
+        return Ok(());
     }
     if !tally::is_fresh(tally, own) {
         return Err(Refusal::Spent);
@@ -74,42 +96,84 @@ pub fn share_check(n: Width, x: u32, y: u32) -> Result<(), Refusal>
     when(!n.contains(x) || !n.contains(y), Refusal::Share)
 }
 
-// The lent tape is this job's, and in order.
-pub fn tape_check(state: State, number: u32, tape: &[u32]) -> Result<(), Refusal>
-    ensures { ground_of result ≡ earliest_of (tape_grounds state number tape.now) }
+// The lent tapes are as long as so many.
+#[tactic(auto, using(tape::proofs::Sizes::small))]
+fn tapes_long(state: &State, count: u32, tapes: &[u32]) -> bool
+    requires { listed state.now.n ≡ true }
+    ensures { result ≡ tapes_long state.now count tapes.now }
 {
+    tapes.len() == count as usize * tape::tape_words(Width { bits: state.n })
+}
+
+// Job i's tape is this job's, and in order.
+#[tactic(auto, using(tape::proofs::Sizes::small))]
+fn tape_ordered(state: &State, first: u32, tapes: &[u32], i: usize) -> bool
+    requires width { listed state.now.n ≡ true }
+    requires job { (i < most_jobs) × (first + i < 4294967296) }
+    requires within { i * tape_length state.now.n + tape_length state.now.n ≤ length tapes.now }
+    ensures { result ≡ tape_ordered state.now first tapes.now i }
+{
+    let words = tape::tape_words(Width { bits: state.n });
+    let from = i * words;
     let label = Label {
         pair: state.pair,
         side: state.side,
-        number,
+        number: first + i as u32,
     };
-    when(!tape::in_order(tape, state.n, label), Refusal::Tape)
+    tape::in_order(&tapes[from..from + words], state.n, label)
+}
+
+// The lent tapes are as long as so many, and job i's is its own and in order.
+pub fn tape_check(state: &State, first: u32, count: u32, tapes: &[u32], i: usize) -> Result<(), Refusal>
+    requires width { listed state.now.n ≡ true }
+    requires job { (i < count) × (count ≤ most_jobs) × (first + i < 4294967296) }
+    ensures { ground_of result ≡ earliest_of (tape_grounds state.now first count tapes.now i) }
+{
+    let ordered = tapes_long(state, count, tapes) && tape_ordered(state, first, tapes, i);
+    when(!ordered, Refusal::Tape)
+}
+
+// So is every job's.
+pub fn tapes_check(state: &State, tapes: &[u32]) -> Result<(), Refusal>
+    requires { is_asleep (mode_of state.now) ≡ false × in_job (mode_of state.now) ≡ true }
+    ensures { ground_of result ≡ earliest_of (tapes_grounds state.now tapes.now) }
+{
+    if !tapes_long(state, state.batch.count, tapes) {
+        return Err(Refusal::Tape);
+    }
+    for i in 0..state.batch.count as usize {
+        if !tape_ordered(state, state.batch.first, tapes, i) {
+            return Err(Refusal::Tape);
+        }
+    }
+    Ok(())
 }
 
 // Work has its room, and the call's other buffer fits.
-pub fn room_check(n: u32, work: &[u32], fits: bool) -> Result<(), Refusal>
-    ensures { ground_of result ≡ earliest_of (room_grounds n work.now fits) }
+#[tactic(auto, using(field::proofs::Widths::bounds))]
+pub fn room_check(n: Width, count: u32, work: &[u32], fits: bool) -> Result<(), Refusal>
+    ensures { ground_of result ≡ earliest_of (room_grounds n.bits count work.now fits) }
 {
     when(
-        work.len() < compare::words::work_words(n) || !fits,
+        work.len() < count as usize * compare::words::work_words(n.bits) || !fits,
         Refusal::Room,
     )
 }
 
 // The room of a speak or a hear: its other buffer is out or incoming.
-pub fn message_check(n: Width, turn: Turn, work: &[u32], buffer: &[u32]) -> Result<(), Refusal>
-    ensures { ground_of result ≡ earliest_of (room_grounds n.bits work.now (message_fits n.bits turn (length buffer.now))) }
+pub fn message_check(n: Width, count: u32, turn: Turn, work: &[u32], buffer: &[u32]) -> Result<(), Refusal>
+    ensures { ground_of result ≡ earliest_of (room_grounds n.bits count work.now (message_fits n.bits count turn (length buffer.now))) }
 {
-    room_check(n.bits, work, message_fits(n, turn, buffer.len()))
+    room_check(n, count, work, message_fits(n, count, turn, buffer.len()))
 }
 
 // Out has room for the round's words, incoming has just as many.
-fn message_fits(n: Width, turn: Turn, length: usize) -> bool
-    ensures { result ≡ message_fits n.bits turn length }
+fn message_fits(n: Width, count: u32, turn: Turn, length: usize) -> bool
+    ensures { result ≡ message_fits n.bits count turn length }
 {
     match turn {
-        Turn::Speak(round) => compare::words::words_of(n, round) <= length,
-        Turn::Hear(round) => length == compare::words::words_of(n, round),
+        Turn::Speak(round) => crate::joined::words_for(n, count, round) <= length,
+        Turn::Hear(round) => length == crate::joined::words_for(n, count, round),
     }
 }
 

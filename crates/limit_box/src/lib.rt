@@ -1,16 +1,22 @@
-// The box's five calls. Each is the rule of document 01 for it, whatever it is given: a call that is refused changes nothing.
+// The box's five calls. Each is the rule of document 01 for it, whatever it is given: a call that is refused changes nothing. A job is what one start
+// takes, 1 to 8 comparisons on consecutive tapes (document 02, P9).
 #![tactic(auto)]
 
-ghost use Rattle.std.specs.Prelude.{◌≡◌, []};
-ghost use Rattle.rules.specs.Answers.{fresh, started, spoke, heard_or_share, dropped, reply_of};
+ghost use Rattle.std.specs.Prelude.{◌≡◌, [], ◌+◌, ◌≤◌, length};
+ghost use Rattle.tally.specs.Tally.{tapes_of, first_marks};
+ghost use Rattle.rules.specs.Answers.{fresh, started, spoke, heard_or_finished, dropped, reply_of};
+ghost use Rattle.rules.specs.Modes.{in_phase};
+ghost use Rattle.rules.specs.Batches.{no_batch};
+ghost use Rattle.rules.specs.declared.state.Phase.TheVariants.{Idle};
 ghost use Rattle.rules.specs.Calls.{outcome, wake_rule, start_rule, speak_rule, hear_rule, drop_rule};
 
-use compare::Party;
 use refusals::Refusal;
-use rules::state::{Phase, State, Turn};
+use rules::state;
+use rules::state::{MOST_JOBS, Phase, State, Turn};
 
 mod checks;
 mod grounds;
+mod joined;
 mod modes;
 
 // Counts the fresh tapes, and keeps the width, the side, the pair and the tally's length. The tally is lent for reading only, so it cannot
@@ -19,34 +25,47 @@ mod modes;
 pub fn wake(state: &mut State, n: u32, side: u32, pair: u32, tally: &[u8]) -> Result<u32, Refusal>
     ensures { outcome (reply_of fresh result) state.new tally.now ≡ wake_rule state.old n side pair tally.now }
 {
-    checks::wake_check(*state, n, side, tally)?;
+    checks::wake_check(&*state, n, side, tally)?;
     *state = State {
         n,
         side,
         pair,
         tally: tally.len() as u32,
         phase: Phase::Idle,
+        batch: state::NO_BATCH,
     };
     Ok(tally::fresh_count(tally))
 }
 
-// Opens a job: its tape is spent from here on, whatever happens to the job. Nothing is sent.
+// Marks the tapes of all jobs, the lowest number first: each is spent from its mark on, whatever happens to its job.
+fn mark(tally: &mut [u8], first: u32, count: u32)
+    requires { first + count ≤ tapes_of (length tally.old) }
+    ensures { tally.new ≡ first_marks tally.old first count }
+{
+    for i in 0..count as usize {
+        tally::spend(&mut *tally, first as usize + i);
+    }
+}
+
+// Opens a job: count comparisons on the tapes from number first on. Lent are x and y of the first, then of the next, and so their tapes and their room to
+// work. Nothing is sent.
 #[tactic(auto, using(refusals::proofs::Numbers::numbered), unfolding(rules::specs::Calls::start_rule))]
 pub fn start(
     state: &mut State,
-    number: u32,
-    x: u32,
-    y: u32,
-    tape: &[u32],
+    first: u32,
+    count: u32,
+    shares: &[u32],
+    tapes: &[u32],
     work: &[u32],
     tally: &mut [u8],
 ) -> Result<(), Refusal>
-    ensures { outcome (reply_of (λ _. started) result) state.new tally.new ≡ start_rule state.old number x y tape.now work.now tally.old }
+    ensures { outcome (reply_of (λ _. started) result) state.new tally.new
+        ≡ start_rule state.old first count shares.now tapes.now work.now tally.old }
 {
-    checks::start_check(*state, number, x, y, tape, work, &*tally)?;
-    tally::spend(tally, number as usize);
-    let turn = Turn::Speak(1);
-    state.phase = Phase::Job { turn, number, x, y };
+    checks::start_check(&*state, first, count, shares, tapes, work, &*tally)?;
+    mark(tally, first, count);
+    state.phase = Phase::Job(Turn::Speak(1));
+    state.batch = joined::batch_of(first, count, shares);
     Ok(())
 }
 
@@ -54,53 +73,58 @@ pub fn start(
 #[tactic(auto, using(refusals::proofs::Numbers::numbered), unfolding(rules::specs::Calls::speak_rule))]
 pub fn speak(
     state: &mut State,
-    number: u32,
+    first: u32,
     round: u32,
-    tape: &[u32],
+    tapes: &[u32],
     work: &[u32],
     out: &mut [u32],
 ) -> Result<usize, Refusal>
-    ensures { outcome (reply_of spoke result) state.new out.new ≡ speak_rule state.old number round tape.now work.now out.old }
+    ensures { outcome (reply_of spoke result) state.new out.new ≡ speak_rule state.old first round tapes.now work.now out.old }
 {
-    let party = checks::speak_check(*state, number, round, tape, work, &*out)?;
-    let Party { n, x, y, .. } = party;
-    party.speak(round, work, out);
-    let turn = Turn::Hear(round);
-    state.phase = Phase::Job { turn, number, x, y };
-    Ok(compare::words::words_of(n, round))
+    let joined = checks::speak_check(&*state, first, round, tapes, work, &*out)?;
+    joined.speak(round, work, out);
+    let words = joined::words_for(joined.width(), joined.state.batch.count, round);
+    state.phase = Phase::Job(Turn::Hear(round));
+    Ok(words)
 }
 
-// Takes in the other box's words. After the last round the answer share comes back and the job is closed.
+// Takes in the other box's words. After the last round the answer shares come back, in the order of the jobs, and the job is closed.
 #[tactic(auto, using(refusals::proofs::Numbers::numbered), unfolding(rules::specs::Calls::hear_rule))]
 pub fn hear(
     state: &mut State,
-    number: u32,
+    first: u32,
     round: u32,
-    tape: &[u32],
+    tapes: &[u32],
     work: &mut [u32],
     incoming: &[u32],
-) -> Result<Option<u32>, Refusal>
-    ensures { outcome (reply_of heard_or_share result) state.new work.new ≡ hear_rule state.old number round tape.now work.old incoming.now }
+) -> Result<Option<[u32; MOST_JOBS]>, Refusal>
+    ensures { outcome (reply_of heard_or_finished result) state.new work.new
+        ≡ hear_rule state.old first round tapes.now work.old incoming.now }
 {
-    let party = checks::hear_check(*state, number, round, tape, &*work, incoming)?;
-    let share = party.hear(round, work, incoming);
-    state.phase = match share {
-        Some(_) => Phase::Idle,
-        None => {
-            let turn = Turn::Speak(round + 1);
-            let Party { x, y, .. } = party;
-            Phase::Job { turn, number, x, y }
-        }
-    };
-    Ok(share)
+    let joined = checks::hear_check(&*state, first, round, tapes, &*work, incoming)?;
+    let shares = joined.hear(round, work, incoming);
+    if shares.is_some() {
+        close(state);
+    } else {
+        state.phase = Phase::Job(Turn::Speak(round + 1));
+    }
+    Ok(shares)
 }
 
-// Closes the job. Its tape remains spent.
+// No job is open any more, and nothing is left of it.
+fn close(state: &mut State)
+    ensures { state.new ≡ in_phase state.old Idle no_batch }
+{
+    state.phase = Phase::Idle;
+    state.batch = state::NO_BATCH;
+}
+
+// Closes the job. Its tapes remain spent.
 #[tactic(auto, using(refusals::proofs::Numbers::numbered), unfolding(rules::specs::Calls::drop_rule))]
 pub fn drop(state: &mut State) -> Result<(), Refusal>
     ensures { outcome (reply_of (λ _. dropped) result) state.new [] ≡ drop_rule state.old }
 {
-    checks::drop_check(*state)?;
-    state.phase = Phase::Idle;
+    checks::drop_check(&*state)?;
+    close(state);
     Ok(())
 }

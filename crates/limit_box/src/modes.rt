@@ -1,9 +1,13 @@
 // What a state counts as. Outside document 01's ranges it counts as asleep.
-ghost use Rattle.std.specs.Prelude.{◌≡◌, true};
-ghost use Rattle.rules.specs.Modes.{round_of, round_fits, phase_fits, in_range, mode_of, is_due};
+ghost use Rattle.std.specs.Prelude.{◌≡◌, true, ◌+◌, ◌&&◌, ◌<◌, ltb, get_or};
+ghost use Rattle.field.specs.Width.{modulus};
+ghost use Rattle.protocol.specs.Sizes.{most_jobs};
+ghost use Rattle.tally.specs.Tally.{tapes_of};
+ghost use Rattle.rules.specs.Modes.{round_of, round_fits, batch_fits, phase_fits, in_range, mode_of, is_due};
 
 use field::Width;
-use rules::state::{Phase, State, Turn};
+use rules::state;
+use rules::state::{Batch, Phase, State, Turn};
 
 fn round_of(turn: Turn) -> u32
     ensures { result ≡ round_of turn }
@@ -19,36 +23,56 @@ fn round_fits(round: u32) -> bool
     (1..=compare::words::LAST_ROUND).contains(&round)
 }
 
-fn phase_fits(n: Width, tally: u32, phase: Phase) -> bool
-    ensures { result ≡ phase_fits n.bits tally phase }
+// Job i's tape number and its shares.
+fn job_fits(n: Width, tally: u32, batch: &Batch, i: usize) -> bool
+    requires { i < most_jobs }
+    ensures { result ≡ (ltb (batch.now.first + i) (tapes_of tally)
+        && ltb (get_or batch.now.x i 0) (modulus n.bits) && ltb (get_or batch.now.y i 0) (modulus n.bits)) }
+{
+    batch.first as usize + i < tally::tapes_of(tally as usize)
+        && n.contains(batch.x[i])
+        && n.contains(batch.y[i])
+}
+
+fn batch_fits(n: Width, tally: u32, batch: &Batch) -> bool
+    ensures { result ≡ batch_fits n.bits tally batch.now }
+{
+    if !state::count_fits(batch.count) {
+        return false;
+    }
+    for i in 0..batch.count as usize {
+        if !job_fits(n, tally, batch, i) {
+            return false;
+        }
+    }
+    true
+}
+
+fn phase_fits(n: Width, tally: u32, batch: &Batch, phase: Phase) -> bool
+    ensures { result ≡ phase_fits n.bits tally batch.now phase }
 {
     match phase {
         Phase::Asleep | Phase::Idle => true,
-        Phase::Job { turn, number, x, y } => {
-            (number as usize) < tally::tapes_of(tally as usize)
-                && round_fits(round_of(turn))
-                && n.contains(x)
-                && n.contains(y)
-        }
+        Phase::Job(turn) => round_fits(round_of(turn)) && batch_fits(n, tally, batch),
     }
 }
 
 #[tactic(auto, unfolding(rules::specs::Modes::in_range))]
-fn in_range(state: State) -> bool
-    ensures { result ≡ in_range state }
+fn in_range(state: &State) -> bool
+    ensures { result ≡ in_range state.now }
 {
     let Some(n) = Width::new(state.n) else {
         return false;
     };
     shares::is_side(state.side)
         && tally::tally_fits(state.tally as usize)
-        && phase_fits(n, state.tally, state.phase)
+        && phase_fits(n, state.tally, &state.batch, state.phase)
 }
 
 // The phase, or asleep for a state outside the ranges.
 #[tactic(auto, unfolding(rules::specs::Modes::mode_of))]
-pub fn mode_of(state: State) -> Phase
-    ensures { result ≡ mode_of state }
+pub fn mode_of(state: &State) -> Phase
+    ensures { result ≡ mode_of state.now }
 {
     if in_range(state) {
         return state.phase;
@@ -56,16 +80,12 @@ pub fn mode_of(state: State) -> Phase
     Phase::Asleep
 }
 
-// Whether a call with that tape number and turn is the one due.
-pub fn is_due(phase: Phase, number: u32, turn: Turn) -> bool
-    ensures { result ≡ is_due phase number turn }
+// Whether a call with that first number and turn is the one due, where the open job has its own.
+pub fn is_due(phase: Phase, own: u32, first: u32, turn: Turn) -> bool
+    ensures { result ≡ is_due phase own first turn }
 {
     match phase {
         Phase::Asleep | Phase::Idle => false,
-        Phase::Job {
-            turn: due,
-            number: own,
-            ..
-        } => number == own && turn == due,
+        Phase::Job(due) => first == own && turn == due,
     }
 }

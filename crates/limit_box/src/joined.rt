@@ -1,0 +1,107 @@
+// A box in the jobs that its start took: what it sends and what it hears is joined from theirs, each lent its own part of every buffer.
+ghost use Rattle.std.specs.Prelude.{◌≡◌, true, ◌+◌, ◌*◌, ◌<◌, ◌≤◌, cond, Some, None, eqb, length};
+ghost use Rattle.std.proofs.lemmas.List.Edits.{sets};
+ghost use Rattle.protocol.specs.Rounds.{last_round};
+ghost use Rattle.protocol.specs.Sizes.{most_jobs, round_for, work_for};
+ghost use Rattle.compare.specs.Parties.{party_of as given};
+ghost use Rattle.rules.specs.Batches.{party_of, each_job, x_in, y_in, batch_of, joined_message, joined_after, answer_shares};
+ghost use Rattle.rules.specs.Grounds.{words_fit};
+ghost use Rattle.limit_box.specs.Given.{Given};
+
+use compare::Party;
+use compare::words::LAST_ROUND;
+use field::Width;
+use rules::state::{Batch, MOST_JOBS, State};
+
+// How many words so many jobs send in a round.
+#[tactic(auto, using(protocol::proofs::Lengths::words_most))]
+pub fn words_for(n: Width, count: u32, round: u32) -> usize
+    ensures { result ≡ round_for n.bits count round }
+{
+    count as usize * compare::words::words_of(n, round)
+}
+
+// What the state holds of the jobs that a start takes.
+pub fn batch_of(first: u32, count: u32, shares: &[u32]) -> Batch
+    requires { length shares.now ≡ 2 * count }
+    ensures { result ≡ batch_of first count shares.now }
+{
+    let jobs = count as usize;
+    Batch {
+        first,
+        count,
+        x: std::array::from_fn(|i| if i < jobs { shares[2 * i] } else { 0 }),
+        y: std::array::from_fn(|i| if i < jobs { shares[2 * i + 1] } else { 0 }),
+    }
+}
+
+// A state in a job and the tapes that it was lent, as the checks found them.
+#[derive(Clone, Copy)]
+pub struct Joined<'a> {
+    pub state: &'a State,
+    pub tapes: &'a [u32],
+    pub ghost given: { Given state.now tapes.now },
+}
+
+impl<'a> Joined<'a> {
+    pub fn width(self) -> Width
+        ensures { result.bits ≡ self.entry.state.now.n }
+    {
+        Width { bits: self.state.n }
+    }
+
+    // The box in job i.
+    fn party(self, i: usize) -> Party<'a>
+        requires { i < self.state.now.batch.count }
+        ensures { given result ≡ party_of self.entry.state.now self.entry.tapes.now i }
+    {
+        let n = self.width();
+        let words = tape::tape_words(n);
+        let from = i * words;
+        let Batch { x, y, .. } = self.state.batch;
+        Party {
+            n,
+            side: self.state.side,
+            x: x[i],
+            y: y[i],
+            tape: &self.tapes[from..from + words],
+        }
+    }
+
+    // Writes the round's words of every job at the front of out.
+    pub fn speak(self, round: u32, work: &[u32], out: &mut [u32])
+        requires { (work_for self.state.now.n self.state.now.batch.count ≤ length work.now)
+            × (round_for self.state.now.n self.state.now.batch.count round ≤ length out.old) }
+        ensures { out.new ≡ sets out.old 0 (joined_message self.entry.state.now self.entry.tapes.now work.now round) }
+    {
+        let n = self.width();
+        let room = compare::words::work_words(n.bits);
+        let words = compare::words::words_of(n, round);
+        for i in 0..self.state.batch.count as usize {
+            let kept = &work[i * room..i * room + room];
+            let sent = &mut out[i * words..i * words + words];
+            self.party(i).speak(round, kept, sent);
+        }
+    }
+
+    // Takes in the other box's words, each job its own. The answer shares come back after the last round.
+    pub fn hear(self, round: u32, work: &mut [u32], incoming: &[u32]) -> Option<[u32; MOST_JOBS]>
+        requires room { work_for self.state.now.n self.state.now.batch.count ≤ length work.old }
+        requires words { (length incoming.now ≡ round_for self.state.now.n self.state.now.batch.count round)
+            × (words_fit self.state.now.n incoming.now ≡ true) }
+        ensures shares { result ≡ cond (eqb round last_round)
+            (Some (answer_shares self.entry.state.now self.entry.tapes.now work.old incoming.now)) None }
+        ensures work { work.new ≡ joined_after self.entry.state.now self.entry.tapes.now work.old round incoming.now }
+    {
+        let n = self.width();
+        let room = compare::words::work_words(n.bits);
+        let words = compare::words::words_of(n, round);
+        let mut answers = [0u32; MOST_JOBS];
+        for i in 0..self.state.batch.count as usize {
+            let kept = &mut work[i * room..i * room + room];
+            let heard = &incoming[i * words..i * words + words];
+            answers[i] = self.party(i).hear(round, kept, heard).unwrap_or(0);
+        }
+        if round == LAST_ROUND { Some(answers) } else { None }
+    }
+}
