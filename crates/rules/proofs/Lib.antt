@@ -8,3 +8,4 @@ mod Refusals
 mod Moves
 pub mod Answering
 pub mod AsRead
+pub mod Sizes

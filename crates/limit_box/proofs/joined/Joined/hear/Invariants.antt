@@ -8,7 +8,7 @@ use Rattle.limit_box.proofs.Hearing.{after_at, answer_at}
 use Rattle.limit_box.proofs.joined.Joined.hear.Given as goal
 
 abbrev pub invariant-loop-i : goal.invariant-loop-i
-invariant-loop-i g l =
+invariant-loop-i l =
     let s = l.self.state.now in
     (l.work ≡ sets l.initial.work 0 (chained l.i (after_at s l.self.tapes.now l.initial.work l.round l.incoming)))
     × (l.answers ≡ each_job l.i (answer_at s l.self.tapes.now l.initial.work l.round l.incoming))
