@@ -4,6 +4,7 @@ pub mod Chained
 pub mod Ranges
 pub mod Passed
 pub mod Spoken
+pub mod Later
 mod Refusals
 mod Moves
 pub mod Answering
