@@ -108,8 +108,7 @@ module _ (g : Setting) (log : List Event) (es : List Entry) (place : ℕ) (w : W
   booked (wake n side p) end = tt
   booked (start first count lent) end =
       λ cause.
-      let m = memory_of w c in
-      (
+      let m = memory_of w c in (
         ap (λ (k : ℕ). clip m.state.n (g.shares c k)) (start_at first count lent end cause)
             ∙ passed_same m.state first count (g.shares c place) _ _ _ (start_passed m.state first count _ _ _ _ cause),
         start_took first count lent end cause,
@@ -127,8 +126,7 @@ module _ (g : Setting) (log : List Event) (es : List Entry) (place : ℕ) (w : W
   booked_too g' w' (wake n side p) k f end = tt
   booked_too g' w' (start first count lent) k f end =
       λ cause.
-      let m' = memory_of w' c in
-      (
+      let m' = memory_of w' c in (
         ap (λ (i : ℕ). clip m'.state.n (g'.shares c i)) (start_at first count lent end (f ∙ cause))
             ∙ passed_same m'.state first count (g'.shares c place) _ _ _ (start_passed m'.state first count _ _ _ _ cause),
         rw (← (k.memories c).state.n) (start_took first count lent end (f ∙ cause)),

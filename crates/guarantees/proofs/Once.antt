@@ -78,11 +78,11 @@ unfolding start_rule
 started_said s first count shares tapes work tally cause = rw cause refl
 
 module _ (g : Setting) (place : ℕ) (w : World) (b : Box) (first count : ℕ) (lent : Lent) (es : List Entry) where
-  abbrev log : List Event
-  log = (run g (suc place) (stepped g place w b (start first count lent)) es).log
+  abbrev longer : List Event
+  longer = (run g (suc place) (stepped g place w b (start first count lent)) es).log
 
-  abbrev event : Event
-  event =
+  abbrev start_event : Event
+  start_event =
       let m = memory_of w b in
       record {
         box = b;
@@ -93,24 +93,24 @@ module _ (g : Setting) (place : ℕ) (w : World) (b : Box) (first count : ℕ) (
         incoming = [];
       }
 
-  grown : Grown (stepped g place w b (start first count lent)).log log
+  grown : Grown (stepped g place w b (start first count lent)).log longer
   grown = run_grows g (suc place) (stepped g place w b (start first count lent)) es
 
-  log_is : log ≡ w.log ++ (event ∷ grown.more)
+  longer_is : longer ≡ w.log ++ (start_event ∷ grown.more)
   unfolding stepped
-  log_is = grown.is ∙ ap (λ (l : List Event). l ++ grown.more) (after_log w b _ event) ∙ append_assoc w.log (event ∷ []) grown.more
+  longer_is = grown.is ∙ ap (λ (l : List Event). l ++ grown.more) (after_log w b _ start_event) ∙ append_assoc w.log (start_event ∷ []) grown.more
 
   module _ (h : Marked w)
       (cause : start_ground (memory_of w b).state first count (g.shares b place) (tape_words g lent) (memory_of w b).work (memory_of w b).tally ≡ 0) where
     -- each of its numbers is found again at its place
-    pub found : (i : ℕ) → i < count → taken_at log b (first + i) ≡ length w.log
+    pub found : (i : ℕ) → i < count → taken_at longer b (first + i) ≡ length w.log
     found i less =
         let m = memory_of w b in
         let shares = g.shares b place in
-        ap (λ (l : List Event). taken_at l b (first + i)) log_is
-        ∙ at_end w.log event grown.more b (first + i)
+        ap (λ (l : List Event). taken_at l b (first + i)) longer_is
+        ∙ at_end w.log start_event grown.more b (first + i)
         (h.unopened b (first + i) ((start_passed m.state first count shares (tape_words g lent) m.work m.tally cause).fresh i less))
-        (takes_lem b (first + i) event
+        (takes_lem b (first + i) start_event
         (record {
           box = refl;
           from = omega arith;
@@ -119,10 +119,10 @@ module _ (g : Setting) (place : ℕ) (w : World) (b : Box) (first count : ℕ) (
         }))
 
     -- and what is found is its job
-    pub found_key : (i : ℕ) → i < count → key_found log b (first + i) ≡ job_key first count (memory_of w b).state.n
+    pub found_key : (i : ℕ) → i < count → key_found longer b (first + i) ≡ job_key first count (memory_of w b).state.n
     found_key i less =
         ap (λ (e : Event). e.key)
-        (ap (event_at log) (found i less) ∙ ap (λ (l : List Event). event_at l (length w.log)) log_is ∙ event_at_lem w.log event grown.more)
+        (ap (event_at longer) (found i less) ∙ ap (λ (l : List Event). event_at l (length w.log)) longer_is ∙ event_at_lem w.log start_event grown.more)
 
 -- ---- a number is taken once
 
