@@ -21,15 +21,15 @@ fits_read n words =
     ∙ ap (λ (k : ℕ). every k (λ i. legible n (get_or words i 0))) (length_read n words)
 
 pub ground_read : (s : State) (number round : ℕ) (tape work incoming : List ℕ)
-    → hear_ground s number round tape work (read_words s.n incoming) ≡ hear_ground s number round tape work incoming
+    → hear_ground s first round tapes work (read_words s.n incoming) ≡ hear_ground s first round tapes work incoming
 unfolding hear_ground
-ground_read s number round tape work incoming = rw (fits_read s.n incoming, length_read s.n incoming) refl
+ground_read s first round tapes work incoming = rw (fits_read s.n incoming, length_read s.n incoming) refl
 
 pub heard_as_read : HeardAsRead
 unfolding hear_rule heard_after
-heard_as_read s number round tape work incoming =
+heard_as_read s first round tapes work incoming =
     rw (
-      ground_read s number round tape work incoming,
+      ground_read s first round tapes work incoming,
       after_read (party_of s tape) work incoming round,
       answer_read (party_of s tape) work incoming,
     )
