@@ -1,12 +1,13 @@
 -- The grounds of several jobs, one job after the other: the first job that has one decides.
 use Prim.Native.Nat.{ℕ, zero, suc, ◌<◌, ◌≤◌}
-use mathlib.Core.Path.{◌≡◌}
+use mathlib.Core.Path.{◌≡◌, refl}
 use mathlib.Core.List.{List}
 use mathlib.Core.Logic.{⊎_elim}
 use native.Mathlib.Nat.{not-suc-le-zero, le_of_suc-le-suc, eq-or-lt_of_le}
 use native.Mathlib.Omega.{arith}
+use Rattle.std.proofs.lemmas.List.{map-append}
 use Rattle.lists.specs.Joined.{chained}
-use Rattle.refusals.specs.Grounds.{Ground, earliest_of}
+use Rattle.refusals.specs.Grounds.{Ground, earliest_of, numbers_of}
 use Rattle.refusals.proofs.Chains.{first_some, first_none, both_none}
 
 -- where none of them has one, no job has
@@ -30,3 +31,8 @@ chained_some k (suc m) f cause most e positive = ⊎_elim
     (λ same. rw same at e)
     (λ before. first_some (chained m f) (f m) cause (chained_some k m f cause (le_of_suc-le-suc before) e positive) positive)
     (eq-or-lt_of_le most)
+
+-- their numbers, job by job
+pub numbers_chained : (count : ℕ) (f : ℕ → List Ground) → numbers_of (chained count f) ≡ chained count (λ i. numbers_of (f i))
+numbers_chained zero f = refl
+numbers_chained (suc k) f = rw (map-append _ (chained k f) (f k), numbers_chained k f) refl
