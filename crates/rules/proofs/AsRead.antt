@@ -6,7 +6,6 @@ use lib.ListN.{length, get_or, take, drop}
 use lib.Seq.{sets}
 use Rattle.std.proofs.lemmas.List.{take-map, drop-map}
 use Rattle.lists.specs.Every.{every}
-use Rattle.lists.specs.Joined.{part}
 use Rattle.lists.proofs.Every.{every_same}
 use Rattle.lists.proofs.Joined.{chained_same}
 use Rattle.shares.specs.Reading.{read, legible, read_words}

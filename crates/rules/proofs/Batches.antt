@@ -1,12 +1,12 @@
 -- How many jobs a start takes, and the words that stand for them, one for each.
 use Prim.Native.Nat.{ℕ, ◌<◌, ◌≤◌}
 use mathlib.Core.Path.{◌≡◌, refl, ◌∙◌}
-use mathlib.Core.Bool.{Bool, true, false, cond}
-use mathlib.Core.Logic.{◌⊎◌, inl, inr, by_cases}
+use mathlib.Core.Bool.{true, cond}
+use mathlib.Core.Logic.{by_cases}
 use native.Mathlib.Decide.{dec_lt}
 use native.Mathlib.Omega.{arith}
 use lib.Dec.{leb, ltb}
-use lib.ListN.{length, get_or, get_or-eq_default}
+use lib.ListN.{get_or, get_or-eq_default}
 use borrow.Author.Tests.{leb-true, lt-ltb, le-ltb}
 use Rattle.lists.proofs.Tests.{and_left, and_right}
 use Rattle.lists.proofs.Tabulate.{length_tabulate, get_d_tabulate, tabulate_same}

@@ -1,12 +1,12 @@
 -- The jobs' messages joined: how long they are, that they stand at the front of out, and that their words are below p. And what is kept in each job's
 -- part of work after such words were heard.
-use Prim.Native.Nat.{ℕ, ◌+◌, ◌*◌, ◌<◌, ◌≤◌}
+use Prim.Native.Nat.{ℕ, ◌<◌, ◌≤◌}
 use mathlib.Core.Path.{◌≡◌, ap, ◌∙◌}
 use mathlib.Core.Bool.{true}
 use mathlib.Core.List.{List}
 use native.Mathlib.Nat.{le_of_lt}
 use native.Mathlib.Omega.{arith}
-use lib.ListN.{length, get_or, take}
+use lib.ListN.{length, take}
 use lib.Seq.{sets, length-sets, take_at}
 use borrow.Author.Tests.{le-leb}
 use Rattle.lists.proofs.Every.{every_intro}
