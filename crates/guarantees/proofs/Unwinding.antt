@@ -28,7 +28,7 @@ use Rattle.guarantees.proofs.Tapes.{tapes_alike}
 use Rattle.guarantees.proofs.SameGrounds.{start_ground_lem, keeps_too}
 use Rattle.guarantees.proofs.Invariant.{Uttered, Answered, Conforms, Invariant, Booked, invariant_next}
 
-other_twice : (b : Box) → other_box (other_box b) ≡ b
+pub other_twice : (b : Box) → other_box (other_box b) ≡ b
 other_twice box1 = refl
 other_twice box2 = refl
 

@@ -39,8 +39,7 @@ view_places b log d number =
 pub same_view : (b : Box) (log log' : List Event) → view b log ≡ view b log' → SamePlaces log log'
 same_view b log log' e d number =
     let own = view_places b log d number in
-    let others = view_places b log' d number in
-    (
+    let others = view_places b log' d number in (
       sym own.0 ∙ ap (λ (l : List Event). taken_at l d number) e ∙ others.0,
       sym own.1 ∙ ap (λ (l : List Event). key_found l d number) e ∙ others.1,
     )
