@@ -1,5 +1,6 @@
--- Demand 3: the pairing of a box's tapes. Each tape is moved as the shares ask that were lent for it at the start that took it; where that was is the same in
--- both runs. Of a key that both boxes opened the exchanges look the same; where only the other box opened it, no more was spoken than its first round.
+-- Demand 3: the pairing of a box's tapes. Each tape is moved as the shares ask that were lent for it at the start that took it; where that was
+-- is the same in both runs. The exchanges of a key that the box opened look the same. Of a key that only the other box opened no more was spoken
+-- than round 1, which shows nothing of the box.
 use Prim.Native.Nat.{ℕ, zero, suc, ◌+◌, ◌-◌, ◌*◌, ◌<◌}
 use mathlib.Core.Path.{◌≡◌, refl, sym, ap, ap₂, subst, ◌∙◌}
 use mathlib.Core.Bool.{true}
@@ -263,7 +264,9 @@ module _ (c : Common) (b : Box) (shares shares' : ℕ → Lending) where
       back_places : (own : TapeSet) → Valid c b own → (w : Loose) → Premises c b shares' shares own w
           → SamePlaces log (events c b own shares' w)
       back_places own v w p d number =
-          let there = same_view b log (events c b partner_set shares' e.loose) (looks_same c b shares shares' log e.own e.valid e.loose e.premises same_log e.loose) d number in
+          let there =
+          same_view b log (events c b partner_set shares' e.loose)
+          (looks_same c b shares shares' log e.own e.valid e.loose e.premises same_log e.loose) d number in
           let back =
           same_places c b shares' partner_set own (moved_valid c b log shares shares' e.own e.valid) v e.loose w
           (meets_too c b shares shares' log e.own e.valid e.loose e.premises same_log e.loose).meets p.meets d number in

@@ -1,5 +1,5 @@
--- Joined tapes that are lent by name are in order alike in two runs: as many tapes of a width are never as long as 1 to 8 of another, so where their length is
--- the due one, the parts that a call looks at are the dealt tapes themselves.
+-- Joined tapes that are lent by name are in order alike in two runs: any number of tapes of one width is never as long as 1 to 8 of another, so
+-- where the length is the due one, the parts that a call looks at are the dealt tapes themselves.
 use Prim.Native.Nat.{ℕ, suc, ◌+◌, ◌-◌, ◌*◌, ◌%◌, ◌<◌}
 use mathlib.Core.Path.{◌≡◌, refl, sym, ap, ◌∙◌}
 use mathlib.Core.Bool.{Bool, true, false, not, ◌||◌, cond, true≢false}
