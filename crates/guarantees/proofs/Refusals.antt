@@ -1,8 +1,8 @@
 -- The same refusal in both runs: low-equivalent states, given tapes, shares and words that the tests do not tell apart. A call's grounds come
 -- in a chain, and where one list of them lets the call pass, it is known in the next what that list asked.
 use Prim.Native.Nat.{ℕ, zero, suc, ◌+◌, ◌*◌, ◌<◌}
-use mathlib.Core.Path.{◌≡◌, refl, sym, ap, ◌∙◌}
-use mathlib.Core.Bool.{Bool, true, false, not, ◌&&◌, ◌||◌, true≢false}
+use mathlib.Core.Path.{◌≡◌, refl, sym, ◌∙◌}
+use mathlib.Core.Bool.{Bool, true, false, ◌&&◌, true≢false}
 use mathlib.Core.List.{List, [], ◌∷◌, ◌++◌}
 use mathlib.Core.Logic.{◌⊎◌, inl, inr}
 use native.Mathlib.Omega.{arith}
@@ -18,13 +18,13 @@ use Rattle.refusals.specs.Grounds.{Ground, earliest_of, joined}
 use Rattle.refusals.proofs.Chains.{none, first_some, first_none}
 use Rattle.rules.specs.Modes.{mode_of, is_asleep}
 use Rattle.rules.specs.Batches.{x_in, y_in}
-use Rattle.rules.specs.Grounds.{idle_grounds, job_grounds, count_grounds, due_grounds, tally_grounds, list_grounds, tapes_long, tape_ordered, tapes_grounds, room_grounds, word_grounds, words_fit, message_fits, one_parts, start_parts, turn_parts, turn_grounds, wake_ground, start_ground, speak_ground, hear_ground, drop_ground}
+use Rattle.rules.specs.Grounds.{idle_grounds, job_grounds, count_grounds, due_grounds, list_grounds, tapes_long, tape_ordered, tapes_grounds, room_grounds, word_grounds, words_fit, message_fits, one_parts, start_parts, turn_parts, turn_grounds, wake_ground, start_ground, speak_ground, hear_ground, drop_ground}
 use Rattle.rules.specs.declared.state.Turn.{Turn}
 use Rattle.rules.specs.declared.state.Turn.TheVariants.{Speak, Hear}
 use Rattle.rules.specs.declared.state.State.{State}
 use Rattle.rules.proofs.Ranges.{due_job, job_range}
 use Rattle.guarantees.proofs.LowEquivalence.{LowState}
-use Rattle.guarantees.proofs.LowModes.{mode_same, asleep_same, job_same, due_same}
+use Rattle.guarantees.proofs.LowModes.{mode_same, asleep_same, due_same}
 
 -- ---- chains of grounds that come to the same
 

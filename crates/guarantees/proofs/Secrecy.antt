@@ -2,7 +2,7 @@
 -- is the same in both runs. The exchanges of a key that the box opened look the same. Of a key that only the other box opened no more was spoken
 -- than round 1, which shows nothing of the box.
 use Prim.Native.Nat.{ℕ, zero, suc, ◌+◌, ◌-◌, ◌*◌, ◌<◌}
-use mathlib.Core.Path.{◌≡◌, refl, sym, ap, ap₂, subst, ◌∙◌}
+use mathlib.Core.Path.{◌≡◌, refl, ap, ap₂, subst, ◌∙◌}
 use mathlib.Core.Bool.{true}
 use mathlib.Core.List.{List, [], ◌∷◌}
 use mathlib.Core.Logic.{◌⊎◌, inl, inr}
@@ -32,7 +32,7 @@ use Rattle.guarantees.proofs.Once.{Once, once_run}
 use Rattle.guarantees.proofs.Unwinding.{other_twice, Alike, Related, views}
 use Rattle.guarantees.proofs.Books.{reduced, Took, took_all, book_of}
 use Rattle.guarantees.proofs.Runs.{Both, both}
-use Rattle.guarantees.proofs.Pairs.{KeyAlike, JobAlike, Stays, first_alike, sent_alike, answers_alike}
+use Rattle.guarantees.proofs.Pairs.{KeyAlike, Stays, first_alike, sent_alike, answers_alike}
 use Rattle.guarantees.proofs.Views.{SamePlaces, same_view, same_low}
 use Rattle.guarantees.proofs.Fitting.{fitting_first}
 use Rattle.guarantees.proofs.Schedule.{same_schedule}

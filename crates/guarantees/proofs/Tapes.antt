@@ -25,7 +25,7 @@ use Rattle.protocol.specs.Sizes.{most_jobs, count_fits, tape_for}
 use Rattle.rules.specs.Batches.{tape_part}
 use Rattle.rules.specs.declared.state.State.{State}
 use Rattle.rules.proofs.Batches.{count_most}
-use Rattle.guarantees.specs.Boxes.{Box, side_of}
+use Rattle.guarantees.specs.Boxes.{side_of}
 use Rattle.guarantees.specs.Entries.{Lent, dealt, loose}
 use Rattle.guarantees.specs.Run.{Setting, tape_words}
 use Rattle.guarantees.proofs.Jobs.{InOrder}
