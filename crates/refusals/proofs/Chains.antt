@@ -27,6 +27,10 @@ none (g ∷ gs) e =
     let p = pass g gs e in
     (p.0, none gs p.1)
 
+pub none_earliest : (gs : List Ground) → None gs → earliest_of gs ≡ 0
+none_earliest [] c = refl
+none_earliest (g ∷ gs) c = rw c.0 (none_earliest gs c.1)
+
 -- ---- one list after another
 
 pub first_some : (gs hs : List Ground) (k : ℕ) → earliest_of gs ≡ k → 0 < k → earliest_of (gs ++ hs) ≡ k

@@ -1,29 +1,32 @@
 -- Demand 1 over the rules, proved: from what is refused (Refusals), what a call that goes on was given (Passed), and its moves (Moves).
-use Prim.Native.Nat.{ℕ, ◌+◌, ◌<◌, ◌≤◌}
+use Prim.Native.Nat.{ℕ, ◌+◌, ◌-◌, ◌≤◌}
 use mathlib.Core.Path.{◌≡◌, refl, sym, ap, ◌∙◌}
 use mathlib.Core.Bool.{Bool, true, false, cond, or-true, true≢false}
-use mathlib.Core.List.{List, [], ◌∷◌}
-use mathlib.Core.Logic.{◌⊎◌}
+use mathlib.Core.List.{List, [], ◌∷◌, ◌++◌}
 use native.Mathlib.Omega.{arith}
 use borrow.Author.Tests.{eqb-true, eqb-false, eq-eqb}
 use lib.Dec.{eqb}
-use lib.ListN.{length, get_or}
+use lib.ListN.{length}
+use Rattle.std.proofs.lemmas.List.{map-append}
+use Rattle.lists.specs.Joined.{chained}
 use Rattle.field.specs.Width.{listed, among}
 use Rattle.shares.specs.Side.{is_side}
 use Rattle.refusals.specs.Numbers.{number_of}
-use Rattle.refusals.specs.Grounds.{Ground, earliest_of, numbers_of}
-use Rattle.tally.specs.Tally.{mark_bytes, tally_fits, tapes_of, mark_at, is_fresh}
+use Rattle.refusals.specs.Grounds.{Ground, earliest_of, numbers_of, joined}
+use Rattle.tally.specs.Tally.{tally_fits, tapes_of}
+use Rattle.tally.proofs.Starts.{starts}
 use Rattle.rules.specs.Modes.{in_range, mode_of, is_asleep, in_job, asleep_state}
-use Rattle.rules.specs.Grounds.{wake_ground, start_ground, speak_ground, hear_ground, drop_ground}
+use Rattle.rules.specs.Grounds.{one_parts, start_grounds, wake_ground, start_ground, speak_ground, hear_ground, drop_ground}
 use Rattle.rules.specs.Calls.{wake_rule, start_rule}
 use Rattle.rules.specs.AnyCall.{Call, wake, start, speak, hear, drop, ground_of, result_of, is_wake, is_refused, order_of, grounds_of}
 use Rattle.rules.specs.Moves.{Opens, TakesJob}
 use Rattle.rules.specs.Answering.{Answering}
 use Rattle.rules.specs.declared.state.Phase.TheVariants.{Asleep}
 use Rattle.rules.specs.declared.state.State.{State}
+use Rattle.rules.proofs.Batches.{count_most}
+use Rattle.rules.proofs.Chained.{numbers_chained}
 use Rattle.rules.proofs.Refusals.{call_by_ground, asleep_refuses, awake_refuses}
-use Rattle.tally.proofs.Marks.{marked_spent, marked_beside, marked_length}
-use Rattle.rules.proofs.Passed.{start_passed}
+use Rattle.rules.proofs.Passed.{StartPassed, start_passed}
 use Rattle.rules.proofs.Moves.{woken, started_job, moves, keeps}
 
 -- ---- asleep
@@ -58,16 +61,24 @@ wakes s n side pair tally asleep width sided fits =
 first_is : (s : State) (call : Call) → ground_of s call ≡ earliest_of (grounds_of s call)
 unfolding wake_ground start_ground speak_ground hear_ground drop_ground
 first_is s (wake n side pair tally) = refl
-first_is s (start number x y tape work tally) = refl
-first_is s (speak number round tape work out) = refl
-first_is s (hear number round tape work incoming) = refl
+first_is s (start first count shares tapes work tally) = refl
+first_is s (speak first round tapes work out) = refl
+first_is s (hear first round tapes work incoming) = refl
 first_is s drop = refl
+
+-- a start's, job by job
+start_order : (s : State) (first count : ℕ) (shares tapes work tally : List ℕ)
+    → numbers_of (start_grounds s first count shares tapes work tally) ≡ order_of (start first count shares tapes work tally)
+start_order s first count shares tapes work tally =
+    let one : ℕ → List Ground = λ i. joined (one_parts s first count shares tapes tally i) in
+    ap (λ (rest : List ℕ). 1 ∷ 5 ∷ 16 ∷ 4 ∷ 12 ∷ rest)
+    (map-append _ (chained count one) _ ∙ ap (λ (numbers : List ℕ). numbers ++ (12 ∷ [])) (numbers_chained count one))
 
 order_is : (s : State) (call : Call) → numbers_of (grounds_of s call) ≡ order_of call
 order_is s (wake n side pair tally) = refl
-order_is s (start number x y tape work tally) = refl
-order_is s (speak number round tape work out) = refl
-order_is s (hear number round tape work incoming) = refl
+order_is s (start first count shares tapes work tally) = start_order s first count shares tapes work tally
+order_is s (speak first round tapes work out) = refl
+order_is s (hear first round tapes work incoming) = refl
 order_is s drop = refl
 
 -- the first that holds is one of them
@@ -99,14 +110,14 @@ one_or_six true e = omega (arith, e)
 one_or_six false e = omega (arith, e)
 
 -- with no job open speak, hear and drop are refused
-speak_refused : (s : State) (number round : ℕ) (tape work out : List ℕ) → in_job (mode_of s) ≡ false → speak_ground s number round tape work out ≡ 0 → ⊥
+speak_refused : (s : State) (first round : ℕ) (tapes work out : List ℕ) → in_job (mode_of s) ≡ false → speak_ground s first round tapes work out ≡ 0 → ⊥
 unfolding speak_ground
-speak_refused s number round tape work out e z = one_or_six (is_asleep (mode_of s)) (rw e at z)
+speak_refused s first round tapes work out e z = one_or_six (is_asleep (mode_of s)) (rw e at z)
 
-hear_refused : (s : State) (number round : ℕ) (tape work incoming : List ℕ) → in_job (mode_of s) ≡ false
-    → hear_ground s number round tape work incoming ≡ 0 → ⊥
+hear_refused : (s : State) (first round : ℕ) (tapes work incoming : List ℕ) → in_job (mode_of s) ≡ false
+    → hear_ground s first round tapes work incoming ≡ 0 → ⊥
 unfolding hear_ground
-hear_refused s number round tape work incoming e z = one_or_six (is_asleep (mode_of s)) (rw e at z)
+hear_refused s first round tapes work incoming e z = one_or_six (is_asleep (mode_of s)) (rw e at z)
 
 drop_refused : (s : State) → in_job (mode_of s) ≡ false → drop_ground s ≡ 0 → ⊥
 unfolding drop_ground
@@ -117,51 +128,45 @@ refused_no_job : (s : State) (call : Call) → (ground_of s call ≡ 0 → ⊥) 
     → in_job (mode_of (result_of s call).state) ≡ true → ⊥
 refused_no_job s call z e h = true≢false (sym h ∙ ap in_job (same_mode s call z) ∙ e)
 
-spends : (s : State) (number x y : ℕ) (tape work tally : List ℕ) → start_ground s number x y tape work tally ≡ 0 → number < tapes_of (length tally)
-    → is_fresh (start_rule s number x y tape work tally).buffer number ≡ false
-unfolding start_rule
-spends s number x y tape work tally z less = rw z (marked_spent tally number less)
+-- the last of a start's numbers is a tape's
+all_within : (s : State) (first count : ℕ) (shares tapes work tally : List ℕ) → StartPassed s first count shares tapes work tally
+    → first + count ≤ tapes_of (length tally)
+all_within s first count shares tapes work tally p =
+    let least = (count_most count p.counted).0 in
+    omega (arith, p.numbered (count - 1) (omega arith), least)
 
-keeps_length : (s : State) (number x y : ℕ) (tape work tally : List ℕ) → start_ground s number x y tape work tally ≡ 0
-    → length (start_rule s number x y tape work tally).buffer ≡ length tally
+opened : (s : State) (first count : ℕ) (shares tapes work tally : List ℕ) → start_ground s first count shares tapes work tally ≡ 0
+    → Opens s first count shares tally (start_rule s first count shares tapes work tally)
 unfolding start_rule
-keeps_length s number x y tape work tally z = rw z (marked_length tally number)
-
--- the mark changes no byte outside its group
-spends_only : (s : State) (number x y : ℕ) (tape work tally : List ℕ) → start_ground s number x y tape work tally ≡ 0
-    → (k : ℕ) → (k < mark_at number) ⊎ (mark_at number + mark_bytes ≤ k) → get_or (start_rule s number x y tape work tally).buffer k 0 ≡ get_or tally k 0
-unfolding start_rule
-spends_only s number x y tape work tally z k beside = rw z (marked_beside tally number k beside)
-
-opened : (s : State) (number x y : ℕ) (tape work tally : List ℕ) → start_ground s number x y tape work tally ≡ 0
-    → Opens s number x y tally (start_rule s number x y tape work tally)
-opened s number x y tape work tally z =
-    let p = start_passed s number x y tape work tally z in
+opened s first count shares tapes work tally z =
+    let p = start_passed s first count shares tapes work tally z in
+    let left = starts.marks tally first count (all_within s first count shares tapes work tally p) in
     record {
       awake = p.awake;
       same_length = p.same_tally;
       was_fresh = p.fresh;
       not_late = p.in_time;
-      is_spent = spends s number x y tape work tally z p.numbered;
-      left_length = keeps_length s number x y tape work tally z;
-      others = spends_only s number x y tape work tally z;
-      job = started_job s number x y tape work tally z;
+      is_spent = rw z left.spent;
+      left_length = rw z left.same_length;
+      others = rw z left.elsewhere;
+      phase = started_job s first count shares tapes work tally z;
+      batch = rw z refl;
     }
 
 takes_job : (s : State) (call : Call) → in_job (mode_of s) ≡ false → in_job (mode_of (result_of s call).state) ≡ true → TakesJob s call
 takes_job s (wake n side pair tally) e h = true≢false (sym h ∙ wake_no_job s n side pair tally e)
-takes_job s (start number x y tape work tally) e h = go (eqb (start_ground s number x y tape work tally) 0) refl
+takes_job s (start first count shares tapes work tally) e h = go (eqb (start_ground s first count shares tapes work tally) 0) refl
   where
     call : Call
-    call = start number x y tape work tally
+    call = start first count shares tapes work tally
 
     go : (t : Bool) → eqb (ground_of s call) 0 ≡ t → TakesJob s call
-    go true z = opened s number x y tape work tally (eqb-true (ground_of s call) 0 z)
+    go true z = opened s first count shares tapes work tally (eqb-true (ground_of s call) 0 z)
     go false z = absurd (refused_no_job s call (eqb-false (ground_of s call) 0 z) e h)
-takes_job s (speak number round tape work out) e h =
-    refused_no_job s (speak number round tape work out) (speak_refused s number round tape work out e) e h
-takes_job s (hear number round tape work incoming) e h =
-    refused_no_job s (hear number round tape work incoming) (hear_refused s number round tape work incoming e) e h
+takes_job s (speak first round tapes work out) e h =
+    refused_no_job s (speak first round tapes work out) (speak_refused s first round tapes work out e) e h
+takes_job s (hear first round tapes work incoming) e h =
+    refused_no_job s (hear first round tapes work incoming) (hear_refused s first round tapes work incoming e) e h
 takes_job s drop e h = refused_no_job s drop (drop_refused s e) e h
 
 -- ---- outside the ranges
@@ -190,9 +195,9 @@ both_one s r call a b e = asleep_refuses s call a e ∙ sym (asleep_refuses r ca
 
 asleep_ground : (s r : State) (call : Call) → is_asleep (mode_of s) ≡ true → is_asleep (mode_of r) ≡ true → ground_of s call ≡ ground_of r call
 asleep_ground s r (wake n side pair tally) a b = wake_same s r n side tally (a ∙ sym b)
-asleep_ground s r (start number x y tape work tally) a b = both_one s r (start number x y tape work tally) a b refl
-asleep_ground s r (speak number round tape work out) a b = both_one s r (speak number round tape work out) a b refl
-asleep_ground s r (hear number round tape work incoming) a b = both_one s r (hear number round tape work incoming) a b refl
+asleep_ground s r (start first count shares tapes work tally) a b = both_one s r (start first count shares tapes work tally) a b refl
+asleep_ground s r (speak first round tapes work out) a b = both_one s r (speak first round tapes work out) a b refl
+asleep_ground s r (hear first round tapes work incoming) a b = both_one s r (hear first round tapes work incoming) a b refl
 asleep_ground s r drop a b = both_one s r drop a b refl
 
 -- ---- all of it

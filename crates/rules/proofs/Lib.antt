@@ -1,4 +1,6 @@
 pub mod Decide
+pub mod Batches
+pub mod Chained
 pub mod Ranges
 pub mod Passed
 pub mod Spoken

@@ -1,29 +1,66 @@
--- A message at the front of out: it is what was spoken there, and its words are below p.
-use Prim.Native.Nat.{ℕ, ◌≤◌}
-use mathlib.Core.Path.{◌≡◌}
+-- The jobs' messages joined: how long they are, that they stand at the front of out, and that their words are below p. And what is kept in each job's
+-- part of work after such words were heard.
+use Prim.Native.Nat.{ℕ, ◌<◌, ◌≤◌}
+use mathlib.Core.Path.{◌≡◌, ap, ◌∙◌}
 use mathlib.Core.Bool.{true}
 use mathlib.Core.List.{List}
-use lib.ListN.{length, take}
-use lib.Seq.{sets}
-use borrow.Author.Tests.{le-leb}
 use native.Mathlib.Nat.{le_of_lt}
+use native.Mathlib.Omega.{arith}
+use lib.ListN.{length, take}
+use lib.Seq.{sets, length-sets, take_at}
+use borrow.Author.Tests.{le-leb}
 use Rattle.lists.proofs.Every.{every_intro}
+use Rattle.lists.proofs.Sets.{sets_front}
+use Rattle.lists.proofs.Joined.{within, length_chained, length_part, part_sets, all_chained}
 use Rattle.field.specs.Width.{listed}
 use Rattle.shares.specs.Reading.{legible}
-use Rattle.protocol.specs.Rounds.{round_words, message}
-use Rattle.protocol.proofs.Lengths.{message_front}
+use Rattle.protocol.specs.Work.{work_length}
+use Rattle.protocol.specs.Rounds.{round_words, message, after_hearing}
+use Rattle.protocol.specs.Sizes.{round_for, work_for}
+use Rattle.protocol.proofs.Lengths.{message_length, after_length}
 use Rattle.protocol.proofs.Ranges.{message_below}
+use Rattle.rules.specs.Batches.{party_of, work_part, words_part, joined_message, joined_after}
 use Rattle.rules.specs.Grounds.{words_fit}
-use Rattle.rules.specs.Calls.{party_of}
 use Rattle.rules.specs.declared.state.State.{State}
 
-pub spoken_front : (s : State) (tape work out : List ℕ) (round : ℕ) → round_words s.n round ≤ length out
-    → take (round_words s.n round) (sets out 0 (message (party_of s tape) work round)) ≡ message (party_of s tape) work round
-spoken_front s tape work out round room = message_front (party_of s tape) work out round room
+-- ---- what a box sends
 
--- its words are below p, so a box of that width can read them
-pub message_fits_lem : (s : State) (tape work : List ℕ) (round : ℕ) → listed s.n ≡ true → words_fit s.n (message (party_of s tape) work round) ≡ true
-unfolding legible
-message_fits_lem s tape work round l =
-    every_intro (length (message (party_of s tape) work round)) _
-    (λ i less. le-leb _ _ (le_of_lt ((message_below (party_of s tape) l work round).at i)))
+pub joined_length : (s : State) (tapes work : List ℕ) (round : ℕ) → length (joined_message s tapes work round) ≡ round_for s.n s.batch.count round
+unfolding joined_message
+joined_length s tapes work round =
+    length_chained s.batch.count (round_words s.n round) _ (λ i less. message_length (party_of s tapes i) (work_part s.n work i) round)
+
+pub spoken_front : (s : State) (tapes work out : List ℕ) (round : ℕ) → round_for s.n s.batch.count round ≤ length out
+    → take (round_for s.n s.batch.count round) (sets out 0 (joined_message s tapes work round)) ≡ joined_message s tapes work round
+spoken_front s tapes work out round room =
+    let words = joined_message s tapes work round in
+    let long = joined_length s tapes work round in
+    ap (take (round_for s.n s.batch.count round)) (sets_front out words (omega (arith, long)))
+    ∙ take_at words _ (round_for s.n s.batch.count round) long
+
+-- the words are below p, so a box of that width can read them
+pub message_fits_lem : (s : State) (tapes work : List ℕ) (round : ℕ) → listed s.n ≡ true → words_fit s.n (joined_message s tapes work round) ≡ true
+unfolding legible joined_message
+message_fits_lem s tapes work round l =
+    all_chained (legible s.n) s.batch.count (round_words s.n round) _
+    (λ i less.
+    every_intro (length (message (party_of s tapes i) (work_part s.n work i) round)) _
+    (λ j inside. le-leb _ _ (le_of_lt ((message_below (party_of s tapes i) l (work_part s.n work i) round).at j))))
+
+-- ---- what it holds after hearing
+
+pub joined_after_length : (s : State) (tapes work : List ℕ) (round : ℕ) (incoming : List ℕ)
+    → length (joined_after s tapes work round incoming) ≡ length work
+unfolding joined_after
+joined_after_length s tapes work round incoming = simp length-sets
+
+-- in each job's part what that job keeps of its own part of the words
+pub after_part : (s : State) (tapes work : List ℕ) (round : ℕ) (incoming : List ℕ) (i : ℕ) → i < s.batch.count → work_for s.n s.batch.count ≤ length work
+    → work_part s.n (joined_after s tapes work round incoming) i
+    ≡ after_hearing (party_of s tapes i) (work_part s.n work i) round (words_part s.n round incoming i)
+unfolding joined_after
+after_part s tapes work round incoming i less room =
+    part_sets work s.batch.count (work_length s.n) _ i less room
+    (λ k l.
+    after_length (party_of s tapes k) (work_part s.n work k) (words_part s.n round incoming k) round
+    ∙ length_part (work_length s.n) work k (omega (arith, within s.batch.count (work_length s.n) k l)))
