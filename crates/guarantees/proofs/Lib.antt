@@ -10,6 +10,7 @@ pub mod Invariant
 pub mod LowModes
 pub mod Refusals
 pub mod StepConsistency
+pub mod Tapes
 pub mod SameGrounds
 pub mod Fitting
 pub mod Schedule
