@@ -126,15 +126,25 @@ module _ {s s' : State} (t : LowState s s') where
     pub start_same : start_ground s first count shares tapes work tally ≡ start_ground s' first count shares' tapes' work' tally
     unfolding start_ground
     start_same =
-        joined_same (start_parts s first count shares tapes work tally) (start_parts s' first count shares' tapes' work' tally)
-        (rw (mode_same t) refl, λ idle.
-        (refl, λ counted.
-        (rw t.tally refl, λ same_tally.
-        (rw (shares_alike.0) refl, λ listed.
-        (each_same count _ _
-        (one_same (none (idle_grounds (mode_of s)) idle).0 (not-false (count_fits count) (none (count_grounds count) counted).0)
-        (eqb-true (length shares) (2 * count) (not-false (eqb (length shares) (2 * count)) (none (list_grounds count shares) listed).0))), λ passed.
-        (rw (room, t.n) refl, λ done. tt))))))
+        joined_same (start_parts s first count shares tapes work tally) (start_parts s' first count shares' tapes' work' tally) (
+          rw (mode_same t) refl,
+          λ idle. (
+            refl,
+            λ counted. (
+              rw t.tally refl,
+              λ same_tally. (
+                rw (shares_alike.0) refl,
+                λ listed. (
+                  each_same count _ _
+                      (one_same (none (idle_grounds (mode_of s)) idle).0 (not-false (count_fits count) (none (count_grounds count) counted).0)
+                      (eqb-true (length shares) (2 * count) (not-false (eqb (length shares) (2 * count)) (none (list_grounds count shares) listed).0))),
+                  λ passed.
+                      (rw (room, t.n) refl, λ done. tt),
+                ),
+              ),
+            ),
+          ),
+        )
 
   -- ---- speak and hear
 
@@ -150,11 +160,17 @@ module _ {s s' : State} (t : LowState s s') where
       (room : length work ≡ length work') (long : length buffer ≡ length buffer') where
     pub turn_same : earliest_of (turn_grounds s first turn tapes work buffer) ≡ earliest_of (turn_grounds s' first turn tapes' work' buffer')
     turn_same =
-        joined_same (turn_parts s first turn tapes work buffer) (turn_parts s' first turn tapes' work' buffer')
-        (rw (mode_same t) refl, λ job.
-        (rw (due_same first turn t) refl, λ is_next.
-        (rw (ordered_same (due_counted first turn job is_next)) refl, λ ordered.
-        (rw (room, long, t.n, t.count) refl, λ done. tt))))
+        joined_same (turn_parts s first turn tapes work buffer) (turn_parts s' first turn tapes' work' buffer') (
+          rw (mode_same t) refl,
+          λ job. (
+            rw (due_same first turn t) refl,
+            λ is_next. (
+              rw (ordered_same (due_counted first turn job is_next)) refl,
+              λ ordered.
+                  (rw (room, long, t.n, t.count) refl, λ done. tt),
+            ),
+          ),
+        )
       where
         ordered_same : count_fits s.batch.count ≡ true
             → tapes_long s s.batch.count tapes && every s.batch.count (tape_ordered s s.batch.first tapes)
