@@ -1,7 +1,6 @@
 -- Low-equivalent states count as the same: both asleep or neither, both in a job or neither, with the same turn due.
 use Prim.Native.Nat.{ℕ}
 use mathlib.Core.Path.{◌≡◌, refl, ap}
-use mathlib.Core.Bool.{Bool}
 use Rattle.rules.specs.Modes.{mode_of, is_asleep, in_job, is_due}
 use Rattle.rules.specs.declared.state.Turn.{Turn}
 use Rattle.rules.specs.declared.state.State.{State}

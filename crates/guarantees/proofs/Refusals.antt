@@ -1,8 +1,8 @@
--- The same refusal in both runs: low-equivalent states, given tapes, shares and words that the tests do not tell apart. A call's grounds come in a chain, and
--- where one list of them lets a call pass, it is known in the next what that list asked.
+-- The same refusal in both runs: low-equivalent states, given tapes, shares and words that the tests do not tell apart. A call's grounds come
+-- in a chain, and where one list of them lets the call pass, it is known in the next what that list asked.
 use Prim.Native.Nat.{ℕ, zero, suc, ◌+◌, ◌*◌, ◌<◌}
-use mathlib.Core.Path.{◌≡◌, refl, sym, ap, ◌∙◌}
-use mathlib.Core.Bool.{Bool, true, false, not, ◌&&◌, ◌||◌, true≢false}
+use mathlib.Core.Path.{◌≡◌, refl, sym, ◌∙◌}
+use mathlib.Core.Bool.{Bool, true, false, ◌&&◌, true≢false}
 use mathlib.Core.List.{List, [], ◌∷◌, ◌++◌}
 use mathlib.Core.Logic.{◌⊎◌, inl, inr}
 use native.Mathlib.Omega.{arith}
@@ -18,13 +18,13 @@ use Rattle.refusals.specs.Grounds.{Ground, earliest_of, joined}
 use Rattle.refusals.proofs.Chains.{none, first_some, first_none}
 use Rattle.rules.specs.Modes.{mode_of, is_asleep}
 use Rattle.rules.specs.Batches.{x_in, y_in}
-use Rattle.rules.specs.Grounds.{idle_grounds, job_grounds, count_grounds, due_grounds, tally_grounds, list_grounds, tapes_long, tape_ordered, tapes_grounds, room_grounds, word_grounds, words_fit, message_fits, one_parts, start_parts, turn_parts, turn_grounds, wake_ground, start_ground, speak_ground, hear_ground, drop_ground}
+use Rattle.rules.specs.Grounds.{idle_grounds, job_grounds, count_grounds, due_grounds, list_grounds, tapes_long, tape_ordered, tapes_grounds, room_grounds, word_grounds, words_fit, message_fits, one_parts, start_parts, turn_parts, turn_grounds, wake_ground, start_ground, speak_ground, hear_ground, drop_ground}
 use Rattle.rules.specs.declared.state.Turn.{Turn}
 use Rattle.rules.specs.declared.state.Turn.TheVariants.{Speak, Hear}
 use Rattle.rules.specs.declared.state.State.{State}
 use Rattle.rules.proofs.Ranges.{due_job, job_range}
 use Rattle.guarantees.proofs.LowEquivalence.{LowState}
-use Rattle.guarantees.proofs.LowModes.{mode_same, asleep_same, job_same, due_same}
+use Rattle.guarantees.proofs.LowModes.{mode_same, asleep_same, due_same}
 
 -- ---- chains of grounds that come to the same
 
@@ -36,19 +36,16 @@ chain_same gs gs' hs hs' front back = go (earliest_of gs) refl
     go zero q = first_none gs hs q ∙ back q ∙ sym (first_none gs' hs' (sym front ∙ q))
     go (suc k) q = first_some gs hs (suc k) q (omega arith) ∙ sym (first_some gs' hs' (suc k) (sym front ∙ q) (omega arith))
 
--- the same lists one after the other, each where those before it let the call pass
-abbrev Same : List (List Ground) → List (List Ground) → Type 0
-Same [] [] = Unit {0}
-Same [] (gs' ∷ parts') = ⊥
-Same (gs ∷ parts) [] = ⊥
-Same (gs ∷ parts) (gs' ∷ parts') = (earliest_of gs ≡ earliest_of gs') × (earliest_of gs ≡ 0 → Same parts parts')
+-- short lists one after the other, each the same where those before it let the call pass
+data Same : List (List Ground) → List (List Ground) → Type 0 where
+  done : Same [] []
+  next : {gs gs' : List Ground} {parts parts' : List (List Ground)} → earliest_of gs ≡ earliest_of gs' → (earliest_of gs ≡ 0 → Same parts parts')
+      → Same (gs ∷ parts) (gs' ∷ parts')
 
-joined_same : (parts parts' : List (List Ground)) → Same parts parts' → earliest_of (joined parts) ≡ earliest_of (joined parts')
-joined_same [] [] h = refl
-joined_same [] (gs' ∷ parts') h = absurd h
-joined_same (gs ∷ parts) [] h = absurd h
-joined_same (gs ∷ parts) (gs' ∷ parts') h =
-    chain_same gs gs' (joined parts) (joined parts') h.0 (λ passed. joined_same parts parts' (h.1 passed))
+joined_same : {parts parts' : List (List Ground)} → Same parts parts' → earliest_of (joined parts) ≡ earliest_of (joined parts')
+joined_same done = refl
+joined_same (next {gs} {gs'} {parts} {parts'} here later) =
+    chain_same gs gs' (joined parts) (joined parts') here (λ passed. joined_same (later passed))
 
 each_same : (count : ℕ) (f f' : ℕ → List Ground) → ((i : ℕ) → i < count → earliest_of (f i) ≡ earliest_of (f' i))
     → earliest_of (chained count f) ≡ earliest_of (chained count f')
@@ -125,26 +122,23 @@ module _ {s s' : State} (t : LowState s s') where
 
     pub start_same : start_ground s first count shares tapes work tally ≡ start_ground s' first count shares' tapes' work' tally
     unfolding start_ground
-    start_same =
-        joined_same (start_parts s first count shares tapes work tally) (start_parts s' first count shares' tapes' work' tally) (
-          rw (mode_same t) refl,
-          λ idle. (
-            refl,
-            λ counted. (
-              rw t.tally refl,
-              λ same_tally. (
-                rw (shares_alike.0) refl,
-                λ listed. (
-                  each_same count _ _
-                      (one_same (none (idle_grounds (mode_of s)) idle).0 (not-false (count_fits count) (none (count_grounds count) counted).0)
-                      (eqb-true (length shares) (2 * count) (not-false (eqb (length shares) (2 * count)) (none (list_grounds count shares) listed).0))),
-                  λ passed.
-                      (rw (room, t.n) refl, λ done. tt),
-                ),
-              ),
-            ),
-          ),
-        )
+    start_same = joined_same same
+      where
+        same : Same (start_parts s first count shares tapes work tally) (start_parts s' first count shares' tapes' work' tally)
+        same =
+            next (rw (mode_same t) refl)
+            (λ idle.
+            next refl
+            (λ counted.
+            next (rw t.tally refl)
+            (λ same_tally.
+            next (rw (shares_alike.0) refl)
+            (λ listed.
+            next
+            (each_same count _ _
+            (one_same (none (idle_grounds (mode_of s)) idle).0 (not-false (count_fits count) (none (count_grounds count) counted).0)
+            (eqb-true (length shares) (2 * count) (not-false (eqb (length shares) (2 * count)) (none (list_grounds count shares) listed).0))))
+            (λ passed. next (rw (room, t.n) refl) (λ end. done))))))
 
   -- ---- speak and hear
 
@@ -159,26 +153,30 @@ module _ {s s' : State} (t : LowState s s') where
   module _ (first : ℕ) (turn : Turn) (tapes tapes' work work' buffer buffer' : List ℕ) (tapes_alike : TapesAlike s s.batch.first s.batch.count tapes tapes')
       (room : length work ≡ length work') (long : length buffer ≡ length buffer') where
     pub turn_same : earliest_of (turn_grounds s first turn tapes work buffer) ≡ earliest_of (turn_grounds s' first turn tapes' work' buffer')
-    turn_same =
-        joined_same (turn_parts s first turn tapes work buffer) (turn_parts s' first turn tapes' work' buffer') (
-          rw (mode_same t) refl,
-          λ job. (
-            rw (due_same first turn t) refl,
-            λ is_next. (
-              rw (ordered_same (due_counted first turn job is_next)) refl,
-              λ ordered.
-                  (rw (room, long, t.n, t.count) refl, λ done. tt),
-            ),
-          ),
-        )
+    turn_same = joined_same same
       where
-        ordered_same : count_fits s.batch.count ≡ true
-            → tapes_long s s.batch.count tapes && every s.batch.count (tape_ordered s s.batch.first tapes)
-            ≡ tapes_long s' s'.batch.count tapes' && every s'.batch.count (tape_ordered s' s'.batch.first tapes')
+        ordered_same : count_fits s.batch.count ≡ true → earliest_of (tapes_grounds s tapes) ≡ earliest_of (tapes_grounds s' tapes')
         ordered_same counted =
-            rw (← t.first, ← t.count)
-            (parts_same s.batch.first s.batch.count tapes tapes' tapes_alike (every s.batch.count (tape_ordered s s.batch.first tapes))
-            (every s.batch.count (tape_ordered s' s.batch.first tapes')) (every_same s.batch.count _ _) counted)
+            rw (
+              ← t.first,
+              ← t.count,
+              parts_same s.batch.first s.batch.count tapes tapes' tapes_alike (every s.batch.count (tape_ordered s s.batch.first tapes))
+                  (every s.batch.count (tape_ordered s' s.batch.first tapes')) (every_same s.batch.count _ _) counted,
+            )
+            refl
+
+        room_same : earliest_of (room_grounds s.n s.batch.count work (message_fits s.n s.batch.count turn (length buffer)))
+            ≡ earliest_of (room_grounds s'.n s'.batch.count work' (message_fits s'.n s'.batch.count turn (length buffer')))
+        room_same = rw (room, long, t.n, t.count) refl
+
+        same : Same (turn_parts s first turn tapes work buffer) (turn_parts s' first turn tapes' work' buffer')
+        same =
+            next (rw (mode_same t) refl)
+            (λ job.
+            next (rw (due_same first turn t) refl)
+            (λ is_next.
+            next (ordered_same (due_counted first turn job is_next))
+            (λ ordered. next room_same (λ end. done))))
 
   pub speak_same : (first round : ℕ) (tapes tapes' work work' out : List ℕ) → TapesAlike s s.batch.first s.batch.count tapes tapes'
       → length work ≡ length work' → speak_ground s first round tapes work out ≡ speak_ground s' first round tapes' work' out

@@ -1,11 +1,9 @@
 -- Two runs at one place: what makes their grounds of refusal the same.
-use Prim.Native.Nat.{ℕ, ◌<◌}
+use Prim.Native.Nat.{ℕ}
 use mathlib.Core.Path.{◌≡◌, sym, ap, ◌∙◌}
-use mathlib.Core.Bool.{true}
 use mathlib.Core.Logic.{inl, inr}
 use borrow.Author.Tests.{lt-ltb}
-use lib.ListN.{length, get_or}
-use Rattle.rules.specs.Modes.{mode_of, is_asleep}
+use lib.ListN.{get_or}
 use Rattle.rules.specs.Grounds.{start_ground}
 use Rattle.guarantees.specs.Boxes.{Box}
 use Rattle.guarantees.specs.Keys.{Key, key_at}

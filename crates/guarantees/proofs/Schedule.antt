@@ -35,7 +35,8 @@ use Rattle.guarantees.proofs.SameGrounds.{start_ground_lem, compatible_back, key
 words_last : (s : State) (first round : ℕ) (tapes work incoming : List ℕ) → earliest_of (turn_grounds s first (Hear round) tapes work incoming) ≡ 0
     → hear_ground s first round tapes work incoming ≡ earliest_of (word_grounds s.n incoming)
 unfolding hear_ground
-words_last s first round tapes work incoming passed = first_none (turn_grounds s first (Hear round) tapes work incoming) (word_grounds s.n incoming) passed
+words_last s first round tapes work incoming passed =
+    first_none (turn_grounds s first (Hear round) tapes work incoming) (word_grounds s.n incoming) passed
 
 -- and takes those that fit
 words_taken : (s : State) (first round : ℕ) (tapes work incoming : List ℕ) → earliest_of (turn_grounds s first (Hear round) tapes work incoming) ≡ 0
@@ -46,7 +47,8 @@ words_taken s first round tapes work incoming passed fits = words_last s first r
 turn_taken : (s : State) (first round : ℕ) (tapes work incoming : List ℕ) → hear_ground s first round tapes work incoming ≡ 0
     → earliest_of (turn_grounds s first (Hear round) tapes work incoming) ≡ 0
 unfolding hear_ground
-turn_taken s first round tapes work incoming taken = (both_none (turn_grounds s first (Hear round) tapes work incoming) (word_grounds s.n incoming) taken).0
+turn_taken s first round tapes work incoming taken =
+    (both_none (turn_grounds s first (Hear round) tapes work incoming) (word_grounds s.n incoming) taken).0
 
 module _ {s s' : State} (t : LowState s s') (first round : ℕ) (tapes tapes' work work' incoming incoming' : List ℕ)
     (lent : TapesAlike s s.batch.first s.batch.count tapes tapes') (room : length work ≡ length work') (long : length incoming ≡ length incoming') where
@@ -148,7 +150,8 @@ module _ (g g' : Setting) (pair : ℕ) (orders : InOrder g pair) (orders' : InOr
   true_below place w w' c (hear first round lent incoming) j keeps =
       λ taken.
       true_fits w.log j.fits c (key_at (memory_of w c).state first) round incoming
-      (true_back w w' j.low c _ _ round incoming (key_same j.low c first) (keeps (ground_lent g' place (memory_of w' c) w'.log first round lent incoming ∙ taken)).1)
+      (true_back w w' j.low c _ _ round incoming (key_same j.low c first)
+      (keeps (ground_lent g' place (memory_of w' c) w'.log first round lent incoming ∙ taken)).1)
   true_below place w w' c drop j keeps = tt
   true_below place w w' c (cut room) j keeps = tt
   true_below place w w' c (cut_start first count lent at mark room) j keeps = tt

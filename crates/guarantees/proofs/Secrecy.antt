@@ -1,7 +1,8 @@
--- Demand 3: the pairing of a box's tapes. Each tape is moved as the shares ask that were lent for it at the start that took it; where that was is the same in
--- both runs. Of a key that both boxes opened the exchanges look the same; where only the other box opened it, no more was spoken than its first round.
+-- Demand 3: the pairing of a box's tapes. Each tape is moved as the shares ask that were lent for it at the start that took it; where that was
+-- is the same in both runs. The exchanges of a key that the box opened look the same. Of a key that only the other box opened no more was spoken
+-- than round 1, which shows nothing of the box.
 use Prim.Native.Nat.{ℕ, zero, suc, ◌+◌, ◌-◌, ◌*◌, ◌<◌}
-use mathlib.Core.Path.{◌≡◌, refl, sym, ap, ap₂, subst, ◌∙◌}
+use mathlib.Core.Path.{◌≡◌, refl, ap, ap₂, subst, ◌∙◌}
 use mathlib.Core.Bool.{true}
 use mathlib.Core.List.{List, [], ◌∷◌}
 use mathlib.Core.Logic.{◌⊎◌, inl, inr}
@@ -31,7 +32,7 @@ use Rattle.guarantees.proofs.Once.{Once, once_run}
 use Rattle.guarantees.proofs.Unwinding.{other_twice, Alike, Related, views}
 use Rattle.guarantees.proofs.Books.{reduced, Took, took_all, book_of}
 use Rattle.guarantees.proofs.Runs.{Both, both}
-use Rattle.guarantees.proofs.Pairs.{KeyAlike, JobAlike, Stays, first_alike, sent_alike, answers_alike}
+use Rattle.guarantees.proofs.Pairs.{KeyAlike, Stays, first_alike, sent_alike, answers_alike}
 use Rattle.guarantees.proofs.Views.{SamePlaces, same_view, same_low}
 use Rattle.guarantees.proofs.Fitting.{fitting_first}
 use Rattle.guarantees.proofs.Schedule.{same_schedule}
@@ -263,7 +264,9 @@ module _ (c : Common) (b : Box) (shares shares' : ℕ → Lending) where
       back_places : (own : TapeSet) → Valid c b own → (w : Loose) → Premises c b shares' shares own w
           → SamePlaces log (events c b own shares' w)
       back_places own v w p d number =
-          let there = same_view b log (events c b partner_set shares' e.loose) (looks_same c b shares shares' log e.own e.valid e.loose e.premises same_log e.loose) d number in
+          let there =
+          same_view b log (events c b partner_set shares' e.loose)
+          (looks_same c b shares shares' log e.own e.valid e.loose e.premises same_log e.loose) d number in
           let back =
           same_places c b shares' partner_set own (moved_valid c b log shares shares' e.own e.valid) v e.loose w
           (meets_too c b shares shares' log e.own e.valid e.loose e.premises same_log e.loose).meets p.meets d number in

@@ -2,7 +2,7 @@
 use Prim.Native.Nat.{ℕ, suc, ◌+◌}
 use mathlib.Core.Path.{◌≡◌, refl, sym, ap, ◌∙◌}
 use mathlib.Core.Bool.{Bool, true, false, cond}
-use mathlib.Core.List.{List}
+use mathlib.Core.List.{List, []}
 use native.Mathlib.Omega.{arith}
 use lib.Dec.{eqb}
 use lib.ListN.{length, length-take}
@@ -28,7 +28,7 @@ use Rattle.rules.proofs.Moves.{started_job}
 use Rattle.guarantees.specs.Boxes.{Box, box1, box2}
 use Rattle.guarantees.specs.Keys.{job_key, key_at, key_of, open_key}
 use Rattle.guarantees.specs.Entries.{Step, wake, start, speak, hear, drop, cut, cut_start}
-use Rattle.guarantees.specs.Run.{Setting, Memory, nothing, lost, replied, Event, World, memory_of, after, tape_words, incoming_words, spoken_words, after_cut, stepped}
+use Rattle.guarantees.specs.Run.{Setting, Memory, nothing, lost, replied, Event, World, memory_of, after, tape_words, incoming_words, spoken_words, cut_said, after_cut, stepped}
 use Rattle.guarantees.specs.View.{covered}
 use Rattle.guarantees.proofs.LowEquivalence.{LowState, LowMemory, LowEvent, LowEquivalent}
 use Rattle.guarantees.proofs.LowModes.{mode_same, job_same}
@@ -269,6 +269,19 @@ open_key_lem {s} {s'} t = ap (key_of s) (mode_same t) ∙ phase_key (mode_of s')
     phase_key Idle = rw t.n refl
     phase_key (Job turn) = rw t.first (key_low t s'.batch.first)
 
+-- a cut says in both runs whether a job was lost
+cut_event : (b : Box) {s s' : State} → LowState s s'
+    → LowEvent (record { box = b; key = open_key s; round = 0; said = cut_said s; spoken = []; incoming = [] })
+    (record { box = b; key = open_key s'; round = 0; said = cut_said s'; spoken = []; incoming = [] })
+cut_event b t =
+    record {
+      box = refl;
+      key = open_key_lem t;
+      round = refl;
+      said = ap (λ (job : Bool). covered (cond job lost nothing)) (job_same t);
+      long = refl;
+    }
+
 pub step_consistent : (g g' : Setting) (place : ℕ) (w w' : World) (b : Box) (step : Step) → LowEquivalent w w' → SameGround g g' place w w' b step
     → LowEquivalent (stepped g place w b step) (stepped g' place w' b step)
 unfolding stepped
@@ -281,8 +294,8 @@ step_consistent g g' place w w' b (wake n side pair) k same_ground =
 step_consistent g g' place w w' b (start first count lent) k same_ground =
     let t = k.memories b in
     let r =
-    start_low t.state first count (g.shares b place) (g'.shares b place) (tape_words g lent) (tape_words g' lent) (memory_of w b).work (memory_of w' b).work
-    (memory_of w b).tally (memory_of w' b).tally t.tally same_ground in
+    start_low t.state first count (g.shares b place) (g'.shares b place) (tape_words g lent) (tape_words g' lent)
+    (memory_of w b).work (memory_of w' b).work (memory_of w b).tally (memory_of w' b).tally t.tally same_ground in
     after_low b k
     (record { state = r.state; tally = r.buffer; room = t.room })
     (record { box = refl; key = ap (job_key first count) t.state.n; round = refl; said = r.reply; long = refl })
@@ -311,8 +324,8 @@ step_consistent g g' place w w' b drop k same_ground =
 step_consistent g g' place w w' b (cut room) k same_ground =
     let t = k.memories b in
     after_low b k (cut_low g g' place room t t.tally)
-    (record { box = refl; key = open_key_lem t.state; round = refl; said = ap (λ (job : Bool). covered (cond job lost nothing)) (job_same t.state); long = refl })
+    (cut_event b t.state)
 step_consistent g g' place w w' b (cut_start first count lent at mark room) k same_ground =
     let t = k.memories b in
     after_low b k (cut_low g g' place room t (rw (same_ground, t.tally)))
-    (record { box = refl; key = open_key_lem t.state; round = refl; said = ap (λ (job : Bool). covered (cond job lost nothing)) (job_same t.state); long = refl })
+    (cut_event b t.state)

@@ -1,5 +1,5 @@
--- Joined tapes that are lent by name are in order alike in two runs: as many tapes of a width are never as long as 1 to 8 of another, so where their length is
--- the due one, the parts that a call looks at are the dealt tapes themselves.
+-- Joined tapes that are lent by name are in order alike in two runs: any number of tapes of one width is never as long as 1 to 8 of another, so
+-- where the length is the due one, the parts that a call looks at are the dealt tapes themselves.
 use Prim.Native.Nat.{ℕ, suc, ◌+◌, ◌-◌, ◌*◌, ◌%◌, ◌<◌}
 use mathlib.Core.Path.{◌≡◌, refl, sym, ap, ◌∙◌}
 use mathlib.Core.Bool.{Bool, true, false, not, ◌||◌, cond, true≢false}
@@ -25,7 +25,7 @@ use Rattle.protocol.specs.Sizes.{most_jobs, count_fits, tape_for}
 use Rattle.rules.specs.Batches.{tape_part}
 use Rattle.rules.specs.declared.state.State.{State}
 use Rattle.rules.proofs.Batches.{count_most}
-use Rattle.guarantees.specs.Boxes.{Box, side_of}
+use Rattle.guarantees.specs.Boxes.{side_of}
 use Rattle.guarantees.specs.Entries.{Lent, dealt, loose}
 use Rattle.guarantees.specs.Run.{Setting, tape_words}
 use Rattle.guarantees.proofs.Jobs.{InOrder}

@@ -90,8 +90,8 @@ hear_event g place w c first incoming =
 
 -- two books of shares, two settings, and which keys each box opened
 module _ (b : Box) (g g' : Setting) (pair : ℕ) (book book' : Box → Key → Lending) (Known : Box → Key → Type 0) where
-  -- the dealt tapes are in order, and what comes of each key that was opened looks the same under both: round 1 of a box that opened it, and all else where
-  -- both did
+  -- the dealt tapes are in order, and what comes of each key looks the same under both: round 1 of a box that opened it, and all else where both
+  -- boxes did
   pub record Alike : Type 0 where
     pub orders : InOrder g pair
     pub orders' : InOrder g' pair

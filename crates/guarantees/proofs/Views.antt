@@ -5,7 +5,6 @@ use mathlib.Core.List.{List, [], ◌∷◌}
 use native.Mathlib.Omega.{arith}
 use lib.ListN.{length}
 use Rattle.guarantees.specs.Boxes.{Box}
-use Rattle.guarantees.specs.Keys.{Key}
 use Rattle.guarantees.specs.Run.{Event, event_at}
 use Rattle.guarantees.specs.Maps.{taken_at, key_found}
 use Rattle.guarantees.specs.View.{view}
