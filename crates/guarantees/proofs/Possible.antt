@@ -38,12 +38,11 @@ use Rattle.rules.specs.Grounds.{wake_ground, start_ground, speak_ground, hear_gr
 use Rattle.rules.specs.Calls.{wake_rule, start_rule, speak_rule, heard_after, hear_rule, drop_rule}
 use Rattle.guarantees.specs.Boxes.{Box, box1, box2, other_box}
 use Rattle.guarantees.specs.Keys.{Key}
-use Rattle.guarantees.specs.Entries.{Entry}
 use Rattle.guarantees.specs.Run.{Lending, Setting, Said, replied, Event, memory_of, event_at, stepped, run}
 use Rattle.guarantees.specs.Premises.{AtFirst, Meets, AllCompatible}
 use Rattle.guarantees.specs.Comparison.{Valid, by_box}
 use Rattle.guarantees.specs.Correctness.{Happened, bit_for}
-use Rattle.guarantees.specs.Possible.{Counts, pair_number, shares_of, shares_anew, plain_set, last_hears, starts_twice}
+use Rattle.guarantees.specs.Possible.{pair_number, shares_of, shares_anew, plain_set, zeros, last_hears, starts_twice}
 use Rattle.guarantees.specs.Possible.{Case, whole, respelled, again, joined, between, common_in, setting_in, world_in, log_in}
 use Rattle.guarantees.specs.Possible.{Possible, RightSumIn, RightSum, CutInMark, ZerosRespelled, UpAndDown}
 use Rattle.guarantees.proofs.Premises.{list_test, list_tested}
@@ -76,7 +75,8 @@ told_at log place =
 abbrev told : Box → Key → Said → Told
 told b key said = record { within = true; box = b; key = key; said = said }
 
-happened : (log : List Event) (place : ℕ) (b : Box) (key : Key) (said : Said) → told_at log place ≡ told b key said → Happened log place b key said
+happened : (log : List Event) (place : ℕ) (b : Box) (key : Key) (said : Said) → told_at log place ≡ told b key said
+    → Happened log place b key said
 happened log place b key said e =
     record {
       within = ltb-true place (length log) (ap (λ (t : Told). t.within) e);
@@ -88,7 +88,9 @@ happened log place b key said e =
 -- ---- the run is the same whichever box is to stay hidden, so it is computed once
 
 abbrev plain_setting : Case → Setting
-plain_setting k = record { tapes = plain_set; shares = shares_of k.counts; leftovers = λ place j. 0; board = λ place j. k.respells }
+plain_setting k =
+    let free = zeros k.respells in
+    record { tapes = plain_set; shares = shares_of k.counts; leftovers = free.leftovers; board = free.board }
 
 by_box_same : {A : Type 0} (f : Box → A) (b : Box) → by_box b (f b) (f (other_box b)) ≡ f
 by_box_same f b = fun_ext (at b)
@@ -104,9 +106,6 @@ same_setting k b = rw (by_box_same plain_set b, by_box_same (shares_of k.counts)
 
 abbrev plain_log : Case → List Event
 plain_log k = (run (plain_setting k) 0 (world_in k box1) k.entries).log
-
-same_log : (k : Case) (b : Box) → log_in k b ≡ plain_log k
-same_log k b = ap (λ (g : Setting). (run g 0 (world_in k box1) k.entries).log) (same_setting k b)
 
 -- the second shares, by the box that is to stay hidden
 abbrev anew : Case → Box → Box → ℕ → Lending
@@ -153,9 +152,10 @@ possible k e b =
     }
   where
     log : log_in k b ≡ plain_log k
-    log = same_log k b
+    log = ap (λ (g : Setting). (run g 0 (world_in k box1) k.entries).log) (same_setting k b)
 
-    premises : Meets (plain_setting k) 0 (world_in k b) k.entries × ((hidden : Box) → AllCompatible (anew k hidden) (plain_setting k) 0 (world_in k b) k.entries)
+    premises : Meets (plain_setting k) 0 (world_in k b) k.entries
+        × ((hidden : Box) → AllCompatible (anew k hidden) (plain_setting k) 0 (world_in k b) k.entries)
     premises = list_tested (anew k) (plain_setting k) 0 (world_in k b) k.entries (ap (λ (s : Summary). s.meets) e)
 
 -- ---- what is computed
@@ -215,7 +215,11 @@ right_sum =
 
 pub cut_in_mark : CutInMark
 unfolding run_rules again between
-cut_in_mark = record { in_again = record { passed = refl; tape0 = refl; tape1 = refl }; in_between = record { passed = refl; tape0 = refl; tape1 = refl } }
+cut_in_mark =
+    record {
+      in_again = record { passed = refl; tape0 = refl; tape1 = refl };
+      in_between = record { passed = refl; tape0 = refl; tape1 = refl };
+    }
 
 pub zeros_respelled : ZerosRespelled
 unfolding run_rules respelled

@@ -1,5 +1,5 @@
 -- A computed test of the premises, for lists in which no entry is to be refused.
-use Prim.Native.Nat.{ℕ, suc, ◌*◌}
+use Prim.Native.Nat.{ℕ, suc}
 use mathlib.Core.Path.{◌≡◌, refl, sym}
 use mathlib.Core.Bool.{Bool, true, false, ◌&&◌, false≢true}
 use mathlib.Core.List.{List, [], ◌∷◌}
@@ -94,8 +94,7 @@ in_both m v v' t =
 shares_in_both : (m : Memory) (vs vs' : Lending) → shares_test m vs vs' ≡ true → SharesInBoth m vs vs'
 shares_in_both m vs vs' t =
     let long = eqb (length vs) (length vs') in
-    let each = every (length vs) (share_test m vs vs') in
-    (
+    let each = every (length vs) (share_test m vs vs') in (
       eqb-true (length vs) (length vs') (and_left long each t),
       λ i below. in_both m (get_or vs i 0) (get_or vs' i 0) (every_at (length vs) (share_test m vs vs') (and_right long each t) i below),
     )

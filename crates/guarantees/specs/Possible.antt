@@ -1,7 +1,8 @@
--- The premises of demand 3 are not empty: lists at width 3 that meet them, on the plain tapes, in which both boxes start and finish a job. In one the board
--- spells every zero as p, in two the power fails in the marks of a start, and in one a start takes two jobs (document 02, P3, P6 and P9). Nor is the law for the
--- depots: lists in which box 1 starts twice.
-use Rattle.std.specs.Prelude.{ℕ, zero, suc, ◌+◌, ◌*◌, ◌%◌, ◌<◌, ◌≡◌, Bool, true, false, cond, List, [], ◌∷◌, ◌++◌, eqb, get_or, take, replicate}
+-- The premises of demand 3 are not empty: lists at width 3 that meet them, on the plain tapes, in which both boxes start and finish a job. In one the
+-- board spells every zero as p, in one a start takes two jobs, in two the power fails in a start's marks. Nor is the law for the depots: lists in which
+-- box 1 starts twice, upwards, downwards and onto a number that is taken.
+use Rattle.std.specs.Prelude.{ℕ, zero, suc, ◌+◌, ◌*◌, ◌%◌, ◌<◌, ◌≡◌, Bool, true, false, cond, eqb}
+use Rattle.std.specs.Prelude.{List, [], ◌∷◌, ◌++◌, get_or, take, replicate}
 use Rattle.field.specs.Width.{modulus}
 use Rattle.tape.specs.Plain.{plain_tape}
 use Rattle.protocol.specs.Work.{work_length}
@@ -110,7 +111,7 @@ pub record Case : Type 0 where
   pub counts : Counts
   -- the board spells every zero as p, or none
   pub respells : Bool
-  -- the places of the two starts that are finished are this one and the next, and their job is known by this
+  -- box 1's start of the job that both finish stands at this place, box 2's at the next one, and the job is known by this
   pub opened : ℕ
   pub key : Key
   -- the answers of box 1 and of box 2
@@ -219,7 +220,7 @@ pub record RightSum : Type 0 where
   pub in_joined : RightSumIn joined
   pub in_between : RightSumIn between
 
--- where the third entry is such a cut, the power did fail in a mark: that start had passed its checks. Tape 0 is fresh after it or not, tape 1 is
+-- the third entry being such a cut, the power did fail in a mark: that start had passed its checks. After it tape 0 is fresh or not, and tape 1 is
 pub record CutIn (k : Case) (fresh0 : Bool) : Type 0 where
   pub passed :
       let m = (run_in k box1 (take 2 k.entries)).memory1 in
@@ -228,7 +229,7 @@ pub record CutIn (k : Case) (fresh0 : Bool) : Type 0 where
   pub tape0 : is_fresh (run_in k box1 (take 3 k.entries)).memory1.tally 0 ≡ fresh0
   pub tape1 : is_fresh (run_in k box1 (take 3 k.entries)).memory1.tally 1 ≡ true
 
--- all four bytes FF: the tape is as fresh as before. In the second of two marks: the tape before it is spent
+-- in the only mark, which stays FF: both tapes are as fresh as before. In the second of two: the first tape is spent
 pub record CutInMark : Type 0 where
   pub in_again : CutIn again true
   pub in_between : CutIn between false
@@ -258,8 +259,8 @@ said_twice first count first' count' =
     let log = (run (setting_of c box1 (plain_set box1) (shares_of counts box1) (zeros false)) 0 (world_of c (zeros false)) c.entries).log in
     ((event_at log 1).said, (event_at log 3).said)
 
--- upwards both jobs are opened; downwards the second number is late. A start of two jobs takes both numbers: one that was taken before is spent, whichever
--- of the two starts takes two
+-- upwards both jobs are opened; downwards the second number is late. A start of two jobs takes both numbers, so where one of two starts takes two, a
+-- number that both name is spent at the second
 pub record UpAndDown : Type 0 where
   pub up : said_twice 0 1 1 1 ≡ (replied started, replied started)
   pub down : said_twice 1 1 0 1 ≡ (replied started, replied (refused 15))
