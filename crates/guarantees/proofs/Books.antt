@@ -39,7 +39,8 @@ reduced n vs k l =
     rw (get_d_map (λ v. v % modulus n) (mod-eq_of_lt positive) vs k) (mod-lt (get_or vs k 0) positive)
 
 -- what a start that is not refused was lent is in range before, x and y of each of its jobs
-passed_same : (s : State) (first count : ℕ) (shares tapes work tally : List ℕ) → StartPassed s first count shares tapes work tally → clip s.n shares ≡ shares
+passed_same : (s : State) (first count : ℕ) (shares tapes work tally : List ℕ) → StartPassed s first count shares tapes work tally
+    → clip s.n shares ≡ shares
 passed_same s first count shares tapes work tally p = clip_same s.n shares fits
   where
     fits : (k : ℕ) → k < length shares → get_or shares k 0 < modulus s.n
@@ -81,7 +82,8 @@ took_all log once b key t i less =
 module _ (g : Setting) (log : List Event) (es : List Entry) (place : ℕ) (w : World) (c : Box) (marked : Marked w)
     (at : length w.log ≡ place) where
   module _ (first count : ℕ) (lent : Lent) (end : (run g (suc place) (stepped g place w c (start first count lent)) es).log ≡ log)
-      (cause : start_ground (memory_of w c).state first count (g.shares c place) (tape_words g lent) (memory_of w c).work (memory_of w c).tally ≡ 0) where
+      (cause : start_ground (memory_of w c).state first count (g.shares c place) (tape_words g lent) (memory_of w c).work (memory_of w c).tally
+      ≡ 0) where
     some : 0 < count
     some = (count_most count (start_passed (memory_of w c).state first count _ _ _ _ cause).counted).0
 

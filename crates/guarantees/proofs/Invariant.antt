@@ -45,6 +45,11 @@ use Rattle.rules.proofs.Decide.{decide}
 use Rattle.rules.proofs.Ranges.{awake_mode}
 use Rattle.rules.proofs.Passed.{start_passed, TurnPassed, speak_passed, hear_passed}
 
+-- what the log has of a speak or a hear
+abbrev turn_event : Box → Memory → ℕ → ℕ → Result → List ℕ → List ℕ → Event
+turn_event b m first round r spoken incoming =
+    record { box = b; key = key_at m.state first; round = round; said = replied r.reply; spoken = spoken; incoming = incoming }
+
 -- the job that a state holds
 abbrev pub own_key : State → Key
 own_key s = key_at s s.batch.first
@@ -240,7 +245,7 @@ module _ (g : Setting) (book : Box → Key → Lending) (Known : Box → Key →
   -- the state goes on to hear, and the words are the exchanges'
   pub record Spoken (b : Box) (m : Memory) (first round : ℕ) (r : Result) : Type 0 where
     pub holds : Holds b (record { state = r.state; work = m.work; tally = m.tally })
-    pub words : Conforms (record { box = b; key = key_at m.state first; round = round; said = replied r.reply; spoken = spoken_words r.reply r.buffer; incoming = [] }) (kind_of (replied r.reply))
+    pub words : Conforms (turn_event b m first round r (spoken_words r.reply r.buffer) []) (kind_of (replied r.reply))
 
   message_is : (b : Box) (m : Memory) (round : ℕ) (tapes : List ℕ) → Going b m (Speak round) tapes
       → joined_message m.state tapes m.work round ≡ sent_by g.tapes book b (own_key m.state) round
@@ -297,7 +302,7 @@ module _ (g : Setting) (book : Box → Key → Lending) (Known : Box → Key →
   -- `lent` is what the event has of the words
   pub record Heard (b : Box) (m : Memory) (first round : ℕ) (lent : List ℕ) (r : Result) : Type 0 where
     pub holds : Holds b (record { state = r.state; work = r.buffer; tally = m.tally })
-    pub answer : Conforms (record { box = b; key = key_at m.state first; round = round; said = replied r.reply; spoken = []; incoming = lent }) (kind_of (replied r.reply))
+    pub answer : Conforms (turn_event b m first round r [] lent) (kind_of (replied r.reply))
 
   -- what is heard is the other box's message, which opened the job too
   record OtherSent (b : Box) (key : Key) (round : ℕ) (words : List ℕ) : Type 0 where
@@ -307,12 +312,14 @@ module _ (g : Setting) (book : Box → Key → Lending) (Known : Box → Key →
   module _ (b : Box) (m : Memory) (round : ℕ) (tapes incoming : List ℕ) (j : Going b m (Hear round) tapes)
       (o : OtherSent b (own_key m.state) round incoming) where
     -- each job's part of it
-    part_heard : (k : ℕ) → k < m.state.batch.count → words_part m.state.n round incoming k ≡ sent_in g.tapes book (other_box b) (own_key m.state) k round
+    part_heard : (k : ℕ) → k < m.state.batch.count
+        → words_part m.state.n round incoming k ≡ sent_in g.tapes book (other_box b) (own_key m.state) k round
     part_heard k less = rw (o.words_are, j.inside.count) (sent_part g.tapes book (other_box b) (own_key m.state) k j.inside.heard less)
 
     part_room : (k : ℕ) → k < m.state.batch.count → work_length m.state.n ≤ length (work_part m.state.n m.work k)
     part_room k less =
-        le_of_eq (sym (length_part (work_length m.state.n) m.work k (le_trans (within m.state.batch.count (work_length m.state.n) k less) j.inside.room)))
+        let all = within m.state.batch.count (work_length m.state.n) k less in
+        le_of_eq (sym (length_part (work_length m.state.n) m.work k (le_trans all j.inside.room)))
 
     -- what is held after the round is what the exchange gives
     live_next : (k : ℕ) → k < m.state.batch.count
@@ -467,8 +474,8 @@ module _ (g : Setting) (book : Box → Key → Lending) (Known : Box → Key →
   cut_conforms s e none = subst (Conforms e) (sym (cut_plain s)) none
 
   -- one entry
-  pub invariant_next : (pair : ℕ) (orders : InOrder g pair) (place : ℕ) (w : World) (b : Box) (step : Step) → Invariant w → Keeps g place w b step → Booked place w b step
-      → Invariant (stepped g place w b step)
+  pub invariant_next : (pair : ℕ) (orders : InOrder g pair) (place : ℕ) (w : World) (b : Box) (step : Step) → Invariant w → Keeps g place w b step
+      → Booked place w b step → Invariant (stepped g place w b step)
   unfolding stepped
   invariant_next pair orders place w b (wake n side p) f keeps booked =
       after_invariant w b _ _ f (wake_holds b (memory_of w b) n side p (f.each b)) (quiet_wake (memory_of w b) n side p _ refl)

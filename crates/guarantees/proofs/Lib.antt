@@ -24,4 +24,5 @@ pub mod Secrecy
 pub mod Counting
 pub mod AnyTapes
 pub mod Correctness
+pub mod Premises
 pub mod Possible

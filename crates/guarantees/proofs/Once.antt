@@ -1,4 +1,5 @@
--- At one box a tape number is taken only once: what is marked never becomes fresh again. So a job's place in the log is found again, by any of its numbers.
+-- At one box a tape number is taken only once: what is marked never becomes fresh again. So a job's place in the log is found again, by any of
+-- its numbers.
 use Prim.Native.Nat.{ℕ, zero, suc, ◌+◌, ◌<◌}
 use mathlib.Core.Path.{◌≡◌, refl, sym, ap, subst, ◌∙◌}
 use mathlib.Core.Bool.{Bool, true, false, cond, true≢false}
@@ -31,7 +32,8 @@ Unopened (e ∷ es) b number = (takes b number e ≡ false) × Unopened es b num
 pub record Marked (w : World) : Type 0 where
   pub unopened : (b : Box) (number : ℕ) → is_fresh (memory_of w b).tally number ≡ true → Unopened w.log b number
 
-unopened_more : (log : List Event) (e : Event) (b : Box) (number : ℕ) → Unopened log b number → takes b number e ≡ false → Unopened (log ++ (e ∷ [])) b number
+unopened_more : (log : List Event) (e : Event) (b : Box) (number : ℕ) → Unopened log b number → takes b number e ≡ false
+    → Unopened (log ++ (e ∷ [])) b number
 unopened_more [] e b number u h = (h, tt)
 unopened_more (d ∷ log) e b number u h = (u.0, unopened_more log e b number u.1 h)
 
@@ -101,7 +103,8 @@ module _ (g : Setting) (place : ℕ) (w : World) (b : Box) (first count : ℕ) (
   longer_is = grown.is ∙ ap (λ (l : List Event). l ++ grown.more) (after_log w b _ start_event) ∙ append_assoc w.log (start_event ∷ []) grown.more
 
   module _ (h : Marked w)
-      (cause : start_ground (memory_of w b).state first count (g.shares b place) (tape_words g lent) (memory_of w b).work (memory_of w b).tally ≡ 0) where
+      (cause : start_ground (memory_of w b).state first count (g.shares b place) (tape_words g lent) (memory_of w b).work (memory_of w b).tally
+      ≡ 0) where
     -- each of its numbers is found again at its place
     pub found : (i : ℕ) → i < count → taken_at longer b (first + i) ≡ length w.log
     found i less =

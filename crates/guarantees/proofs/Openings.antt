@@ -1,5 +1,5 @@
--- What one entry does to the log and to the tallies: one event more, no tape freed, and of a job that the event opens every tape was fresh and not late,
--- and is marked.
+-- What one entry does to the log and to the tallies: one event more, no tape freed, and of a job that the event opens every tape was fresh and not
+-- late, and is marked.
 use Prim.Native.Nat.{ℕ, suc, ◌+◌, ◌-◌, ◌<◌, ◌≤◌}
 use mathlib.Core.Path.{◌≡◌, refl, sym, ap, subst, ◌∙◌}
 use mathlib.Core.Bool.{Bool, true, false, ◌&&◌, cond, false≢true}
@@ -26,7 +26,7 @@ use Rattle.rules.proofs.Passed.{StartPassed, start_passed}
 use Rattle.guarantees.specs.Boxes.{Box, box1, box2}
 use Rattle.guarantees.specs.Keys.{job_key}
 use Rattle.guarantees.specs.Entries.{Step, wake, start, speak, hear, drop, cut, cut_start, Entry}
-use Rattle.guarantees.specs.Run.{Setting, Memory, replied, Event, World, memory_of, after, after_start, after_cut, tape_words, incoming_words, event_at, stepped, run}
+use Rattle.guarantees.specs.Run.{Setting, Memory, replied, Event, World, memory_of, after, after_start, after_cut, tape_words, incoming_words, stepped, run}
 use Rattle.guarantees.specs.Maps.{same_box, takes}
 use Rattle.guarantees.specs.Outcomes.{kind_of, is_opening}
 use Rattle.guarantees.proofs.Outcomes.{cut_plain}
@@ -38,12 +38,14 @@ wake_opens : (s : State) (n side p : ℕ) (tally : List ℕ) → is_opening (kin
 unfolding wake_rule
 wake_opens s n side p tally = decide (λ r. is_opening (kind_of (replied r.reply)) ≡ false) (wake_ground s n side tally) s tally _ (λ z. refl) refl
 
-speak_opens : (s : State) (first round : ℕ) (tapes work out : List ℕ) → is_opening (kind_of (replied (speak_rule s first round tapes work out).reply)) ≡ false
+speak_opens : (s : State) (first round : ℕ) (tapes work out : List ℕ)
+    → is_opening (kind_of (replied (speak_rule s first round tapes work out).reply)) ≡ false
 unfolding speak_rule
 speak_opens s first round tapes work out =
     decide (λ r. is_opening (kind_of (replied r.reply)) ≡ false) (speak_ground s first round tapes work out) s out _ (λ z. refl) refl
 
-hear_opens : (s : State) (first round : ℕ) (tapes work incoming : List ℕ) → is_opening (kind_of (replied (hear_rule s first round tapes work incoming).reply)) ≡ false
+hear_opens : (s : State) (first round : ℕ) (tapes work incoming : List ℕ)
+    → is_opening (kind_of (replied (hear_rule s first round tapes work incoming).reply)) ≡ false
 unfolding hear_rule heard_after
 hear_opens s first round tapes work incoming =
     decide (λ r. is_opening (kind_of (replied r.reply)) ≡ false) (hear_ground s first round tapes work incoming) s work _
