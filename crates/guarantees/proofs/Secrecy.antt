@@ -1,7 +1,7 @@
 -- Demand 3: the pairing of a box's tapes. Each tape is moved as the shares ask that were lent for it at the start that took it; where that was
 -- is the same in both runs. The exchanges of a key that the box opened look the same. Of a key that only the other box opened no more was spoken
 -- than round 1, which shows nothing of the box.
-use Prim.Native.Nat.{ℕ, zero, suc, ◌+◌, ◌-◌, ◌*◌, ◌<◌}
+use Prim.Native.Nat.{ℕ, zero, suc, ◌+◌, ◌<◌}
 use mathlib.Core.Path.{◌≡◌, refl, ap, ap₂, subst, ◌∙◌}
 use mathlib.Core.Bool.{true}
 use mathlib.Core.List.{List, [], ◌∷◌}
@@ -54,9 +54,7 @@ moves_by : (c : Common) (b : Box) (number n : ℕ) (own own' others : Lending) (
     Moves n c.pair number (side_of b) v.x v.y v'.x v'.y v.xo v.yo (c.others number n)
     (λ tape. shifted v v' tape (c.others number n)) (λ tape. shifted v' v tape (c.others number n))
 moves_by c b number n own own' others i l =
-    moves n c.pair number (side_of b) (x_in (clip n others) i) (y_in (clip n others) i) (c.others number n) (reduced n others (2 * i + 1) l)
-    (x_in (clip n own) i) (y_in (clip n own) i) (x_in (clip n own') i) (y_in (clip n own') i) (reduced n own (2 * i + 1) l)
-    (reduced n own' (2 * i + 1) l)
+    moves n c.pair number (side_of b) _ _ (c.others number n) (search reduced) _ _ _ _ (search reduced) (search reduced)
 
 -- and as a log finds them
 moves_at : (c : Common) (b : Box) (log : List Event) (shares shares' : ℕ → Lending) (number n : ℕ) → listed n ≡ true
@@ -65,9 +63,7 @@ moves_at : (c : Common) (b : Box) (log : List Event) (shares shares' : ℕ → L
     Moves n c.pair number (side_of b) v.x v.y v'.x v'.y v.xo v.yo (c.others number n)
     (λ tape. shifted v v' tape (c.others number n)) (λ tape. shifted v' v tape (c.others number n))
 moves_at c b log shares shares' number n l =
-    let key = key_found log b number in
-    moves_by c b number n (shares (taken_at log b number)) (shares' (taken_at log b number)) (c.lendings (taken_at log (other_box b) key.first))
-    (number - key.first) l
+    moves n c.pair number (side_of b) _ _ (c.others number n) (search reduced) _ _ _ _ (search reduced) (search reduced)
 
 -- ---- both runs at first
 
