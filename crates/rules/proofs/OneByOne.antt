@@ -1,0 +1,86 @@
+-- Jobs that one start takes give what the same jobs give one by one.
+use Prim.Native.Nat.{ℕ, zero, suc, ◌<◌, ◌≤◌}
+use mathlib.Core.Path.{◌≡◌, refl, sym, ap, ◌∙◌}
+use mathlib.Core.List.{List}
+use native.Mathlib.Omega.{arith}
+use lib.ListN.{length}
+use Rattle.lists.proofs.Joined.{chained_same}
+use Rattle.protocol.specs.Rounds.{earlier_rounds, last_round, message, answer_share}
+use Rattle.rules.specs.Modes.{in_phase}
+use Rattle.rules.specs.Batches.{no_batch}
+use Rattle.rules.specs.OneByOne.{Left, Lent, Goes, alone, in_turn, alone_words, alone_answer, OneByOne}
+use Rattle.rules.specs.declared.state.Phase.TheVariants.{Idle}
+use Rattle.rules.specs.declared.state.Batch.{Batch}
+use Rattle.rules.proofs.Batches.{count_most}
+use Rattle.rules.proofs.Ranges.{awake_mode}
+use Rattle.rules.proofs.Moves.{is_idle}
+use Rattle.rules.proofs.Runs.{work_after, Clear, whole_is, goes_clear, clear_goes}
+use Rattle.rules.proofs.Fits.{begun, work_long}
+use Rattle.rules.proofs.EachJob.{party_in, heard_in, kept_in, words_is, answer_is, no_answer}
+use Rattle.rules.proofs.Alone.{before, clear_alone, sends_alone, answers_alone, leaves_alone}
+
+module _ (l : Left) (j : Lent) (c : Clear l j) where
+  -- what the first so many jobs leave
+  record Turned (i : ℕ) : Type 0 where
+    batch : Batch
+    work : List ℕ
+    same_room : length work ≡ length l.work
+    is : in_turn l j i ≡ before l j batch work i
+
+  turned : (i : ℕ) → i ≤ j.count → Turned i
+  unfolding in_turn
+  turned zero most =
+      let p = begun l j c.start in
+      let idle = sym (awake_mode l.state p.awake) ∙ is_idle _ p.awake p.idle in
+      record {
+        batch = l.state.batch;
+        work = l.work;
+        same_room = refl;
+        is = ap (λ phase. record { state = in_phase l.state phase l.state.batch; work = l.work; tally = l.tally }) idle;
+      }
+  turned (suc i) most =
+      let t = turned i (omega arith) in
+      record {
+        batch = no_batch;
+        work = work_after (before l j t.batch t.work i) (alone l.state.n j i) last_round;
+        same_room = work_long (before l j t.batch t.work i) (alone l.state.n j i) last_round ∙ t.same_room;
+        is = rw t.is (leaves_alone l j c i most t.batch t.work t.same_room);
+      }
+
+  -- where there was one, no job is open
+  closed : (k : ℕ) → 0 < k → k ≤ j.count → (in_turn l j k).state ≡ in_phase l.state Idle no_batch
+  unfolding in_turn
+  closed zero some most = absurd (omega (arith, some))
+  closed (suc i) some most =
+      let t = turned i (omega arith) in
+      rw t.is (ap (λ (left : Left). left.state) (leaves_alone l j c i most t.batch t.work t.same_room))
+
+  -- job i after those before it
+  module _ (i : ℕ) (less : i < j.count) where
+    t : Turned i
+    t = turned i (omega arith)
+
+    goes : Goes (in_turn l j i) (alone l.state.n j i)
+    goes = rw t.is (clear_goes _ _ (clear_alone l j c i less t.batch t.work t.same_room))
+
+    sends : (r : ℕ) → r < last_round → message (party_in l j i) (kept_in l j i r) (suc r) ≡ alone_words l j r i
+    sends r low = rw t.is (sym (sends_alone l j c i less t.batch t.work t.same_room r low))
+
+    answers_it : answer_share (party_in l j i) (kept_in l j i earlier_rounds) (heard_in l j i last_round) ≡ alone_answer l j i
+    answers_it = rw t.is (sym (answers_alone l j c i less t.batch t.work t.same_room))
+
+pub one_by_one : OneByOne
+one_by_one l j g =
+    let c = goes_clear l j g in
+    let p = begun l j c.start in
+    let all : j.count ≤ j.count = omega arith in
+    record {
+      goes = goes l j c;
+      words = λ r low.
+          words_is l j c r low
+          ∙ chained_same j.count (λ i. message (party_in l j i) (kept_in l j i r) (suc r)) (alone_words l j r) (λ i less. sends l j c i less r low);
+      each_answer = λ i less. answer_is l j c i less ∙ answers_it l j c i less;
+      no_more = no_answer l j c;
+      tally = rw (whole_is l j c, (turned l j c j.count all).is) refl;
+      state = rw (whole_is l j c) (sym (closed l j c j.count (count_most j.count p.counted).0 all));
+    }
