@@ -15,3 +15,4 @@ mod Fits
 mod EachJob
 mod Alone
 pub mod OneByOne
+pub mod AnyCount

@@ -9,3 +9,4 @@ pub mod Moves
 pub mod Answering
 pub mod AsRead
 pub mod OneByOne
+pub mod AnyCount
