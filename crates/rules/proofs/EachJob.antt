@@ -11,15 +11,16 @@ use Rattle.field.specs.Width.{listed}
 use Rattle.protocol.specs.Work.{work_length}
 use Rattle.protocol.specs.Products.{Party, party}
 use Rattle.protocol.specs.Rounds.{earlier_rounds, last_round, message, after_hearing, answer_share}
+use Rattle.protocol.specs.Sizes.{count_fits}
 use Rattle.protocol.proofs.Lengths.{after_length}
 use Rattle.protocol.proofs.Live.{Live, after_live}
 use Rattle.rules.specs.Answers.{shares_in}
-use Rattle.rules.specs.Batches.{x_in, y_in, tape_part, work_part, words_part, joined_message, answer_shares}
+use Rattle.rules.specs.Batches.{x_in, y_in, tape_part, work_part, words_part, party_of, joined_message, answer_shares}
 use Rattle.rules.specs.OneByOne.{Left, Lent, words_spoken, answers}
+use Rattle.rules.specs.declared.state.Turn.{Turn}
 use Rattle.rules.specs.declared.state.Turn.TheVariants.{Speak, Hear}
 use Rattle.rules.specs.declared.state.Phase.TheVariants.{Job}
 use Rattle.rules.proofs.Batches.{started_party, answer_at, answer_past}
-use Rattle.rules.proofs.Passed.{StartPassed}
 use Rattle.rules.proofs.Spoken.{spoken_front, after_part}
 use Rattle.rules.proofs.Runs.{in_jobs, work_after, Clear, run_is, spoken_is, reply_is}
 use Rattle.rules.proofs.Fits.{clear_fits, begun, work_room}
@@ -44,8 +45,8 @@ kept_heard q work heard heard' zero same = refl
 kept_heard q work heard heard' (suc r) same = rw (kept_heard q work heard heard' r (λ k less. same k (omega arith)), same r (omega arith)) refl
 
 -- whatever it held at first, it is the same in all that is read later
-pub kept_live : (q : Party) (work work' : List ℕ) (heard : ℕ → List ℕ) → listed q.n ≡ true → work_length q.n ≤ length work → work_length q.n ≤ length work'
-    → (r : ℕ) → Live q.n r (kept q work heard r) (kept q work' heard r)
+pub kept_live : (q : Party) (work work' : List ℕ) (heard : ℕ → List ℕ) → listed q.n ≡ true
+    → work_length q.n ≤ length work → work_length q.n ≤ length work' → (r : ℕ) → Live q.n r (kept q work heard r) (kept q work' heard r)
 unfolding kept
 kept_live q work work' heard width room room' zero = tt
 kept_live q work work' heard width room room' (suc r) =
@@ -68,15 +69,19 @@ module _ (l : Left) (j : Lent) where
   kept_in i r = kept (party_in i) (work_part l.state.n l.work i) (heard_in i) r
 
   module _ (c : Clear l j) where
-    started : StartPassed l.state j.first j.count j.shares j.tapes l.work l.tally
-    started = begun l j c.start
+    counted : count_fits j.count ≡ true
+    counted = (begun l j c.start).counted
+
+    same_party : (turn : Turn) (i : ℕ) → i < j.count → party_of (in_jobs l j turn) j.tapes i ≡ party_in i
+    same_party turn i less = started_party j.first j.count j.shares i counted less l.state (Job turn) j.tapes
 
     work_is : (r i : ℕ) → i < j.count → work_part l.state.n (work_after l j r) i ≡ kept_in i r
     unfolding work_after kept
     work_is zero i less = refl
     work_is (suc r) i less =
-        after_part (in_jobs l j (Hear (suc r))) j.tapes (work_after l j r) (suc r) (j.incoming (suc r)) i less (work_room l j c.start r)
-        ∙ rw (started_party j.first j.count j.shares i started.counted less l.state (Job (Hear (suc r))) j.tapes, work_is r i less) refl
+        let due = in_jobs l j (Hear (suc r)) in
+        after_part due j.tapes (work_after l j r) (suc r) (j.incoming (suc r)) i less (work_room l j c.start r)
+        ∙ rw (same_party (Hear (suc r)) i less, work_is r i less) refl
 
     pub words_is : (r : ℕ) → r < last_round → words_spoken l j r ≡ chained j.count (λ i. message (party_in i) (kept_in i r) (suc r))
     unfolding joined_message
@@ -84,9 +89,7 @@ module _ (l : Left) (j : Lent) where
         let due = in_jobs l j (Speak (suc r)) in
         rw (run_is l j c r less, spoken_is l j r (c.speak r less))
         (spoken_front due j.tapes (work_after l j r) (j.out (suc r)) (suc r) ((clear_fits l j c).roomy r less)
-        ∙ chained_same j.count _ _
-        (λ i within.
-        rw (started_party j.first j.count j.shares i started.counted within l.state (Job (Speak (suc r))) j.tapes, work_is r i within) refl))
+        ∙ chained_same j.count _ _ (λ i within. rw (same_party (Speak (suc r)) i within, work_is r i within) refl))
 
     answers_is : answers l j ≡ answer_shares (in_jobs l j (Hear last_round)) j.tapes (work_after l j earlier_rounds) (j.incoming last_round)
     answers_is = ap shares_in (reply_is l j c)
@@ -95,8 +98,8 @@ module _ (l : Left) (j : Lent) where
     answer_is i less =
         let due = in_jobs l j (Hear last_round) in
         rw answers_is
-        (answer_at due j.tapes (work_after l j earlier_rounds) (j.incoming last_round) i started.counted less
-        ∙ rw (started_party j.first j.count j.shares i started.counted less l.state (Job (Hear last_round)) j.tapes, work_is earlier_rounds i less) refl)
+        (answer_at due j.tapes (work_after l j earlier_rounds) (j.incoming last_round) i counted less
+        ∙ rw (same_party (Hear last_round) i less, work_is earlier_rounds i less) refl)
 
     pub no_answer : (i : ℕ) → j.count ≤ i → get_or (answers l j) i 0 ≡ 0
     no_answer i past =

@@ -111,7 +111,8 @@ module _ (l : Left) (j : Lent) where
       last_step earlier_rounds refl (run_is c earlier_rounds less) (c.speak earlier_rounds less) (c.hear earlier_rounds less)
 
   pub reply_is : Clear
-      → (next_hear l j earlier_rounds).reply ≡ finished (answer_shares (in_jobs (Hear last_round)) j.tapes (work_after earlier_rounds) (j.incoming last_round))
+      → (next_hear l j earlier_rounds).reply
+      ≡ finished (answer_shares (in_jobs (Hear last_round)) j.tapes (work_after earlier_rounds) (j.incoming last_round))
   reply_is c =
       let less : earlier_rounds < last_round = omega arith in
       last_reply earlier_rounds refl (run_is c earlier_rounds less) (c.speak earlier_rounds less) (c.hear earlier_rounds less)

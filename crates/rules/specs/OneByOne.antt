@@ -1,6 +1,6 @@
--- Jobs that one start takes give what the same jobs give one by one (document 02, P9), with no refusal and no cut: the words of every round, the marks
--- and the answer shares, each job by itself on what the one before left and hearing its own part. What work holds afterwards may differ, since its layout
--- is the box's own; what it holds at first makes no difference.
+-- One by one (document 02, P9): with no refusal and no cut the jobs that one start takes give what the same jobs give one by one in that order, each on
+-- what the call before it left and hearing its own part: the words of every round, the marks, the answer shares. So it is for every count.
+-- What work holds afterwards may differ, since its layout is the box's own; what it holds at first makes no difference.
 use Rattle.std.specs.Prelude.{ℕ, zero, suc, ◌+◌, ◌<◌, ◌≤◌, ◌≡◌, false, List, get_or}
 use Rattle.lists.specs.Joined.{chained, part}
 use Rattle.tape.specs.Layout.{tape_length}
@@ -68,7 +68,7 @@ pub record Goes (l : Left) (j : Lent) : Type 0 where
 
 -- ---- the same jobs one by one
 
--- job i by itself in a box of width n: a start of one job on its number, with its part of the shares, of the tapes and of the words that are heard
+-- job i by itself in a box of width n: a start of one job, on its number, with its part of the shares, of the tapes and of the words that are heard
 abbrev pub alone : ℕ → Lent → ℕ → Lent
 alone n j i =
     record {

@@ -119,7 +119,8 @@ pub later_in_time : (tally : List ℕ) (first i : ℕ) → late tally first ≡ 
 later_in_time tally first i in_time = not_late tally (first + i) (λ k above within. above_fresh tally first k in_time (omega arith) within)
 
 -- nor does a start's mark make a later number late, so the same jobs can be started one by one
-pub first_in_time : (tally : List ℕ) (first k number : ℕ) → first + k ≤ number → late tally number ≡ false → late (first_marks tally first k) number ≡ false
+pub first_in_time : (tally : List ℕ) (first k number : ℕ) → first + k ≤ number → late tally number ≡ false
+    → late (first_marks tally first k) number ≡ false
 first_in_time tally first k number past in_time =
     not_late _ number
     (λ m above within.
