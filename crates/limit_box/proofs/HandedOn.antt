@@ -1,5 +1,5 @@
 -- What a speak and a hear that are not refused hand on to the rounds' work.
-use Prim.Native.Nat.{ℕ}
+use Prim.Native.Nat.{ℕ, ◌+◌}
 use mathlib.Core.List.{List}
 use Rattle.tape.proofs.Orders.{readable}
 use Rattle.rules.specs.Batches.{tape_part}

@@ -7,7 +7,7 @@ pub mod Goes
 pub mod Spoken
 pub mod Later
 mod Refusals
-mod Moves
+pub mod Moves
 pub mod Answering
 pub mod AsRead
 mod Runs
@@ -16,3 +16,4 @@ mod EachJob
 mod Alone
 pub mod OneByOne
 pub mod AnyCount
+pub mod Sizes

@@ -4,4 +4,4 @@ use Rattle.tally.specs.Tally.{first_marks}
 use Rattle.limit_box.proofs.mark.Given as goal
 
 abbrev pub invariant-loop-i : goal.invariant-loop-i
-invariant-loop-i g l = l.tally ≡ first_marks l.initial.tally l.first l.i
+invariant-loop-i l = l.tally ≡ first_marks l.initial.tally l.first l.i

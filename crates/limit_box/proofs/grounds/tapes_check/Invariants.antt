@@ -5,4 +5,4 @@ use Rattle.rules.specs.Grounds.{tape_ordered}
 use Rattle.limit_box.proofs.grounds.tapes_check.Given as goal
 
 abbrev pub invariant-loop-i : goal.invariant-loop-i
-invariant-loop-i g l = every l.i (tape_ordered l.state l.state.batch.first l.tapes) ≡ true
+invariant-loop-i l = every l.i (tape_ordered l.state l.state.batch.first l.tapes) ≡ true

@@ -8,5 +8,5 @@ use Rattle.rules.specs.Batches.{party_of, work_part}
 use Rattle.limit_box.proofs.joined.Joined.speak.Given as goal
 
 abbrev pub invariant-loop-i : goal.invariant-loop-i
-invariant-loop-i g l =
+invariant-loop-i l =
     l.out ≡ sets l.initial.out 0 (chained l.i (λ k. message (party_of l.self.state.now l.self.tapes.now k) (work_part l.self.state.now.n l.work k) l.round))
