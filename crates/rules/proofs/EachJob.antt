@@ -14,9 +14,8 @@ use Rattle.protocol.specs.Rounds.{earlier_rounds, last_round, message, after_hea
 use Rattle.protocol.specs.Sizes.{count_fits}
 use Rattle.protocol.proofs.Lengths.{after_length}
 use Rattle.protocol.proofs.Live.{Live, after_live}
-use Rattle.rules.specs.Answers.{shares_in}
 use Rattle.rules.specs.Batches.{x_in, y_in, tape_part, work_part, words_part, party_of, joined_message, answer_shares}
-use Rattle.rules.specs.OneByOne.{Left, Lent, words_spoken, answers}
+use Rattle.rules.specs.OneByOne.{Left, Lent, words_spoken, shares_in, answers}
 use Rattle.rules.specs.declared.state.Turn.{Turn}
 use Rattle.rules.specs.declared.state.Turn.TheVariants.{Speak, Hear}
 use Rattle.rules.specs.declared.state.Phase.TheVariants.{Job}

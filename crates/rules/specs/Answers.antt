@@ -26,16 +26,6 @@ spoken_words (finished vs) out = []
 spoken_words dropped out = []
 spoken_words (refused k) out = []
 
--- the answer shares, where a hear gives them
-abbrev pub shares_in : Reply → List ℕ
-shares_in (fresh k) = []
-shares_in started = []
-shares_in (spoke k) = []
-shares_in heard = []
-shares_in (finished vs) = vs
-shares_in dropped = []
-shares_in (refused k) = []
-
 -- what a hear answers: the shares after the last round, and nothing before
 abbrev pub heard_or_finished : Option (List ℕ) → Reply
 heard_or_finished None = heard

@@ -1,11 +1,11 @@
 -- One by one (document 02, P9): with no refusal and no cut the jobs that one start takes give what the same jobs give one by one in that order, each on
 -- what the call before it left and hearing its own part: the words of every round, the marks, the answer shares. So it is for every count.
--- What work holds afterwards may differ, since its layout is the box's own; what it holds at first makes no difference.
-use Rattle.std.specs.Prelude.{ℕ, zero, suc, ◌+◌, ◌<◌, ◌≤◌, ◌≡◌, false, List, get_or}
+-- Work may hold anything at first. What it holds afterwards may differ, since its layout is the box's own.
+use Rattle.std.specs.Prelude.{ℕ, zero, suc, ◌+◌, ◌<◌, ◌≤◌, ◌≡◌, false, List, [], get_or}
 use Rattle.lists.specs.Joined.{chained, part}
 use Rattle.tape.specs.Layout.{tape_length}
 use Rattle.protocol.specs.Rounds.{earlier_rounds, last_round, round_words}
-use Rattle.rules.specs.Answers.{spoken_words, shares_in}
+use Rattle.rules.specs.Answers.{Reply, finished, spoken_words}
 use Rattle.rules.specs.Calls.{Result, start_rule, speak_rule, hear_rule}
 use Rattle.rules.specs.AnyCall.{is_refused}
 use Rattle.rules.specs.declared.state.State.{State}
@@ -47,15 +47,21 @@ after_rounds l j (suc r) =
 abbrev pub whole : Left → Lent → Left
 whole l j = after_rounds l j last_round
 
--- the speak and the hear that follow so many rounds, the words spoken, and the shares that the last hear answers
+-- the speak and the hear that follow so many rounds
 abbrev pub next_speak : Left → Lent → ℕ → Result
 next_speak l j r = speak_of (after_rounds l j r) j (suc r)
 
 abbrev pub next_hear : Left → Lent → ℕ → Result
 next_hear l j r = hear_of (after_rounds l j r) j (suc r)
 
+-- the words spoken then
 abbrev pub words_spoken : Left → Lent → ℕ → List ℕ
 words_spoken l j r = spoken_words (next_speak l j r).reply (next_speak l j r).buffer
+
+-- the shares that the last hear answers
+abbrev pub shares_in : Reply → List ℕ
+shares_in (finished shares) = shares
+shares_in _ = []
 
 abbrev pub answers : Left → Lent → List ℕ
 answers l j = shares_in (next_hear l j earlier_rounds).reply
@@ -68,7 +74,7 @@ pub record Goes (l : Left) (j : Lent) : Type 0 where
 
 -- ---- the same jobs one by one
 
--- job i by itself in a box of width n: a start of one job, on its number, with its part of the shares, of the tapes and of the words that are heard
+-- job i by itself in a box of width n: a start of one job, on its number, with its part of the shares, of the tapes and of what is heard; the same out
 abbrev pub alone : ℕ → Lent → ℕ → Lent
 alone n j i =
     record {
