@@ -135,6 +135,7 @@ pub fn both_hear(
 }
 
 // How many words so many jobs send in a round.
+#[tactic(auto, using(protocol::proofs::Lengths::words_most))]
 fn words_for(n: Width, count: u32, round: u32) -> usize
     ensures { result ≡ round_for n.bits count round }
 {
@@ -275,7 +276,10 @@ fn has_room(n: Width, count: u32, o1: &[u32], o2: &[u32]) -> bool
 }
 
 // The sums of the two boxes' answer shares.
-fn added(n: Width, shares1: &[u32; MOST_JOBS], shares2: &[u32; MOST_JOBS]) -> [u32; MOST_JOBS] {
+fn added(n: Width, shares1: [u32; MOST_JOBS], shares2: [u32; MOST_JOBS]) -> [u32; MOST_JOBS]
+    requires { (i : ℕ) → (get_or shares1 i 0 < modulus n.bits) × (get_or shares2 i 0 < modulus n.bits) }
+    ensures { result ≡ tabulate most_jobs (λ i. (get_or shares1 i 0 + get_or shares2 i 0) % modulus n.bits) }
+{
     std::array::from_fn(|i| n.add(shares1[i], shares2[i]))
 }
 
@@ -304,5 +308,5 @@ fn opened(
         return Err(Refusal::Room);
     }
     let (shares1, shares2) = answers(first, s1, s2, t1, t2, w1, w2, o1, o2);
-    Ok(added(n, &shares1, &shares2))
+    Ok(added(n, shares1, shares2))
 }
