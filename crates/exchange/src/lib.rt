@@ -2,23 +2,21 @@
 // start takes: 1 to 8 comparisons on consecutive tapes.
 #![tactic(auto)]
 
-ghost use Rattle.std.specs.Prelude.{ℕ, ◌≡◌, cond, ◌+◌, ◌%◌, ◌<◌, ◌≤◌, ltb, length, get_or, IfOk, IsOkAnd, IsSome};
+ghost use Rattle.std.specs.Prelude.{ℕ, ◌≡◌, cond, ◌+◌, ◌%◌, ◌<◌, ◌≤◌, length, get_or, IfOk, IsOkAnd, IsSome};
 ghost use Rattle.std.proofs.lemmas.List.Edits.{sets};
 ghost use Rattle.lists.specs.Tabulate.{tabulate};
 ghost use Rattle.field.specs.Width.{modulus};
-ghost use Rattle.tape.specs.Dealt.{Dealt};
-ghost use Rattle.encoding.specs.Matching.{indicator};
 ghost use Rattle.protocol.specs.Sizes.{most_jobs, round_for};
 ghost use Rattle.refusals.specs.Checks.{ground_of};
 ghost use Rattle.rules.specs.Answers.{started, heard_or_finished, reply_of};
 ghost use Rattle.rules.specs.Modes.{in_phase};
-ghost use Rattle.rules.specs.Batches.{x_in, y_in, tape_part, joined_message};
+ghost use Rattle.rules.specs.Batches.{joined_message};
 ghost use Rattle.rules.specs.Calls.{outcome, heard_after, hear_rule};
 ghost use Rattle.rules.specs.declared.state.Turn.TheVariants.{Speak, Hear};
 ghost use Rattle.rules.specs.declared.state.Phase.TheVariants.{Job as InJob};
 ghost use Rattle.exchange.specs.Opening.{begun};
 ghost use Rattle.exchange.specs.Boxes.{Ready, answers1, answers2};
-ghost use Rattle.exchange.specs.Jobs.{lent, roomy, opened_bits, bits_of, no_bits, ended, job_of};
+ghost use Rattle.exchange.specs.Jobs.{lent, roomy, opened_bits, no_bits, bits_of, ended, job_of, DealtAt, right_bit};
 
 use compare::words::LAST_ROUND;
 use field::Width;
@@ -246,10 +244,8 @@ pub fn less(
         (lent jobs.entry.box1.now t1.now w1.old k1.old o1.old)
         (lent jobs.entry.box2.now t2.now w2.old k2.old o2.old) }
     ensures right { IfOk result (λ bits. (i : ℕ) → i < jobs.entry.count
-        → Dealt jobs.entry.n jobs.entry.pair (jobs.entry.first + i) (tape_part jobs.entry.n t1.now i) (tape_part jobs.entry.n t2.now i)
-        → get_or bits i 0 ≡ indicator (ltb
-        ((x_in jobs.entry.box1.now i + x_in jobs.entry.box2.now i) % modulus jobs.entry.n)
-        ((y_in jobs.entry.box1.now i + y_in jobs.entry.box2.now i) % modulus jobs.entry.n))) }
+        → DealtAt jobs.entry.n jobs.entry.pair jobs.entry.first t1.now t2.now i
+        → get_or bits i 0 ≡ right_bit jobs.entry.n jobs.entry.box1.now jobs.entry.box2.now i) }
 {
     let Jobs {
         n,
