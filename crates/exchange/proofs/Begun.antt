@@ -54,22 +54,22 @@ pub record Begun (n side pair first count : ℕ) (shares tapes work tally : List
   pub state : s ≡ awake n side pair tally (Job (Speak 1)) (batch_of first count shares)
   pub ready : Ready s first (Speak 1) tapes work
   pub counted : count_fits count ≡ true
-  pub x_fits : (i : ℕ) → i < count → x_in shares i < modulus n
   pub y_fits : (i : ℕ) → i < count → y_in shares i < modulus n
 
--- in each comparison the box has the shares and the tape that it was lent for it
-pub begun_party : {n side pair first count : ℕ} {shares tapes work tally : List ℕ} {s : State} → Begun n side pair first count shares tapes work tally s
-    → (i : ℕ) → i < count → party_of s tapes i ≡ party n side (x_in shares i) (y_in shares i) (tape_part n tapes i)
-begun_party {n} {side} {pair} {first} {count} {shares} {tapes} {work} {tally} {s} b i less =
-    ap (λ (s : State). party_of s tapes i) b.state
-    ∙ ap₂ (λ (x y : ℕ). party n side x y (tape_part n tapes i)) (each_at count (x_in shares) i b.counted less) (each_at count (y_in shares) i b.counted less)
+module _ {n side pair first count : ℕ} {shares tapes work tally : List ℕ} {s : State} (b : Begun n side pair first count shares tapes work tally s) where
+  -- in each comparison the box has the shares and the tape that it was lent for it
+  pub begun_party : (i : ℕ) → i < count → party_of s tapes i ≡ party n side (x_in shares i) (y_in shares i) (tape_part n tapes i)
+  begun_party i less =
+      ap (λ (s : State). party_of s tapes i) b.state
+      ∙ ap₂ (λ (x y : ℕ). party n side x y (tape_part n tapes i))
+      (each_at count (x_in shares) i b.counted less)
+      (each_at count (y_in shares) i b.counted less)
 
--- and room to work
-pub begun_room : {n side pair first count : ℕ} {shares tapes work tally : List ℕ} {s : State} → Begun n side pair first count shares tapes work tally s
-    → (i : ℕ) → i < count → work_length n ≤ length (work_part n work i)
-begun_room {n} {side} {pair} {first} {count} {shares} {tapes} {work} {tally} {s} b i less =
-    let room : work_for n count ≤ length work = rw b.state at b.ready.room in
-    omega (arith, length_part (work_length n) work i (omega (arith, room, within count (work_length n) i less)))
+  -- and room to work
+  pub begun_room : (i : ℕ) → i < count → work_length n ≤ length (work_part n work i)
+  begun_room i less =
+      let room : work_for n count ≤ length work = rw b.state at b.ready.room in
+      omega (arith, length_part (work_length n) work i (omega (arith, room, within count (work_length n) i less)))
 
 module _ (n side pair first count : ℕ) (shares tapes work tally : List ℕ) where
   abbrev begins : Result
@@ -113,7 +113,6 @@ module _ (n side pair first count : ℕ) (shares tapes work tally : List ℕ) wh
               room = p.room;
             };
         counted = p.counted;
-        x_fits = p.x_fits;
         y_fits = p.y_fits;
       }
 

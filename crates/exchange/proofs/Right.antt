@@ -60,7 +60,8 @@ record Taken (refusal1 refusal2 : ℕ) : Type 0 where
   none1 : refusal1 ≡ 0
   none2 : refusal2 ≡ 0
 
-taken : (refusal1 refusal2 : ℕ) (room : Bool) → cond (eqb refusal1 0) (cond (eqb refusal2 0) (cond room 0 12) refusal2) refusal1 ≡ 0 → Taken refusal1 refusal2
+taken : (refusal1 refusal2 : ℕ) (room : Bool) → cond (eqb refusal1 0) (cond (eqb refusal2 0) (cond room 0 12) refusal2) refusal1 ≡ 0
+    → Taken refusal1 refusal2
 taken refusal1 refusal2 room = go (eqb refusal1 0) (eqb refusal2 0) refl refl
   where
     go : (a b : Bool) → eqb refusal1 0 ≡ a → eqb refusal2 0 ≡ b → cond a (cond b (cond room 0 12) refusal2) refusal1 ≡ 0 → Taken refusal1 refusal2

@@ -1,5 +1,5 @@
-// Both boxes of a job in one memory, through the five calls: the opening, one round, the whole exchange, and the answers that it opens. A job is what one
-// start takes: 1 to 8 comparisons on consecutive tapes.
+// Both boxes of a job in one memory, through the five calls: the opening, one round, the whole exchange, and the answers that it opens. A job is
+// what one start takes: 1 to 8 comparisons on consecutive tapes.
 #![tactic(auto)]
 
 ghost use Rattle.std.specs.Prelude.{ℕ, ◌≡◌, cond, ◌+◌, ◌%◌, ◌<◌, ◌≤◌, length, get_or, IfOk, IsOkAnd, IsSome};
@@ -83,8 +83,8 @@ pub fn begin(
     limit_box::start(state, first, count, shares, tapes, work, tally)
 }
 
-// Here and below both boxes' states and buffers go side by side: a round writes some of them and reads others, and each clause is of one box, so a struct
-// of what a box is lent would be no plainer.
+// Here and below both boxes' states and buffers go side by side: a round writes some of them and reads others, and each clause is of one box, so a
+// struct of what a box is lent would be no plainer.
 // Both boxes speak, and have the hear due then. The words of each stand at the front of its out.
 pub fn both_speak(
     first: u32,
@@ -226,7 +226,7 @@ fn answers(
     (shares_in(heard1), shares_in(heard2))
 }
 
-// A whole job: the opened answers in the order of the comparisons, 0 past the count, or the first refusal. On a pair of tapes dealt by the rules the answer
+// A whole job: the opened bits in the order of the comparisons, 0 past the count, or the first refusal. On a pair of tapes dealt by the rules a bit
 // is 1 if x < y, and 0 otherwise.
 pub fn less(
     jobs: Jobs<'_>,

@@ -17,15 +17,21 @@ abbrev lent2 : Start → Lent
 lent2 s = let v = s.args in lent v.jobs.box2.now v.t2.now v.w2.now v.k2.now v.o2.now
 
 -- where neither box is refused
-ready1 : (e : In_ok-begin-2) → let v = e.args in Begun v.jobs.n 1 v.jobs.pair v.jobs.first v.jobs.count v.jobs.box1.now v.t1.now v.w1.now v.k1.now e.begin.new.state
+ready1 : (e : In_ok-begin-2)
+    → let v = e.args in
+    Begun v.jobs.n 1 v.jobs.pair v.jobs.first v.jobs.count v.jobs.box1.now v.t1.now v.w1.now v.k1.now e.begin.new.state
 ready1 e =
     let v = e.args in
-    begin_ready v.jobs.n 1 v.jobs.pair v.jobs.first v.jobs.count v.jobs.box1.now v.t1.now v.w1.now v.k1.now _ e.begin.new.state _ e.in_ok-begin.ensures refl
+    begin_ready v.jobs.n 1 v.jobs.pair v.jobs.first v.jobs.count v.jobs.box1.now v.t1.now v.w1.now v.k1.now
+    _ e.begin.new.state _ e.in_ok-begin.ensures refl
 
-ready2 : (e : In_ok-begin-2) → let v = e.args in Begun v.jobs.n 2 v.jobs.pair v.jobs.first v.jobs.count v.jobs.box2.now v.t2.now v.w2.now v.k2.now e.begin-2.new.state
+ready2 : (e : In_ok-begin-2)
+    → let v = e.args in
+    Begun v.jobs.n 2 v.jobs.pair v.jobs.first v.jobs.count v.jobs.box2.now v.t2.now v.w2.now v.k2.now e.begin-2.new.state
 ready2 e =
     let v = e.args in
-    begin_ready v.jobs.n 2 v.jobs.pair v.jobs.first v.jobs.count v.jobs.box2.now v.t2.now v.w2.now v.k2.now _ e.begin-2.new.state _ e.in_ok-begin-2.ensures refl
+    begin_ready v.jobs.n 2 v.jobs.pair v.jobs.first v.jobs.count v.jobs.box2.now v.t2.now v.w2.now v.k2.now
+    _ e.begin-2.new.state _ e.in_ok-begin-2.ensures refl
 
 pub returns-in_err-begin : goal.returns-in_err-begin
 returns-in_err-begin c =
@@ -45,7 +51,8 @@ returns-in_err-begin-2 c =
     let v = s.args in
     let same : c.from_residual-in_err-begin-2.result ≡ Err c.in_err-begin-2.field-0.0 = search rules in
     let end =
-    ends_at_box2 v.jobs.n v.jobs.pair v.jobs.first v.jobs.count (lent1 s) (lent2 s) _ _ c.in_ok-begin.ensures c.in_err-begin-2.field-0.0 _ _ c.in_err-begin-2.ensures in
+    ends_at_box2 v.jobs.n v.jobs.pair v.jobs.first v.jobs.count (lent1 s) (lent2 s) _ _ c.in_ok-begin.ensures
+    c.in_err-begin-2.field-0.0 _ _ c.in_err-begin-2.ensures in
     rw same
     (record {
       ended = end;
