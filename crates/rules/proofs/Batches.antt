@@ -1,17 +1,23 @@
--- How many jobs a start takes, and the words that stand for them, one for each.
+-- How many jobs a start takes, the words that stand for them, one for each, and which of them are a job's.
 use Prim.Native.Nat.{ℕ, ◌<◌, ◌≤◌}
 use mathlib.Core.Path.{◌≡◌, refl, ◌∙◌}
 use mathlib.Core.Bool.{true, cond}
 use mathlib.Core.Logic.{by_cases}
 use native.Mathlib.Decide.{dec_lt}
 use native.Mathlib.Omega.{arith}
+use mathlib.Core.List.{List}
 use lib.Dec.{leb, ltb}
 use lib.ListN.{get_or, get_or-eq_default}
 use borrow.Author.Tests.{leb-true, lt-ltb, le-ltb}
 use Rattle.lists.proofs.Tests.{and_left, and_right}
 use Rattle.lists.proofs.Tabulate.{length_tabulate, get_d_tabulate, tabulate_same}
 use Rattle.protocol.specs.Sizes.{most_jobs, count_fits}
-use Rattle.rules.specs.Batches.{each_job}
+use Rattle.protocol.specs.Products.{party}
+use Rattle.protocol.specs.Rounds.{last_round, answer_share}
+use Rattle.rules.specs.Modes.{in_phase}
+use Rattle.rules.specs.Batches.{each_job, x_in, y_in, batch_of, tape_part, work_part, words_part, party_of, answer_shares}
+use Rattle.rules.specs.declared.state.Phase.{Phase}
+use Rattle.rules.specs.declared.state.State.{State}
 
 pub count_most : (count : ℕ) → count_fits count ≡ true → (1 ≤ count) × (count ≤ 8)
 unfolding count_fits
@@ -36,3 +42,25 @@ each_same count f g same =
     by_cases (dec_lt k count)
     (λ inside. rw (lt-ltb k count inside) (same k inside))
     (λ outside. rw (le-ltb k count (omega arith)) refl))
+
+-- ---- the jobs of a start, each with its own shares
+
+module _ (first count : ℕ) (shares : List ℕ) (i : ℕ) (fits : count_fits count ≡ true) (less : i < count) where
+  pub batch_x : get_or (batch_of first count shares).x i 0 ≡ x_in shares i
+  batch_x = each_at count (x_in shares) i fits less
+
+  pub batch_y : get_or (batch_of first count shares).y i 0 ≡ y_in shares i
+  batch_y = each_at count (y_in shares) i fits less
+
+  -- the box that the start leaves, in that job
+  pub started_party : (s : State) (phase : Phase) (tapes : List ℕ)
+      → party_of (in_phase s phase (batch_of first count shares)) tapes i ≡ party s.n s.side (x_in shares i) (y_in shares i) (tape_part s.n tapes i)
+  started_party s phase tapes = rw (batch_x, batch_y) refl
+
+-- a job's answer share stands at its place
+pub answer_at : (s : State) (tapes work incoming : List ℕ) (i : ℕ) → count_fits s.batch.count ≡ true → i < s.batch.count
+    → get_or (answer_shares s tapes work incoming) i 0
+    ≡ answer_share (party_of s tapes i) (work_part s.n work i) (words_part s.n last_round incoming i)
+unfolding answer_shares
+answer_at s tapes work incoming i fits less =
+    each_at s.batch.count (λ k. answer_share (party_of s tapes k) (work_part s.n work k) (words_part s.n last_round incoming k)) i fits less

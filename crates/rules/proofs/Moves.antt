@@ -26,7 +26,7 @@ use Rattle.rules.specs.declared.state.Phase.{Phase}
 use Rattle.rules.specs.declared.state.Phase.TheVariants.{Asleep, Idle, Job}
 use Rattle.rules.specs.declared.state.State.{State}
 use Rattle.rules.proofs.Decide.{decide}
-use Rattle.rules.proofs.Batches.{each_at}
+use Rattle.rules.proofs.Batches.{batch_x, batch_y}
 use Rattle.rules.proofs.Ranges.{awake_range, awake_mode, phase_mode, turned_mode}
 use Rattle.rules.proofs.Passed.{wake_passed, StartPassed, start_passed, speak_passed, hear_passed, TurnPassed}
 
@@ -75,9 +75,9 @@ started_fits s first count shares tapes work tally p =
     rw (
       ← p.same_tally,
       lt-ltb (first + i) (tapes_of (length tally)) (p.numbered i less),
-      each_at count (x_in shares) i p.counted less,
+      batch_x first count shares i p.counted less,
       lt-ltb (x_in shares i) (modulus s.n) (p.x_fits i less),
-      each_at count (y_in shares) i p.counted less,
+      batch_y first count shares i p.counted less,
       lt-ltb (y_in shares i) (modulus s.n) (p.y_fits i less),
     )
     refl))
@@ -131,12 +131,17 @@ hear_goes_on s first round tapes work incoming z other =
     let less : round < last_round = omega (arith, t.range.last) in
     rw (found_job s t, heard_job s first round tapes work incoming z other t, z, ne_eqb round last_round other, t.due.first_is) (hears less)
 
+ended_idle : (s : State) (first : ℕ) (tapes work incoming : List ℕ) → hear_ground s first last_round tapes work incoming ≡ 0
+    → TurnPassed s first (Hear last_round) tapes → mode_of (hear_rule s first last_round tapes work incoming).state ≡ Idle
+unfolding hear_rule heard_after
+ended_idle s first tapes work incoming z t = rw z (phase_mode s Idle _ (awake_range s t.awake) refl)
+
 hear_ends : (s : State) (first : ℕ) (tapes work incoming : List ℕ) → hear_ground s first last_round tapes work incoming ≡ 0
     → Moved s (hear first last_round tapes work incoming)
 unfolding hear_rule heard_after Moved
 hear_ends s first tapes work incoming z =
     let t = (hear_passed s first last_round tapes work incoming z).turn in
-    rw (found_job s t, z, phase_mode s Idle no_batch (awake_range s t.awake) refl, t.due.first_is) ends
+    rw (found_job s t, ended_idle s first tapes work incoming z t, z, t.due.first_is) ends
 
 hear_moves : (s : State) (first round : ℕ) (tapes work incoming : List ℕ) → hear_ground s first round tapes work incoming ≡ 0
     → Moved s (hear first round tapes work incoming)
@@ -150,11 +155,15 @@ hear_moves s first round tapes work incoming z = go (eqb round last_round) refl
 
 -- ---- drop
 
+dropped_idle : (s : State) → drop_ground s ≡ 0 → is_asleep (mode_of s) ≡ false → mode_of (drop_rule s).state ≡ Idle
+unfolding drop_rule
+dropped_idle s z awake = rw z (phase_mode s Idle _ (awake_range s awake) refl)
+
 drop_moves : (s : State) → drop_ground s ≡ 0 → Moved s drop
 unfolding drop_rule drop_ground Moved
 drop_moves s z =
     let c = none (drop_grounds s) z in
-    rw (z, phase_mode s Idle no_batch (awake_range s c.0) refl) (go (mode_of s) (not-false (in_job (mode_of s)) c.1.0))
+    rw (dropped_idle s z c.0, z) (go (mode_of s) (not-false (in_job (mode_of s)) c.1.0))
   where
     go : (p : Phase) → in_job p ≡ true → Moves s.n p s.batch drop dropped Idle no_batch
     go Asleep e = absurd (false≢true e)
