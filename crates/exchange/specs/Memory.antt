@@ -1,10 +1,11 @@
--- Memory for a job of any width, and a job with such memory on one fresh tape of each box.
-use Rattle.std.specs.Prelude.{ℕ, List, replicate}
+-- Memory for a job of one comparison at any width, and such a job with memory of its own on one fresh tape of each box.
+use Rattle.std.specs.Prelude.{ℕ, List, [], ◌∷◌, get_or, replicate, Ok, Err, Result as Answer}
 use Rattle.protocol.specs.Work.{work_length}
 use Rattle.protocol.specs.Rounds.{round_words}
 use Rattle.tally.specs.Tally.{mark_bytes}
+use Rattle.refusals.specs.declared.Refusal.{Refusal}
 use Rattle.exchange.specs.declared.Shares.{Shares}
-use Rattle.exchange.specs.Jobs.{Lent, lent, Ended, job_of}
+use Rattle.exchange.specs.Jobs.{Lent, lent, job_of}
 
 -- zeros to work in, and for the longest message, at the largest width
 unfoldable pub blank_work : List ℕ
@@ -17,9 +18,25 @@ blank_words = replicate (round_words 31 1) 0
 abbrev pub one_fresh : List ℕ
 one_fresh = replicate mark_bytes 255
 
+-- the list of one comparison's shares
+abbrev pub shares_of : Shares → List ℕ
+shares_of own = own.x ∷ own.y ∷ []
+
 -- a box with one fresh tape and such memory
 abbrev pub fresh_lent : Shares → List ℕ → Lent
-fresh_lent own tape = lent own tape blank_work one_fresh blank_words
+fresh_lent own tape = lent (shares_of own) tape blank_work one_fresh blank_words
 
-unfoldable pub fresh_job : ℕ → ℕ → ℕ → Shares → Shares → List ℕ → List ℕ → Ended
-fresh_job n pair number box1 box2 t1 t2 = job_of n pair number (fresh_lent box1 t1) (fresh_lent box2 t2)
+-- what a job of one comparison gives
+pub record Compared : Type 0 where
+  pub refusal : ℕ
+  pub less : ℕ
+
+-- the opened answer, and 0 where the job was refused
+abbrev pub less_of : Answer ℕ Refusal → ℕ
+less_of (Ok less) = less
+less_of (Err refusal) = 0
+
+unfoldable pub fresh_job : ℕ → ℕ → ℕ → Shares → Shares → List ℕ → List ℕ → Compared
+fresh_job n pair number box1 box2 t1 t2 =
+    let ended = job_of n pair number 1 (fresh_lent box1 t1) (fresh_lent box2 t2) in
+    record { refusal = ended.refusal; less = get_or ended.bits 0 0 }

@@ -1,25 +1,30 @@
-// Both boxes of a job in one memory, through the five calls: the opening, one round, the whole exchange, and the answer that it opens.
+// Both boxes of a job in one memory, through the five calls: the opening, one round, the whole exchange, and the answers that it opens. A job is what one
+// start takes: 1 to 8 comparisons on consecutive tapes.
 #![tactic(auto)]
 
-ghost use Rattle.std.specs.Prelude.{◌≡◌, cond, ◌+◌, ◌%◌, ◌<◌, ◌≤◌, ltb, length, IfOk, IsOkAnd, IsSome};
+ghost use Rattle.std.specs.Prelude.{ℕ, ◌≡◌, cond, ◌+◌, ◌%◌, ◌<◌, ◌≤◌, ltb, length, get_or, IfOk, IsOkAnd, IsSome};
 ghost use Rattle.std.proofs.lemmas.List.Edits.{sets};
+ghost use Rattle.lists.specs.Tabulate.{tabulate};
 ghost use Rattle.field.specs.Width.{modulus};
 ghost use Rattle.tape.specs.Dealt.{Dealt};
 ghost use Rattle.encoding.specs.Matching.{indicator};
-ghost use Rattle.protocol.specs.Rounds.{round_words, message};
+ghost use Rattle.protocol.specs.Sizes.{most_jobs, round_for};
 ghost use Rattle.refusals.specs.Checks.{ground_of};
-ghost use Rattle.rules.specs.Answers.{started, heard_or_share, reply_of};
-ghost use Rattle.rules.specs.Calls.{outcome, in_phase, party_of, turned, heard_after, hear_rule};
+ghost use Rattle.rules.specs.Answers.{started, heard_or_finished, reply_of};
+ghost use Rattle.rules.specs.Modes.{in_phase};
+ghost use Rattle.rules.specs.Batches.{x_in, y_in, tape_part, joined_message};
+ghost use Rattle.rules.specs.Calls.{outcome, heard_after, hear_rule};
 ghost use Rattle.rules.specs.declared.state.Turn.TheVariants.{Speak, Hear};
+ghost use Rattle.rules.specs.declared.state.Phase.TheVariants.{Job as InJob};
 ghost use Rattle.exchange.specs.Opening.{begun};
-ghost use Rattle.exchange.specs.Boxes.{Ready, answer1, answer2};
-ghost use Rattle.exchange.specs.Jobs.{lent, roomy, answer_sum, less_of, ended, job_of};
+ghost use Rattle.exchange.specs.Boxes.{Ready, answers1, answers2};
+ghost use Rattle.exchange.specs.Jobs.{lent, roomy, opened_bits, bits_of, no_bits, ended, job_of};
 
 use compare::words::LAST_ROUND;
 use field::Width;
 use refusals::Refusal;
 use rules::state;
-use rules::state::State;
+use rules::state::{MOST_JOBS, State};
 
 pub mod memory;
 
@@ -30,7 +35,7 @@ pub struct Shares {
     pub y: u32,
 }
 
-// What a job is asked with: the width, the pair and the number of its tapes, and both boxes' shares.
+// What a job of one comparison is asked with: the width, the pair and the number of its tapes, and both boxes' shares.
 #[derive(Clone, Copy, Debug, PartialEq, Eq)]
 pub struct Job {
     pub n: u32,
@@ -40,11 +45,25 @@ pub struct Job {
     pub box2: Shares,
 }
 
+// The same of so many comparisons, on tapes from the first number on. A box's list has its shares x and y of the first comparison, then of the next.
+#[derive(Clone, Copy)]
+pub struct Jobs<'a> {
+    pub n: u32,
+    pub pair: u32,
+    pub first: u32,
+    pub count: u32,
+    pub box1: &'a [u32],
+    pub box2: &'a [u32],
+}
+
 // How many rounds come before the last one.
 pub const EARLIER_ROUNDS: u32 = LAST_ROUND - 1;
 
 // What both hears of a round answered, box 1's first.
-pub type Heard = (Result<Option<u32>, Refusal>, Result<Option<u32>, Refusal>);
+pub type Heard = (
+    Result<Option<[u32; MOST_JOBS]>, Refusal>,
+    Result<Option<[u32; MOST_JOBS]>, Refusal>,
+);
 
 // A box wakes and starts its job.
 pub fn begin(
@@ -52,24 +71,25 @@ pub fn begin(
     n: u32,
     side: u32,
     pair: u32,
-    number: u32,
-    own: Shares,
-    tape: &[u32],
+    first: u32,
+    count: u32,
+    shares: &[u32],
+    tapes: &[u32],
     work: &[u32],
     tally: &mut [u8],
 ) -> Result<(), Refusal>
     ensures { outcome (reply_of (λ _. started) result) state.new tally.new
-        ≡ begun state.old n side pair number own.x own.y tape.now work.now tally.old }
+        ≡ begun state.old n side pair first count shares.now tapes.now work.now tally.old }
 {
     limit_box::wake(state, n, side, pair, &*tally)?;
-    limit_box::start(state, number, own.x, own.y, tape, work, tally)
+    limit_box::start(state, first, count, shares, tapes, work, tally)
 }
 
 // Here and below both boxes' states and buffers go side by side: a round writes some of them and reads others, and each clause is of one box, so a struct
 // of what a box is lent would be no plainer.
 // Both boxes speak, and have the hear due then. The words of each stand at the front of its out.
 pub fn both_speak(
-    number: u32,
+    first: u32,
     round: u32,
     s1: &mut State,
     s2: &mut State,
@@ -80,20 +100,20 @@ pub fn both_speak(
     o1: &mut [u32],
     o2: &mut [u32],
 )
-    requires box1 { Ready s1.old number (Speak round) t1.now w1.now × (round_words s1.old.n round ≤ length o1.old) }
-    requires box2 { Ready s2.old number (Speak round) t2.now w2.now × (round_words s2.old.n round ≤ length o2.old) }
-    ensures box1 { (o1.new ≡ sets o1.old 0 (message (party_of s1.old t1.now) w1.now round))
-        × (s1.new ≡ in_phase s1.old (turned s1.old.phase (Hear round))) }
-    ensures box2 { (o2.new ≡ sets o2.old 0 (message (party_of s2.old t2.now) w2.now round))
-        × (s2.new ≡ in_phase s2.old (turned s2.old.phase (Hear round))) }
+    requires box1 { Ready s1.old first (Speak round) t1.now w1.now × (round_for s1.old.n s1.old.batch.count round ≤ length o1.old) }
+    requires box2 { Ready s2.old first (Speak round) t2.now w2.now × (round_for s2.old.n s2.old.batch.count round ≤ length o2.old) }
+    ensures box1 { (o1.new ≡ sets o1.old 0 (joined_message s1.old t1.now w1.now round))
+        × (s1.new ≡ in_phase s1.old (InJob (Hear round)) s1.old.batch) }
+    ensures box2 { (o2.new ≡ sets o2.old 0 (joined_message s2.old t2.now w2.now round))
+        × (s2.new ≡ in_phase s2.old (InJob (Hear round)) s2.old.batch) }
 {
-    let _ = limit_box::speak(s1, number, round, t1, w1, o1);
-    let _ = limit_box::speak(s2, number, round, t2, w2, o2);
+    let _ = limit_box::speak(s1, first, round, t1, w1, o1);
+    let _ = limit_box::speak(s2, first, round, t2, w2, o2);
 }
 
 // Both boxes hear: box 1 the words that came to it, box 2 those that came to it. What a board between them did to the words is left open.
 pub fn both_hear(
-    number: u32,
+    first: u32,
     round: u32,
     s1: &mut State,
     s2: &mut State,
@@ -104,19 +124,27 @@ pub fn both_hear(
     to1: &[u32],
     to2: &[u32],
 ) -> Heard
-    ensures box1 { outcome (reply_of heard_or_share result.0) s1.new w1.new
-        ≡ hear_rule s1.old number round t1.now w1.old to1.now }
-    ensures box2 { outcome (reply_of heard_or_share result.1) s2.new w2.new
-        ≡ hear_rule s2.old number round t2.now w2.old to2.now }
+    ensures box1 { outcome (reply_of heard_or_finished result.0) s1.new w1.new
+        ≡ hear_rule s1.old first round t1.now w1.old to1.now }
+    ensures box2 { outcome (reply_of heard_or_finished result.1) s2.new w2.new
+        ≡ hear_rule s2.old first round t2.now w2.old to2.now }
 {
-    let heard1 = limit_box::hear(s1, number, round, t1, w1, to1);
-    let heard2 = limit_box::hear(s2, number, round, t2, w2, to2);
+    let heard1 = limit_box::hear(s1, first, round, t1, w1, to1);
+    let heard2 = limit_box::hear(s2, first, round, t2, w2, to2);
     (heard1, heard2)
+}
+
+// How many words so many jobs send in a round.
+#[tactic(auto, using(protocol::proofs::Lengths::words_most))]
+fn words_for(n: Width, count: u32, round: u32) -> usize
+    ensures { result ≡ round_for n.bits count round }
+{
+    count as usize * compare::words::words_of(n, round)
 }
 
 // One round: both boxes speak, then both hear the other's words. The words of each stand at the front of its out.
 fn round(
-    number: u32,
+    first: u32,
     round: u32,
     s1: &mut State,
     s2: &mut State,
@@ -127,22 +155,22 @@ fn round(
     o1: &mut [u32],
     o2: &mut [u32],
 ) -> Heard
-    requires box1 { Ready s1.old number (Speak round) t1.now w1.old × (round_words s1.old.n round ≤ length o1.old) }
-    requires box2 { Ready s2.old number (Speak round) t2.now w2.old × (round_words s2.old.n round ≤ length o2.old) }
-    requires width { s1.old.n ≡ s2.old.n }
-    ensures box1 { (o1.new ≡ sets o1.old 0 (message (party_of s1.old t1.now) w1.old round))
-        × (outcome (reply_of heard_or_share result.0) s1.new w1.new
-        ≡ heard_after s1.old t1.now w1.old round (message (party_of s2.old t2.now) w2.old round)) }
-    ensures box2 { (o2.new ≡ sets o2.old 0 (message (party_of s2.old t2.now) w2.old round))
-        × (outcome (reply_of heard_or_share result.1) s2.new w2.new
-        ≡ heard_after s2.old t2.now w2.old round (message (party_of s1.old t1.now) w1.old round)) }
+    requires box1 { Ready s1.old first (Speak round) t1.now w1.old × (round_for s1.old.n s1.old.batch.count round ≤ length o1.old) }
+    requires box2 { Ready s2.old first (Speak round) t2.now w2.old × (round_for s2.old.n s2.old.batch.count round ≤ length o2.old) }
+    requires same { (s1.old.n ≡ s2.old.n) × (s1.old.batch.count ≡ s2.old.batch.count) }
+    ensures box1 { (o1.new ≡ sets o1.old 0 (joined_message s1.old t1.now w1.old round))
+        × (outcome (reply_of heard_or_finished result.0) s1.new w1.new
+        ≡ heard_after s1.old t1.now w1.old round (joined_message s2.old t2.now w2.old round)) }
+    ensures box2 { (o2.new ≡ sets o2.old 0 (joined_message s2.old t2.now w2.old round))
+        × (outcome (reply_of heard_or_finished result.1) s2.new w2.new
+        ≡ heard_after s2.old t2.now w2.old round (joined_message s1.old t1.now w1.old round)) }
 {
-    let words = compare::words::words_of(Width { bits: s1.n }, round);
+    let words = words_for(Width { bits: s1.n }, s1.batch.count, round);
     both_speak(
-        number, round, &mut *s1, &mut *s2, t1, t2, &*w1, &*w2, &mut *o1, &mut *o2,
+        first, round, &mut *s1, &mut *s2, t1, t2, &*w1, &*w2, &mut *o1, &mut *o2,
     );
     both_hear(
-        number,
+        first,
         round,
         s1,
         s2,
@@ -156,8 +184,8 @@ fn round(
     )
 }
 
-// The answer share, of a hear that gave one.
-fn share_in(heard: Result<Option<u32>, Refusal>) -> u32
+// The answer shares, of a hear that gave them.
+fn shares_in(heard: Result<Option<[u32; MOST_JOBS]>, Refusal>) -> [u32; MOST_JOBS]
     requires { IsOkAnd heard IsSome }
     ensures { heard ≡ Ok (Some result) }
 {
@@ -166,7 +194,7 @@ fn share_in(heard: Result<Option<u32>, Refusal>) -> u32
 
 // Every round, from whatever work holds: the answer shares that the last two hears give.
 fn answers(
-    number: u32,
+    first: u32,
     s1: &mut State,
     s2: &mut State,
     t1: &[u32],
@@ -175,16 +203,16 @@ fn answers(
     w2: &mut [u32],
     o1: &mut [u32],
     o2: &mut [u32],
-) -> (u32, u32)
-    requires box1 { Ready s1.old number (Speak 1) t1.now w1.old × (round_words s1.old.n 1 ≤ length o1.old) }
-    requires box2 { Ready s2.old number (Speak 1) t2.now w2.old × (round_words s2.old.n 1 ≤ length o2.old) }
-    requires width { s1.old.n ≡ s2.old.n }
-    ensures box1 { result.0 ≡ answer1 s1.old s2.old t1.now t2.now w1.old w2.old }
-    ensures box2 { result.1 ≡ answer2 s1.old s2.old t1.now t2.now w1.old w2.old }
+) -> ([u32; MOST_JOBS], [u32; MOST_JOBS])
+    requires box1 { Ready s1.old first (Speak 1) t1.now w1.old × (round_for s1.old.n s1.old.batch.count 1 ≤ length o1.old) }
+    requires box2 { Ready s2.old first (Speak 1) t2.now w2.old × (round_for s2.old.n s2.old.batch.count 1 ≤ length o2.old) }
+    requires same { (s1.old.n ≡ s2.old.n) × (s1.old.batch.count ≡ s2.old.batch.count) }
+    ensures box1 { result.0 ≡ answers1 s1.old s2.old t1.now t2.now w1.old w2.old }
+    ensures box2 { result.1 ≡ answers2 s1.old s2.old t1.now t2.now w1.old w2.old }
 {
     for heard in 0..EARLIER_ROUNDS {
         let _ = round(
-            number,
+            first,
             heard + 1,
             &mut *s1,
             &mut *s2,
@@ -196,13 +224,14 @@ fn answers(
             &mut *o2,
         );
     }
-    let (heard1, heard2) = round(number, LAST_ROUND, s1, s2, t1, t2, w1, w2, o1, o2);
-    (share_in(heard1), share_in(heard2))
+    let (heard1, heard2) = round(first, LAST_ROUND, s1, s2, t1, t2, w1, w2, o1, o2);
+    (shares_in(heard1), shares_in(heard2))
 }
 
-// A whole job: the opened answer, or the first refusal. On a pair of tapes dealt by the rules the answer is 1 if x < y, and 0 otherwise.
+// A whole job: the opened answers in the order of the comparisons, 0 past the count, or the first refusal. On a pair of tapes dealt by the rules the answer
+// is 1 if x < y, and 0 otherwise.
 pub fn less(
-    job: Job,
+    jobs: Jobs<'_>,
     t1: &[u32],
     t2: &[u32],
     w1: &mut [u32],
@@ -211,40 +240,54 @@ pub fn less(
     k2: &mut [u8],
     o1: &mut [u32],
     o2: &mut [u32],
-) -> Result<u32, Refusal>
+) -> Result<[u32; MOST_JOBS], Refusal>
     ensures ended { ended result k1.new k2.new
-        ≡ job_of job.n job.pair job.number (lent job.box1 t1.now w1.old k1.old o1.old)
-        (lent job.box2 t2.now w2.old k2.old o2.old) }
-    ensures right { IfOk result (λ less. Dealt job.n job.pair job.number t1.now t2.now
-        → less ≡ indicator (ltb ((job.box1.x + job.box2.x) % modulus job.n) ((job.box1.y + job.box2.y) % modulus job.n))) }
+        ≡ job_of jobs.entry.n jobs.entry.pair jobs.entry.first jobs.entry.count
+        (lent jobs.entry.box1.now t1.now w1.old k1.old o1.old)
+        (lent jobs.entry.box2.now t2.now w2.old k2.old o2.old) }
+    ensures right { IfOk result (λ bits. (i : ℕ) → i < jobs.entry.count
+        → Dealt jobs.entry.n jobs.entry.pair (jobs.entry.first + i) (tape_part jobs.entry.n t1.now i) (tape_part jobs.entry.n t2.now i)
+        → get_or bits i 0 ≡ indicator (ltb
+        ((x_in jobs.entry.box1.now i + x_in jobs.entry.box2.now i) % modulus jobs.entry.n)
+        ((y_in jobs.entry.box1.now i + y_in jobs.entry.box2.now i) % modulus jobs.entry.n))) }
 {
-    let Job {
+    let Jobs {
         n,
         pair,
-        number,
+        first,
+        count,
         box1,
         box2,
-    } = job;
+    } = jobs;
     let mut s1 = state::FIRST;
     let mut s2 = state::FIRST;
-    begin(&mut s1, n, 1, pair, number, box1, t1, &*w1, k1)?;
-    begin(&mut s2, n, 2, pair, number, box2, t2, &*w2, k2)?;
+    begin(&mut s1, n, 1, pair, first, count, box1, t1, &*w1, k1)?;
+    begin(&mut s2, n, 2, pair, first, count, box2, t2, &*w2, k2)?;
     let n = Width { bits: n };
-    opened(n, number, &mut s1, &mut s2, t1, t2, w1, w2, o1, o2)
+    opened(n, first, count, &mut s1, &mut s2, t1, t2, w1, w2, o1, o2)
 }
 
 // Whether both outs have room for the first message, which is the longest.
-fn has_room(n: Width, o1: &[u32], o2: &[u32]) -> bool
-    ensures { result ≡ roomy n.bits o1.now o2.now }
+fn has_room(n: Width, count: u32, o1: &[u32], o2: &[u32]) -> bool
+    ensures { result ≡ roomy n.bits count o1.now o2.now }
 {
-    let words = compare::words::words_of(n, 1);
+    let words = words_for(n, count, 1);
     words <= o1.len() && words <= o2.len()
 }
 
-// The sum of the two answer shares, where both outs have room; otherwise the refusal of the first speak.
+// The sums of the two boxes' answer shares.
+fn added(n: Width, shares1: [u32; MOST_JOBS], shares2: [u32; MOST_JOBS]) -> [u32; MOST_JOBS]
+    requires { (i : ℕ) → (get_or shares1 i 0 < modulus n.bits) × (get_or shares2 i 0 < modulus n.bits) }
+    ensures { result ≡ tabulate most_jobs (λ i. (get_or shares1 i 0 + get_or shares2 i 0) % modulus n.bits) }
+{
+    std::array::from_fn(|i| n.add(shares1[i], shares2[i]))
+}
+
+// The sums of the answer shares, where both outs have room; otherwise the refusal of the first speak.
 fn opened(
     n: Width,
-    number: u32,
+    first: u32,
+    count: u32,
     s1: &mut State,
     s2: &mut State,
     t1: &[u32],
@@ -253,16 +296,17 @@ fn opened(
     w2: &mut [u32],
     o1: &mut [u32],
     o2: &mut [u32],
-) -> Result<u32, Refusal>
-    requires ready { Ready s1.old number (Speak 1) t1.now w1.old × Ready s2.old number (Speak 1) t2.now w2.old }
+) -> Result<[u32; MOST_JOBS], Refusal>
+    requires ready { Ready s1.old first (Speak 1) t1.now w1.old × Ready s2.old first (Speak 1) t2.now w2.old }
     requires width { (s1.old.n ≡ n.bits) × (s2.old.n ≡ n.bits) }
-    ensures { (ground_of result ≡ cond (roomy n.bits o1.old o2.old) 0 12)
-        × (less_of result ≡ cond (roomy n.bits o1.old o2.old)
-        (answer_sum n.bits s1.old s2.old t1.now t2.now w1.old w2.old) 0) }
+    requires count { (s1.old.batch.count ≡ count) × (s2.old.batch.count ≡ count) }
+    ensures { (ground_of result ≡ cond (roomy n.bits count o1.old o2.old) 0 12)
+        × (bits_of result ≡ cond (roomy n.bits count o1.old o2.old)
+        (opened_bits n.bits count s1.old s2.old t1.now t2.now w1.old w2.old) no_bits) }
 {
-    if !has_room(n, &*o1, &*o2) {
+    if !has_room(n, count, &*o1, &*o2) {
         return Err(Refusal::Room);
     }
-    let (share1, share2) = answers(number, s1, s2, t1, t2, w1, w2, o1, o2);
-    Ok(n.add(share1, share2))
+    let (shares1, shares2) = answers(first, s1, s2, t1, t2, w1, w2, o1, o2);
+    Ok(added(n, shares1, shares2))
 }

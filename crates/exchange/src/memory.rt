@@ -1,15 +1,14 @@
-// Memory for jobs of any width: room for the longest tape, work and message, and a job with buffers of its own. There is no heap, so a job of a narrower
-// width uses the first words of each.
+// Memory for jobs of one comparison at any width: room for the longest tape, work and message, and a job with buffers of its own. There is no heap, so a job
+// of a narrower width uses the first words of each.
 ghost use Rattle.std.specs.Prelude.{◌≡◌, true, ◌+◌, ◌%◌, ◌<◌, ◌&&◌, eqb, ltb, length, take};
 ghost use Rattle.field.specs.Width.{modulus};
 ghost use Rattle.tape.specs.Layout.{tape_length};
 ghost use Rattle.tape.specs.Dealt.{Dealt};
 ghost use Rattle.encoding.specs.Matching.{indicator};
 ghost use Rattle.refusals.specs.Checks.{ground_of};
-ghost use Rattle.exchange.specs.Jobs.{less_of};
-ghost use Rattle.exchange.specs.Memory.{blank_work, blank_words, fresh_job};
+ghost use Rattle.exchange.specs.Memory.{blank_work, blank_words, shares_of, less_of, fresh_job};
 
-use crate::{Job, Shares};
+use crate::{Job, Jobs, Shares};
 use field::Width;
 use refusals::Refusal;
 
@@ -47,7 +46,14 @@ pub fn blank_words() -> [u32; 2889]
     [0; 2889]
 }
 
-// A whole job on one fresh tape of each box.
+// The list of one comparison's shares.
+fn list(own: Shares) -> [u32; 2]
+    ensures { result ≡ shares_of own }
+{
+    [own.x, own.y]
+}
+
+// A whole job of one comparison, on one fresh tape of each box.
 pub fn fresh_job(job: Job, t1: &[u32], t2: &[u32]) -> Result<u32, Refusal>
     ensures refusal { ground_of result ≡ (fresh_job job.n job.pair job.number job.box1 job.box2 t1.now t2.now).refusal }
     ensures less { less_of result ≡ (fresh_job job.n job.pair job.number job.box1 job.box2 t1.now t2.now).less }
@@ -58,9 +64,25 @@ pub fn fresh_job(job: Job, t1: &[u32], t2: &[u32]) -> Result<u32, Refusal>
     let mut k2 = [255u8; tally::MARK_BYTES];
     let mut o1 = blank_words();
     let mut o2 = blank_words();
-    crate::less(
-        job, t1, t2, &mut w1, &mut w2, &mut k1, &mut k2, &mut o1, &mut o2,
-    )
+    let Job {
+        n,
+        pair,
+        number,
+        box1,
+        box2,
+    } = job;
+    let jobs = Jobs {
+        n,
+        pair,
+        first: number,
+        count: 1,
+        box1: &list(box1),
+        box2: &list(box2),
+    };
+    let [less, ..] = crate::less(
+        jobs, t1, t2, &mut w1, &mut w2, &mut k1, &mut k2, &mut o1, &mut o2,
+    )?;
+    Ok(less)
 }
 
 // The ordinary comparison of what the boxes' shares add up to.

@@ -6,8 +6,7 @@ use Rattle.tape.specs.Plain.{plain_tape}
 use Rattle.deals.specs.Deals.{dealt_tape}
 use Rattle.encoding.specs.Matching.{indicator}
 use Rattle.exchange.specs.declared.Shares.{Shares}
-use Rattle.exchange.specs.Jobs.{Ended}
-use Rattle.exchange.specs.Memory.{fresh_job}
+use Rattle.exchange.specs.Memory.{Compared, fresh_job}
 use Rattle.exhaustive.specs.declared.tapes.Source.{Source}
 use Rattle.exhaustive.specs.declared.tapes.Source.TheVariants.{Plain, Dealt}
 
@@ -16,7 +15,7 @@ abbrev pub comparison : ℕ → Shares → Shares → ℕ
 comparison p box1 box2 = indicator (ltb ((box1.x + box2.x) % p) ((box1.y + box2.y) % p))
 
 -- the job of those shares, of pair 7 and tape number 0, on one fresh tape of each box
-abbrev pub job_at : ℕ → Shares → Shares → List ℕ → List ℕ → Ended
+abbrev pub job_at : ℕ → Shares → Shares → List ℕ → List ℕ → Compared
 job_at n = fresh_job n 7 0
 
 -- no box refuses it, and its answer is the comparison

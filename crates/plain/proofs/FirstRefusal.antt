@@ -5,13 +5,12 @@ use Rattle.field.specs.Width.{listed}
 use Rattle.tape.specs.Plain.{plain_tape}
 use Rattle.tape.proofs.Plains.{plain_dealt}
 use Rattle.exchange.specs.declared.Shares.{Shares}
-use Rattle.exchange.specs.Jobs.{Ended}
-use Rattle.exchange.specs.Memory.{fresh_job}
+use Rattle.exchange.specs.Memory.{Compared, fresh_job}
 use Rattle.exchange.proofs.Fresh.{fresh_share_refusal, fresh_answer}
 use Rattle.plain.specs.Printed.{plain_refusal, plain_less, plain_answer}
 
 module _ (n : ℕ) (box1 box2 : Shares) (width : listed n ≡ true) (most : n ≤ 13) where
-  abbrev job : Ended
+  abbrev job : Compared
   job = fresh_job n 1 0 box1 box2 (plain_tape n 1 1 0) (plain_tape n 1 2 0)
 
   pub first_refusal : job.refusal ≡ plain_refusal n box1.x box2.x box1.y box2.y

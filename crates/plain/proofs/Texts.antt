@@ -6,7 +6,7 @@ use Rattle.refusals.specs.Numbers.{number_of}
 use Rattle.refusals.specs.Checks.{ground_of}
 use Rattle.refusals.specs.declared.Refusal.{Refusal}
 use Rattle.refusals.proofs.Numbers.{numbered}
-use Rattle.exchange.specs.Jobs.{less_of}
+use Rattle.exchange.specs.Memory.{less_of}
 use Rattle.lines.specs.Reading.{is_line, line_numbers}
 use Rattle.lines.specs.Writing.{refused_text}
 use Rattle.plain.specs.Printed.{plain_refusal, plain_less, plain_answer, answer_text, text_for, printed}

@@ -2,7 +2,7 @@
 ghost use Rattle.std.specs.Prelude.{◌≡◌, ◌≤◌, length};
 ghost use Rattle.refusals.specs.Checks.{ground_of};
 ghost use Rattle.tape.specs.Layout.{tape_length};
-ghost use Rattle.exchange.specs.Jobs.{less_of};
+ghost use Rattle.exchange.specs.Memory.{less_of};
 ghost use Rattle.plain.specs.Printed.{plain_refusal, plain_answer};
 
 use exchange::memory::{blank_tape, fresh_job, tape_room};

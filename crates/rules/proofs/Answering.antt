@@ -70,9 +70,9 @@ first_is s drop = refl
 start_order : (s : State) (first count : ℕ) (shares tapes work tally : List ℕ)
     → numbers_of (start_grounds s first count shares tapes work tally) ≡ order_of (start first count shares tapes work tally)
 start_order s first count shares tapes work tally =
-    let jobs : List Ground = chained count (λ i. joined (one_parts s first count shares tapes tally i)) in
+    let one : ℕ → List Ground = λ i. joined (one_parts s first count shares tapes tally i) in
     ap (λ (rest : List ℕ). 1 ∷ 5 ∷ 16 ∷ 4 ∷ 12 ∷ rest)
-    (map-append _ jobs _ ∙ ap (λ (numbers : List ℕ). numbers ++ (12 ∷ [])) (numbers_chained count (λ i. joined (one_parts s first count shares tapes tally i))))
+    (map-append _ (chained count one) _ ∙ ap (λ (numbers : List ℕ). numbers ++ (12 ∷ [])) (numbers_chained count one))
 
 order_is : (s : State) (call : Call) → numbers_of (grounds_of s call) ≡ order_of call
 order_is s (wake n side pair tally) = refl

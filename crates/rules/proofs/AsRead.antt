@@ -34,7 +34,8 @@ ground_read s first round tapes work incoming = rw (fits_read s.n incoming, leng
 -- a job's part of the words is read as the words are
 part_read : (n round : ℕ) (words : List ℕ) (i : ℕ) → words_part n round (read_words n words) i ≡ read_words n (words_part n round words i)
 part_read n round words i =
-    ap (take (round_words n round)) (drop-map (read n) (i * round_words n round) words) ∙ take-map (read n) (round_words n round) (drop (i * round_words n round) words)
+    let size = round_words n round in
+    ap (take size) (drop-map (read n) (i * size) words) ∙ take-map (read n) size (drop (i * size) words)
 
 joined_read : (s : State) (tapes work : List ℕ) (round : ℕ) (incoming : List ℕ)
     → joined_after s tapes work round (read_words s.n incoming) ≡ joined_after s tapes work round incoming

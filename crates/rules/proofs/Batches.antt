@@ -1,11 +1,11 @@
 -- How many jobs a start takes, the words that stand for them, one for each, and which of them are a job's.
 use Prim.Native.Nat.{ℕ, ◌<◌, ◌≤◌}
-use mathlib.Core.Path.{◌≡◌, refl, ◌∙◌}
+use mathlib.Core.Path.{◌≡◌, refl, ap₂, ◌∙◌}
 use mathlib.Core.Bool.{true, cond}
+use mathlib.Core.List.{List}
 use mathlib.Core.Logic.{by_cases}
 use native.Mathlib.Decide.{dec_lt}
 use native.Mathlib.Omega.{arith}
-use mathlib.Core.List.{List}
 use lib.Dec.{leb, ltb}
 use lib.ListN.{get_or, get_or-eq_default}
 use borrow.Author.Tests.{leb-true, lt-ltb, le-ltb}
@@ -55,7 +55,7 @@ module _ (first count : ℕ) (shares : List ℕ) (i : ℕ) (fits : count_fits co
   -- the box that the start leaves, in that job
   pub started_party : (s : State) (phase : Phase) (tapes : List ℕ)
       → party_of (in_phase s phase (batch_of first count shares)) tapes i ≡ party s.n s.side (x_in shares i) (y_in shares i) (tape_part s.n tapes i)
-  started_party s phase tapes = rw (batch_x, batch_y) refl
+  started_party s phase tapes = ap₂ (λ (x y : ℕ). party s.n s.side x y (tape_part s.n tapes i)) batch_x batch_y
 
 -- a job's answer share stands at its place
 pub answer_at : (s : State) (tapes work incoming : List ℕ) (i : ℕ) → count_fits s.batch.count ≡ true → i < s.batch.count

@@ -5,6 +5,6 @@ pub mod Ranges
 pub mod Passed
 pub mod Spoken
 mod Refusals
-mod Moves
+pub mod Moves
 pub mod Answering
 pub mod AsRead
