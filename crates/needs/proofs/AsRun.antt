@@ -25,6 +25,7 @@ use Rattle.refusals.specs.Numbers.{number_of}
 use Rattle.refusals.specs.Grounds.{Ground, ◌when◌, earliest_of, joined}
 use Rattle.refusals.specs.declared.Refusal.TheVariants.{Room}
 use Rattle.refusals.proofs.Chains.{none, first_none, both_none}
+use Rattle.rules.specs.Answers.{spoke}
 use Rattle.rules.specs.Modes.{mode_of}
 use Rattle.rules.specs.Batches.{tape_part}
 use Rattle.rules.specs.Grounds.{idle_grounds, count_grounds, tally_grounds, list_grounds, one_parts, job_grounds, due_grounds, tapes_grounds, room_grounds, message_fits, word_grounds, start_ground, speak_ground, hear_ground}
@@ -166,7 +167,7 @@ as_run =
           (plain_long n pair side first width box count ∙ sym (tape_is n count width fits), plain_fit n pair side first width box count);
       spoken = λ s first round tapes work out e.
           let t = (speak_passed s first round tapes work out e).turn in
-          rw (e, round_is s.n s.batch.count t.sound.width t.range.counted round) refl;
+          rw e (ap spoke (sym (round_is s.n s.batch.count t.sound.width t.range.counted round)));
       start_room = start_left;
       speak_room = λ s first round tapes work out reached.
           turn_left s first (Speak round) tapes work out [] reached
