@@ -1,23 +1,27 @@
 -- A box that came to a job and was not refused: its state, and that it is ready for the first round.
 use Prim.Native.Nat.{ℕ, ◌+◌, ◌<◌, ◌≤◌}
-use mathlib.Core.Path.{◌≡◌, refl, ap, ◌∙◌, sym}
+use mathlib.Core.Path.{◌≡◌, refl, ap, ap₂, ◌∙◌, sym}
 use mathlib.Core.Bool.{Bool, true, false, cond}
 use mathlib.Core.List.{List}
 use native.Mathlib.Omega.{arith}
 use borrow.Author.Tests.{ne_eqb, eqb-true}
 use lib.Dec.{eqb}
 use lib.ListN.{length}
+use Rattle.lists.proofs.Joined.{within, length_part}
 use Rattle.field.specs.Width.{modulus}
-use Rattle.protocol.specs.Sizes.{count_fits}
+use Rattle.protocol.specs.Work.{work_length}
+use Rattle.protocol.specs.Products.{party}
+use Rattle.protocol.specs.Sizes.{count_fits, work_for}
 use Rattle.refusals.specs.Numbers.{number_of}
 use Rattle.refusals.proofs.Numbers.{numbered}
 use Rattle.refusals.specs.declared.Refusal.{Refusal}
 use Rattle.rules.specs.Answers.{Reply, fresh, refused}
-use Rattle.rules.specs.Batches.{no_batch, batch_of, x_in, y_in}
+use Rattle.rules.specs.Batches.{no_batch, batch_of, x_in, y_in, tape_part, work_part, party_of}
 use Rattle.rules.specs.Grounds.{wake_ground, start_ground}
 use Rattle.rules.specs.Modes.{is_asleep}
 use Rattle.rules.specs.Calls.{Result, outcome, unless, wake_rule, start_rule}
 use Rattle.rules.proofs.Decide.{decide}
+use Rattle.rules.proofs.Batches.{each_at}
 use Rattle.rules.proofs.Ranges.{awake_range}
 use Rattle.rules.proofs.Passed.{start_passed}
 use Rattle.rules.proofs.Moves.{started_job}
@@ -50,8 +54,22 @@ pub record Begun (n side pair first count : ℕ) (shares tapes work tally : List
   pub state : s ≡ awake n side pair tally (Job (Speak 1)) (batch_of first count shares)
   pub ready : Ready s first (Speak 1) tapes work
   pub counted : count_fits count ≡ true
-  pub x_fits : (i : ℕ) → i < count → x_in shares i < modulus n
   pub y_fits : (i : ℕ) → i < count → y_in shares i < modulus n
+
+module _ {n side pair first count : ℕ} {shares tapes work tally : List ℕ} {s : State} (b : Begun n side pair first count shares tapes work tally s) where
+  -- in each comparison the box has the shares and the tape that it was lent for it
+  pub begun_party : (i : ℕ) → i < count → party_of s tapes i ≡ party n side (x_in shares i) (y_in shares i) (tape_part n tapes i)
+  begun_party i less =
+      ap (λ (s : State). party_of s tapes i) b.state
+      ∙ ap₂ (λ (x y : ℕ). party n side x y (tape_part n tapes i))
+      (each_at count (x_in shares) i b.counted less)
+      (each_at count (y_in shares) i b.counted less)
+
+  -- and room to work
+  pub begun_room : (i : ℕ) → i < count → work_length n ≤ length (work_part n work i)
+  begun_room i less =
+      let room : work_for n count ≤ length work = rw b.state at b.ready.room in
+      omega (arith, length_part (work_length n) work i (omega (arith, room, within count (work_length n) i less)))
 
 module _ (n side pair first count : ℕ) (shares tapes work tally : List ℕ) where
   abbrev begins : Result
@@ -95,7 +113,6 @@ module _ (n side pair first count : ℕ) (shares tapes work tally : List ℕ) wh
               room = p.room;
             };
         counted = p.counted;
-        x_fits = p.x_fits;
         y_fits = p.y_fits;
       }
 

@@ -75,7 +75,8 @@ module _ {begun : State} {first : ℕ} {tapes : List ℕ} {k : ℕ} {held : ℕ 
     course_next more e held' next =
         let box = turned begun (Speak (k + 1)) in
         let n = heard_next s first (k + 1) tapes work c.due incoming reply s' work' (omega (arith, more)) e in
-        let after : work' ≡ joined_after box tapes work (k + 1) incoming = n.after ∙ ap (λ (b : State). joined_after b tapes work (k + 1) incoming) c.same in
+        let after : work' ≡ joined_after box tapes work (k + 1) incoming =
+        n.after ∙ ap (λ (b : State). joined_after b tapes work (k + 1) incoming) c.same in
         record {
           due = n.ready;
           same = n.same ∙ ap (λ (b : State). turned b (Speak (k + 1 + 1))) c.same;

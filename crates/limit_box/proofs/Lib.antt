@@ -1,3 +1,4 @@
 mod Chains
-mod Outcomes
 mod HandedOn
+mod Hearing
+mod Numbers

@@ -68,12 +68,19 @@ module _ (a : After-loop-heard) where
       subst (λ (k : ℕ). Course a.args.s2.now a.args.first a.args.t2.now k (λ i. (both k i).others) a.loop-heard.s2 a.loop-heard.w2) all_heard
       a.loop-heard.invariant.box2
 
-  -- the hears of the last round give the answer shares
+  -- the messages of the last round
+  abbrev last1 : List ℕ
+  last1 = joined_message a.loop-heard.s1 a.args.t1.now a.loop-heard.w1 last_round
+
+  abbrev last2 : List ℕ
+  last2 = joined_message a.loop-heard.s2 a.args.t2.now a.loop-heard.w2 last_round
+
+  -- whose hears give the answer shares
   module _ (r : Result (Option (List ℕ)) Refusal) (s : State) (w : List ℕ) where
     abbrev gave : Called
     gave = outcome (reply_of heard_or_finished r) s w
 
-    gives1 : gave ≡ heard_after a.loop-heard.s1 a.args.t1.now a.loop-heard.w1 last_round (joined_message a.loop-heard.s2 a.args.t2.now a.loop-heard.w2 last_round)
+    gives1 : gave ≡ heard_after a.loop-heard.s1 a.args.t1.now a.loop-heard.w1 last_round last2
         → r ≡ Ok (Some (answers1 a.args.s1.now a.args.s2.now a.args.t1.now a.args.t2.now a.args.w1.now a.args.w2.now))
     gives1 e =
         let n = a.args.s1.now.n in
@@ -83,7 +90,7 @@ module _ (a : After-loop-heard) where
         (course_last ended1 _ _ told _ s w refl e
         ∙ ap finished (each_same count _ _ (λ i less. sym (last_own (box1 i) (box2 i) (first i)))))
 
-    gives2 : gave ≡ heard_after a.loop-heard.s2 a.args.t2.now a.loop-heard.w2 last_round (joined_message a.loop-heard.s1 a.args.t1.now a.loop-heard.w1 last_round)
+    gives2 : gave ≡ heard_after a.loop-heard.s2 a.args.t2.now a.loop-heard.w2 last_round last1
         → r ≡ Ok (Some (answers2 a.args.s1.now a.args.s2.now a.args.t1.now a.args.t2.now a.args.w1.now a.args.w2.now))
     gives2 e =
         let n = a.args.s2.now.n in
@@ -122,10 +129,11 @@ loop-heard-preserved c =
     let k = c.loop-heard.heard in
     let told1 = course_tells inv.box2 s1.n s1.batch.count same.0 same.1 (k + 1) in
     let told2 = course_tells inv.box1 s2.n s2.batch.count (sym same.0) (sym same.1) (k + 1) in
-    let first : ℕ → Both = works_of s1 s2 v.w1.now v.w2.now in
+    let more1 = λ (i : ℕ). more_own (party_of s1 v.t1.now i) (party_of s2 v.t2.now i) (works_of s1 s2 v.w1.now v.w2.now i) k in
+    let more2 = λ (i : ℕ). more_others (party_of s1 v.t1.now i) (party_of s2 v.t2.now i) (works_of s1 s2 v.w1.now v.w2.now i) k in
     record {
-      box1 = course_next inv.box1 _ _ told1 _ c.round.new.s1 _ less c.round.ensures.box1.1 _ (λ i. more_own (party_of s1 v.t1.now i) (party_of s2 v.t2.now i) (first i) k);
-      box2 = course_next inv.box2 _ _ told2 _ c.round.new.s2 _ less c.round.ensures.box2.1 _ (λ i. more_others (party_of s1 v.t1.now i) (party_of s2 v.t2.now i) (first i) k);
+      box1 = course_next inv.box1 _ _ told1 _ c.round.new.s1 _ less c.round.ensures.box1.1 _ more1;
+      box2 = course_next inv.box2 _ _ told2 _ c.round.new.s2 _ less c.round.ensures.box2.1 _ more2;
       same_w1 = omega (arith, c.round.auto.w1, inv.same_w1);
       same_w2 = omega (arith, c.round.auto.w2, inv.same_w2);
       same_o1 = omega (arith, c.round.auto.o1, inv.same_o1);

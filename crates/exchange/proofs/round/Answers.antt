@@ -15,7 +15,8 @@ front1 : (a : After-both_speak)
     AtFront (joined_message v.s1.now v.t1.now v.w1.now v.round) a.both_speak.new.o1 a.words_for-words.result
 front1 a =
     let v = a.args in
-    at_front v.s1.now v.t1.now v.w1.now v.round v.o1.now _ a.words_for-words.result a.words_for-words.ensures a.requires.box1.1 a.both_speak.ensures.box1.0
+    let counted = a.words_for-words.ensures in
+    at_front v.s1.now v.t1.now v.w1.now v.round v.o1.now _ a.words_for-words.result counted a.requires.box1.1 a.both_speak.ensures.box1.0
 
 front2 : (a : After-both_speak)
     → let v = a.args in
