@@ -7,12 +7,14 @@ ghost use Rattle.vectors.specs.Deal.{AgreeingDeal};
 
 mod data;
 mod deal;
+mod head;
 mod job;
 mod numbers;
 mod single;
 mod spelling;
 
-use crate::job::{Agreement, Form};
+use crate::head::Form;
+use crate::job::Agreement;
 use crate::spelling::Spelling;
 use field::Width;
 use std::io;
