@@ -1,10 +1,10 @@
 -- Two boxes at first, each with one fresh tape: which refusal a job of one comparison gives first, and what it answers.
 use Prim.Native.Nat.{ℕ, ◌+◌, ◌%◌, ◌<◌, ◌≤◌}
-use mathlib.Core.Path.{◌≡◌, refl, subst, sym, ap₂, ◌∙◌}
+use mathlib.Core.Path.{◌≡◌, refl, ◌∙◌}
 use mathlib.Core.Bool.{Bool, true, false, ◌&&◌, cond}
-use mathlib.Core.List.{List, ◌∷◌, []}
+use mathlib.Core.List.{List}
 use native.Mathlib.Omega.{arith}
-use borrow.Author.Tests.{le-leb, lt-ltb, eq-eqb, eqb-true, eqb-false}
+use borrow.Author.Tests.{le-leb, lt-ltb, eq-eqb, eqb-true}
 use lib.Dec.{eqb, leb, ltb}
 use lib.ListN.{length, get_or, length-replicate}
 use Rattle.lists.proofs.Joined.{part_one}
@@ -30,7 +30,7 @@ use Rattle.rules.specs.declared.state.Phase.TheVariants.{Idle}
 use Rattle.rules.specs.declared.state.State.{State}
 use Rattle.exchange.specs.declared.Shares.{Shares}
 use Rattle.exchange.specs.Opening.{first_state, refusal_of, begun}
-use Rattle.exchange.specs.Jobs.{Lent, lent, job_refusal, job_of, DealtAt, right_bit}
+use Rattle.exchange.specs.Jobs.{Lent, lent, job_refusal, job_of, DealtAt}
 use Rattle.exchange.specs.Memory.{one_fresh, blank_work, blank_words, shares_of, fresh_lent, fresh_job}
 use Rattle.exchange.proofs.Right.{job_right}
 

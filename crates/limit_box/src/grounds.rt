@@ -143,7 +143,7 @@ pub fn tape_check(
 }
 
 // So is every job's.
-#[tactic(auto, using(rules::proofs::Sizes::most_jobs_lem, lists::proofs::Joined::within, lists::proofs::Every::every_fails))]
+#[tactic(auto, using(rules::proofs::Batches::count_most, lists::proofs::Joined::within, lists::proofs::Every::every_fails))]
 pub fn tapes_check(state: &State, tapes: &[u32]) -> Result<(), Refusal>
     requires width { listed state.now.n ≡ true }
     requires jobs { (count_fits state.now.batch.count ≡ true) × (state.now.batch.first + state.now.batch.count ≤ 4294967296) }
@@ -189,8 +189,8 @@ fn message_fits(n: Width, count: u32, turn: Turn, length: usize) -> bool
     ensures { result ≡ message_fits n.bits count turn length }
 {
     match turn {
-        Turn::Speak(round) => crate::joined::words_for(n, count, round) <= length,
-        Turn::Hear(round) => length == crate::joined::words_for(n, count, round),
+        Turn::Speak(round) => compare::words::words_for(n, count, round) <= length,
+        Turn::Hear(round) => length == compare::words::words_for(n, count, round),
     }
 }
 

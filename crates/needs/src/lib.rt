@@ -18,16 +18,16 @@ pub struct Needs {
 }
 
 // A round's words, times the count.
-#[tactic(auto, using(crate::proofs::Bounds::bounds, protocol::proofs::Lengths::words_most))]
+#[tactic(auto, using(rules::proofs::Sizes::bounds))]
 fn round_of(n: Width, count: u32, round: u32) -> u32
     requires { count ≤ most_jobs }
     ensures { result ≡ round_for n.bits count round }
 {
-    count * compare::words::words_of(n, round) as u32
+    compare::words::words_for(n, count, round) as u32
 }
 
 // The figures of so many jobs.
-#[tactic(auto, using(crate::proofs::Bounds::bounds))]
+#[tactic(auto, using(rules::proofs::Sizes::bounds))]
 fn figures(n: Width, count: u32) -> Needs
     requires { count ≤ most_jobs }
     ensures { figures_of result ≡ figures_for n.bits count }

@@ -219,7 +219,7 @@ fn compared(
     let mut o1 = exchange::rooms::blank_messages();
     let mut o2 = exchange::rooms::blank_messages();
     let n = Width { bits: s1.n };
-    let words = exchange::words_for(n, s1.batch.count, round);
+    let words = compare::words::words_for(n, s1.batch.count, round);
     exchange::both_speak(
         first, round, &mut *s1, &mut *s2, t1, t2, &*w1, &*w2, &mut o1, &mut o2,
     );

@@ -9,12 +9,11 @@ use lib.Dec.{leb}
 use lib.ListN.{length, get_or}
 use Rattle.lists.specs.Tabulate.{tabulate}
 use Rattle.lists.proofs.Tests.{and_left, and_right}
-use Rattle.field.specs.Width.{listed, modulus}
+use Rattle.field.specs.Width.{modulus}
 use Rattle.field.proofs.Widths.{bounds}
 use Rattle.protocol.specs.Sizes.{most_jobs, round_for}
 use Rattle.rules.specs.Batches.{each_job, party_of}
 use Rattle.rules.proofs.Ranges.{ranged}
-use Rattle.rules.specs.declared.state.State.{State}
 use Rattle.exchange.specs.Boxes.{works_of, answer1, answer2, answers1, answers2}
 use Rattle.exchange.specs.Jobs.{roomy}
 use Rattle.exchange.proofs.Exchanges.{own_below, others_below}
