@@ -3,7 +3,7 @@ use Rattle.std.proofs.Common.{◌≡◌, ℕ, ◌+◌, ◌*◌, ◌<◌, ◌≤�
 use mathlib.Core.Bool.{true≢false, false≢true}
 use borrow.Author.Tests.{ne_eqb}
 use Rattle.std.specs.Bool.{⊤}
-use Rattle.std.specs.Option.{is_some, option_and_then, unwrap_or}
+use Rattle.std.specs.Option.{is_some, option_and_then}
 use Rattle.std.specs.Result.{is_ok}
 use Rattle.std.proofs.lemmas.List.{get_or-take}
 use Rattle.lists.proofs.Tests.{and_left, and_right}
@@ -16,7 +16,7 @@ use Rattle.protocol.specs.Sizes.{count_fits, tape_for}
 use Rattle.rules.specs.Answers.{started, finished, heard_or_finished, reply_of}
 use Rattle.rules.specs.Batches.{x_in, y_in, tape_part, party_of}
 use Rattle.rules.specs.Calls.{Result as Called, outcome}
-use Rattle.rules.specs.Modes.{mode_of, is_asleep}
+use Rattle.rules.specs.Modes.{is_asleep}
 use Rattle.rules.specs.declared.state.State.{State}
 use Rattle.rules.specs.declared.state.Turn.{Turn}
 use Rattle.rules.specs.declared.state.Turn.TheVariants.{Speak}
