@@ -1,6 +1,6 @@
 -- Eight pairs of tapes dealt one after another, and each of them by itself.
 use Prim.Native.Nat.{ℕ, ◌+◌, ◌-◌, ◌*◌, ◌<◌, ◌≤◌}
-use mathlib.Core.Path.{◌≡◌, ap, sym, ◌∙◌}
+use mathlib.Core.Path.{◌≡◌, refl, ap, sym, ◌∙◌}
 use mathlib.Core.Bool.{true}
 use mathlib.Core.List.{List}
 use native.Mathlib.Numerals.{add-one}
@@ -26,14 +26,14 @@ use Rattle.bench.specs.Eight.{AllDealt}
 size_is : (at size : ℕ) → at + size - at ≡ size
 size_is at size = omega arith
 
-pub lent_part : (size : ℕ) (l : List ℕ) (i : ℕ) → take (i * size + size - i * size) (drop (i * size) l) ≡ part size l i
-lent_part size l i = ap (λ (k : ℕ). take k (drop (i * size) l)) (size_is (i * size) size)
+pub lent_part : (size words : ℕ) (l : List ℕ) (i : ℕ) → words ≡ size → take (i * words + words - i * words) (drop (i * words) l) ≡ part size l i
+lent_part size words l i same = rw same (ap (λ (k : ℕ). take k (drop (i * size) l)) (size_is (i * size) size))
 
 put_part : (size : ℕ) (l new : List ℕ) (i : ℕ) → i * size + size ≤ length l → length new ≡ size
     → put_mid (i * size) (i * size + size - i * size) l new ≡ sets l (i * size) new
 put_part size l new i room long =
     let k = i * size + size - i * size in
-    put_whole (i * size) k l new (long ∙ sym (ap length (lent_part size l i) ∙ length_part size l i room)) (omega (arith, size_is (i * size) size, long))
+    put_whole (i * size) k l new (long ∙ sym (ap length (lent_part size size l i refl) ∙ length_part size l i room)) (omega (arith, size_is (i * size) size, long))
 
 -- a box's tape number j
 abbrev own_tape : ℕ → ℕ → ℕ → List ℕ

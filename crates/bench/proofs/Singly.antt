@@ -7,12 +7,18 @@ use mathlib.Core.Logic.{⊎_elim}
 use native.Mathlib.Nat.{not-suc-le-zero, eq-or-lt_of_le}
 use native.Mathlib.Omega.{arith}
 use lib.ListN.{replicate}
+use Rattle.lists.specs.Joined.{part}
 use Rattle.lists.proofs.Tests.{and_left, and_right, and_both}
 use Rattle.rules.specs.Batches.{tape_part}
-use Rattle.bench.specs.Eight.{RightAlone, AllDealt, Next, marks}
+use Rattle.bench.specs.Eight.{Right, RightAlone, AllDealt, Next, marks}
 use Rattle.bench.proofs.Deals.{alone_dealt}
 
 module _ (n : ℕ) (shares1 shares2 t1 t2 : List ℕ) where
+  -- what is lent to comparison i are its parts
+  pub on_parts : {i : ℕ} {own1 own2 tape1 tape2 : List ℕ} → own1 ≡ part 2 shares1 i → own2 ≡ part 2 shares2 i → tape1 ≡ tape_part n t1 i
+      → tape2 ≡ tape_part n t2 i → Right n i 1 own1 own2 tape1 tape2 → RightAlone n shares1 shares2 t1 t2 i
+  on_parts {i} same1 same2 first1 first2 right = rw (same1, same2, first1, first2) at right
+
   pub record SoFar (i : ℕ) (right : Bool) (k1 k2 : List ℕ) : Type 0 where
     pub alone : right ≡ true → (j : ℕ) → j < i → RightAlone n shares1 shares2 t1 t2 j
     pub goes : AllDealt n 0 8 t1 t2 → (right ≡ true) × (k1 ≡ marks i) × (k2 ≡ marks i)
