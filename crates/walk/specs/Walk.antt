@@ -1,11 +1,12 @@
 -- What the walk reads off an answer and a state.
-use Rattle.std.specs.Prelude.{ℕ, cond, true, List, ◌++◌, eqb, replicate, take, ◌≡◌}
+use Rattle.std.specs.Prelude.{ℕ, cond, true, List, [], ◌∷◌, ◌++◌, eqb, replicate, take, ◌≡◌}
 use Rattle.lists.specs.Tabulate.{tabulate}
 use Rattle.tape.specs.Layout.{trailer}
 use Rattle.tape.specs.Plain.{plain_tape}
 use Rattle.protocol.specs.Rounds.{round_words}
 use Rattle.rules.specs.Answers.{reply_of}
-use Rattle.rules.specs.Calls.{Result, hear_rule}
+use Rattle.rules.specs.Batches.{no_batch, batch_of}
+use Rattle.rules.specs.Calls.{Result, start_rule, hear_rule}
 use Rattle.rules.specs.declared.state.Turn.{Turn}
 use Rattle.rules.specs.declared.state.Phase.TheVariants.{Idle, Job}
 use Rattle.rules.specs.declared.state.State.{State}
@@ -16,19 +17,23 @@ use Rattle.walk.specs.declared.progress.BoxMemory.{BoxMemory}
 
 -- box 1 awake, with a tally of that length
 abbrev pub idle_state : ℕ → State
-idle_state tally = record { n = 3; side = 1; pair = 5; tally = tally; phase = Idle }
+idle_state tally = record { n = 3; side = 1; pair = 5; tally = tally; phase = Idle; batch = no_batch }
 
 -- the same, with another length of tally
 abbrev pub with_tally : State → ℕ → State
-with_tally s tally = record { n = s.n; side = s.side; pair = s.pair; tally = tally; phase = s.phase }
+with_tally s tally = record { n = s.n; side = s.side; pair = s.pair; tally = tally; phase = s.phase; batch = s.batch }
 
 -- the same, of another side
 abbrev pub with_side : State → ℕ → State
-with_side s side = record { n = s.n; side = side; pair = s.pair; tally = s.tally; phase = s.phase }
+with_side s side = record { n = s.n; side = side; pair = s.pair; tally = s.tally; phase = s.phase; batch = s.batch }
 
 -- box 1 in a job on tape 0 with the shares 5 and 1
 abbrev pub job_state : ℕ → Turn → State
-job_state tally turn = record { n = 3; side = 1; pair = 5; tally = tally; phase = Job turn 0 5 1 }
+job_state tally turn = record { n = 3; side = 1; pair = 5; tally = tally; phase = Job turn; batch = batch_of 0 1 (5 ∷ 1 ∷ []) }
+
+-- a start of one job, with these shares
+abbrev pub one_start : State → ℕ → ℕ → ℕ → List ℕ → List ℕ → List ℕ → Result
+one_start s number x y tape work tally = start_rule s number 1 (x ∷ y ∷ []) tape work tally
 
 -- a box's plain tape of width 3 and pair 5
 abbrev pub box_tape : ℕ → ℕ → List ℕ

@@ -13,7 +13,7 @@ use crate::tallies::with_mark;
 use std::io;
 
 // What a wake or a drop leaves of the box: its tally is as it was.
-fn after(box1: Box1, tried: Tried) -> Box1
+pub fn after<const N: usize>(box1: Box1<N>, tried: Tried) -> Box1<N>
     ensures { (result.state ≡ tried.state) × (result.tally ≡ box1.tally) }
 {
     Box1 {
@@ -23,7 +23,7 @@ fn after(box1: Box1, tried: Tried) -> Box1
 }
 
 // A start on each of so many tapes.
-fn starts(rt: &impl Print, box1: Box1, tapes: u32) -> io::Result<()> {
+pub fn starts<const N: usize>(rt: &impl Print, box1: Box1<N>, tapes: u32) -> io::Result<()> {
     for number in 0..tapes {
         short(rt, box1.start_on(number))?;
     }
@@ -31,7 +31,7 @@ fn starts(rt: &impl Print, box1: Box1, tapes: u32) -> io::Result<()> {
 }
 
 // The box asleep: the five calls, then it wakes.
-fn asleep(rt: &impl Print, box1: Box1, round: u32) -> io::Result<()> {
+fn asleep(rt: &impl Print, box1: Box1<16>, round: u32) -> io::Result<()> {
     print!(rt; ":")?;
     box1.all(rt, round)?;
     let woken = calls::wake(box1.state, 3, 1, &box1.tally);
@@ -46,7 +46,7 @@ fn cut(rt: &impl Print, number: u32) -> io::Result<()> {
 }
 
 // Box 1 awake, but for what a cut in a start's write left of that tape's mark.
-fn with_left(number: usize, mark: [u8; 4]) -> Box1
+fn with_left(number: usize, mark: [u8; 4]) -> Box1<16>
     requires { number < 4 }
     ensures { result.tally ≡ cut_marked fresh_tally number (mark_of mark 0) }
 {

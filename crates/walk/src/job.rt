@@ -2,11 +2,12 @@
 ghost use Rattle.std.specs.Prelude.{◌≡◌, ◌+◌, ◌%◌, ◌≤◌};
 ghost use Rattle.protocol.specs.Rounds.{last_round};
 ghost use Rattle.rules.specs.Answers.{reply_of};
-ghost use Rattle.walk.specs.Said.{as_reply, share_in};
+ghost use Rattle.walk.specs.Said.{as_reply, shares_in};
 
 use crate::answers::{Answer, Said};
 use crate::progress::Pair;
 use crate::{job_steps, progress};
+use rules::state::MOST_JOBS;
 use std::io;
 
 // What one of the boxes answers at each step.
@@ -42,12 +43,12 @@ fn openings(rt: &impl Print, round: u32) -> io::Result<()>
     println!(rt)
 }
 
-// The answer share, if one was answered.
-fn share_in(answer: Answer) -> Option<u32>
-    ensures { result ≡ share_in (reply_of as_reply answer) }
+// The answer shares, if they were answered.
+fn shares_in(answer: Answer) -> Option<[u32; MOST_JOBS]>
+    ensures { result ≡ shares_in (reply_of as_reply answer) }
 {
     match answer {
-        Ok(Said::Share(share)) => Some(share),
+        Ok(Said::Finished(shares)) => Some(shares),
         _ => None,
     }
 }
@@ -59,8 +60,8 @@ pub fn lines(rt: &impl Print) -> io::Result<()> {
     openings(rt, 4)?;
     openings(rt, 5)?;
     let last = progress::reached(job_steps::LAST);
-    match (share_in(last.box1.answer), share_in(last.box2.answer)) {
-        (Some(share1), Some(share2)) => println!(rt; "less {}", opened(share1, share2)),
+    match (shares_in(last.box1.answer), shares_in(last.box2.answer)) {
+        (Some(shares1), Some(shares2)) => println!(rt; "less {}", opened(shares1[0], shares2[0])),
         _ => println!(rt; "NO answer share"),
     }
 }

@@ -11,6 +11,7 @@ mod five;
 mod hears;
 mod job;
 mod job_steps;
+mod memory;
 mod order;
 mod outside;
 mod progress;
