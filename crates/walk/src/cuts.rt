@@ -79,16 +79,20 @@ fn kinds(rt: &impl Print) -> io::Result<()> {
     Ok(())
 }
 
-// In a start on tape 2: the tapes below it are late, unless FF was left.
-fn cut_above(rt: &impl Print, mark: [u8; 4]) -> io::Result<()> {
-    let box1 = with_left(2, mark).cut();
-    print!(rt; "cut in the write of a start on tape 2, bytes")?;
-    bytes(rt, &mark)?;
+// The box wakes again, and a start is tried on each of so many tapes.
+pub fn awake_again<const N: usize>(rt: &impl Print, box1: Box1<N>, tapes: u32) -> io::Result<()> {
     print!(rt; ": wake")?;
     let woken = calls::wake(box1.state, 3, 1, &box1.tally);
     short(rt, woken)?;
     print!(rt; ", a start on each tape")?;
-    starts(rt, after(box1, woken), 4)
+    starts(rt, after(box1, woken), tapes)
+}
+
+// In a start on tape 2: the tapes below it are late, unless FF was left.
+fn cut_above(rt: &impl Print, mark: [u8; 4]) -> io::Result<()> {
+    print!(rt; "cut in the write of a start on tape 2, bytes")?;
+    bytes(rt, &mark)?;
+    awake_again(rt, with_left(2, mark).cut(), 4)
 }
 
 fn drop(rt: &impl Print, number: u32) -> io::Result<()> {

@@ -5,25 +5,24 @@ ghost use Rattle.rules.specs.Answers.{reply_of};
 ghost use Rattle.walk.specs.Said.{as_reply, shares_in};
 
 use crate::answers::{Answer, Said};
-use crate::progress::Pair;
 use crate::{job_steps, progress};
 use rules::state::MOST_JOBS;
 use std::io;
 
 // What one of the boxes answers at each step.
-fn answers<F: Fn(Pair) -> Answer>(rt: &impl Print, label: &str, last_of: F) -> io::Result<()>
-    requires { F.IsAlwaysCallable last_of }
+pub fn answers<F: Fn(u32) -> Answer>(rt: &impl Print, label: &str, after: F) -> io::Result<()>
+    requires { F.IsAlwaysCallable after }
 {
     print!(rt; "{label}:")?;
     for step in 0..=job_steps::LAST {
         print!(rt; " ")?;
-        crate::say::answer(rt, last_of(progress::reached(step)))?;
+        crate::say::answer(rt, after(step))?;
     }
     println!(rt)
 }
 
 // Two shares opened.
-fn opened(share1: u32, share2: u32) -> u32
+pub fn opened(share1: u32, share2: u32) -> u32
     ensures { result ≡ (share1 + share2) % 7 }
 {
     ((share1 as u64 + share2 as u64) % 7) as u32
@@ -44,7 +43,7 @@ fn openings(rt: &impl Print, round: u32) -> io::Result<()>
 }
 
 // The answer shares, if they were answered.
-fn shares_in(answer: Answer) -> Option<[u32; MOST_JOBS]>
+pub fn shares_in(answer: Answer) -> Option<[u32; MOST_JOBS]>
     ensures { result ≡ shares_in (reply_of as_reply answer) }
 {
     match answer {
@@ -55,8 +54,8 @@ fn shares_in(answer: Answer) -> Option<[u32; MOST_JOBS]>
 
 pub fn lines(rt: &impl Print) -> io::Result<()> {
     println!(rt; "a whole job, x 3 and y 4")?;
-    answers(rt, "box 1", |pair| pair.box1.answer)?;
-    answers(rt, "box 2", |pair| pair.box2.answer)?;
+    answers(rt, "box 1", |step| progress::reached(step).box1.answer)?;
+    answers(rt, "box 2", |step| progress::reached(step).box2.answer)?;
     openings(rt, 4)?;
     openings(rt, 5)?;
     let last = progress::reached(job_steps::LAST);

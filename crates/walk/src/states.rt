@@ -1,7 +1,7 @@
 // Box 1's states on the way to its first hear, and such a one of a box 2.
 ghost use Rattle.std.specs.Prelude.{◌≡◌};
 ghost use Rattle.lists.specs.Tabulate.{tabulate};
-ghost use Rattle.walk.specs.Walk.{idle_state, job_state, with_tally, with_side};
+ghost use Rattle.walk.specs.Walk.{idle_state, job_state, two_state, with_tally, with_side};
 ghost use Rattle.rules.specs.declared.state.Turn.TheVariants.{Speak, Hear};
 
 use crate::memory::BoxMemory;
@@ -71,6 +71,29 @@ pub fn in_job(turn: Turn, batch: Batch) -> State
     State {
         phase: Phase::Job(turn),
         batch,
+        ..idle()
+    }
+}
+
+// In a job of two on tapes 0 and 1.
+pub fn two(turn: Turn) -> State
+    ensures { result ≡ two_state turn }
+{
+    let batch = Batch {
+        first: 0,
+        count: 2,
+        x: [5, 6, 0, 0, 0, 0, 0, 0],
+        y: [1, 2, 0, 0, 0, 0, 0, 0],
+    };
+    in_job(turn, batch)
+}
+
+// Awake, with a tally of ten tapes.
+pub fn ten() -> State
+    ensures { result ≡ idle_state 40 }
+{
+    State {
+        tally: 40,
         ..idle()
     }
 }

@@ -74,3 +74,15 @@ pub fn long() -> [u32; 150]
 {
     of_word(0, 1)
 }
+
+// Plain tapes joined, one for each of these sides, on consecutive tape numbers.
+pub fn joined<const N: usize>(sides: &[u32], first: u32) -> [u32; N]
+    requires { (149 * length sides.now ≡ N) × (first + length sides.now ≤ 4294967296) }
+    ensures { (length result ≡ N) × (result ≡ joined_tapes sides.now first) }
+{
+    let mut tapes = [0u32; N];
+    for (i, &side) in sides.iter().enumerate() {
+        tapes[149 * i..149 * i + 149].copy_from_slice(&plain(side, first + i as u32));
+    }
+    tapes
+}
