@@ -1,3 +1,3 @@
 mod Chains
-mod Outcomes
 mod HandedOn
+mod Hearing

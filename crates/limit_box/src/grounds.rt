@@ -1,5 +1,5 @@
 // What a call's checks look at, one thing each.
-ghost use Rattle.std.specs.Prelude.{◌≡◌, true, false, not, [], ◌∷◌, ◌+◌, ◌*◌, ◌&&◌, ◌<◌, length};
+ghost use Rattle.std.specs.Prelude.{◌≡◌, true, false, not, [], ◌∷◌, ◌+◌, ◌*◌, ◌<◌, ◌≤◌, length};
 ghost use Rattle.refusals.specs.declared.Refusal.TheVariants.{Busy};
 ghost use Rattle.refusals.specs.Grounds.{◌when◌, earliest_of};
 ghost use Rattle.refusals.specs.Checks.{ground_of};
@@ -73,7 +73,8 @@ pub fn list_check(count: u32, shares: &[u32]) -> Result<(), Refusal>
 // Job i's tape has a mark, it is fresh, and so are those above it. Above a first number that passed this no tape is spent, so of the later ones only the
 // number is looked at, and the tally is read once.
 pub fn mark_check(first: u32, i: usize, tally: &[u8]) -> Result<(), Refusal>
-    requires { 0 < i → (is_fresh tally.now first ≡ true) × (late tally.now first ≡ false) }
+    requires job { i < most_jobs }
+    requires later { 0 < i → (is_fresh tally.now first ≡ true) × (late tally.now first ≡ false) }
     ensures { ground_of result ≡ earliest_of (mark_grounds (first + i) tally.now) }
 {
     let own = first as usize + i;

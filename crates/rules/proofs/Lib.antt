@@ -4,7 +4,9 @@ pub mod Chained
 pub mod Ranges
 pub mod Passed
 pub mod Spoken
+pub mod Later
 mod Refusals
 mod Moves
 pub mod Answering
 pub mod AsRead
+pub mod Sizes

@@ -2,6 +2,7 @@ pub mod Answers
 pub mod Batches
 pub mod Modes
 pub mod Grounds
+pub mod Later
 pub mod Calls
 pub mod AnyCall
 pub mod Moves
