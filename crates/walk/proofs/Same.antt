@@ -10,7 +10,7 @@ use Rattle.refusals.specs.declared.Refusal.{Refusal}
 use Rattle.walk.specs.declared.answers.Said.{Said}
 use Rattle.rules.specs.Answers.{reply_of}
 use Rattle.rules.specs.Calls.{Result}
-use Rattle.walk.specs.declared.progress.BoxMemory.{BoxMemory}
+use Rattle.walk.specs.declared.memory.BoxMemory.{BoxMemory}
 use Rattle.exchange.specs.Opening.{refusal_of}
 use Rattle.walk.specs.Said.{as_reply}
 use Rattle.walk.specs.Walk.{After}

@@ -1,6 +1,6 @@
 // Job by job: whatever is wrong with the first job comes before what is wrong with the second, and so on. 8 and 15 can only be the first job's. Work
 // comes last.
-ghost use Rattle.std.specs.Prelude.{◌≡◌, ◌≤◌, [], ◌∷◌, replicate, take};
+ghost use Rattle.std.specs.Prelude.{◌≡◌, ◌≤◌, ◌<◌, [], ◌∷◌, set, replicate, take};
 ghost use Rattle.lists.specs.Tabulate.{tabulate};
 ghost use Rattle.rules.specs.Calls.{start_rule};
 ghost use Rattle.walk.specs.Walk.{idle_state, joined_tapes, fresh_tally, Answered};

@@ -1,5 +1,10 @@
 // Three comparisons of both boxes on dealt tapes 1 to 3: together as one job, and one by one.
-ghost use Rattle.std.specs.Prelude.{◌≡◌, ◌+◌, ◌*◌, ◌<◌, ◌≤◌, take, drop};
+ghost use Rattle.std.specs.Prelude.{◌≡◌, true, ◌+◌, ◌<◌, ◌≤◌, length};
+ghost use Rattle.protocol.specs.Rounds.{last_round};
+ghost use Rattle.rules.specs.Answers.{reply_of};
+ghost use Rattle.walk.specs.Said.{as_reply, shares_in};
+ghost use Rattle.walk.specs.Courses.{asked_of};
+ghost use Rattle.walk.specs.Three.{dealt_tapes, three_of, Together, OneByOne, SameWords, SameShare};
 
 use crate::answers::Answer;
 use crate::job::{answers, opened, shares_in};
@@ -14,7 +19,9 @@ const SHARES1: [u32; 6] = [5, 1, 6, 2, 3, 4];
 const SHARES2: [u32; 6] = [5, 3, 5, 1, 2, 1];
 
 // Both boxes' tapes, each pair of the seed that is its number.
-fn dealt() -> ([u32; 447], [u32; 447]) {
+fn dealt() -> ([u32; 447], [u32; 447])
+    ensures { (result.0 ≡ dealt_tapes 1) × (result.1 ≡ dealt_tapes 2) }
+{
     let mut tapes1 = [0u32; 447];
     let mut tapes2 = [0u32; 447];
     for i in 0..3 {
@@ -28,7 +35,8 @@ fn dealt() -> ([u32; 447], [u32; 447]) {
 
 // So many of them from this one on, as a job.
 fn job<'a>(tapes1: &'a [u32], tapes2: &'a [u32], from: usize, count: usize) -> Job<'a>
-    requires { from + count ≤ 3 }
+    requires { (from + count ≤ 3) × (tapes1.now ≡ dealt_tapes 1) × (tapes2.now ≡ dealt_tapes 2) }
+    ensures { (result.count ≡ count) × (asked_of result ≡ three_of from count) }
 {
     let to = from + count;
     Job {
@@ -42,7 +50,9 @@ fn job<'a>(tapes1: &'a [u32], tapes2: &'a [u32], from: usize, count: usize) -> J
 }
 
 // Both boxes after so many steps of the three together.
-pub fn together(steps: u32) -> Pair {
+pub fn together(steps: u32) -> Pair
+    ensures { Together steps result }
+{
     let (tapes1, tapes2) = dealt();
     let mut pair = Pair::woken();
     pair.walk(job(&tapes1, &tapes2, 0, 3), steps);
@@ -52,6 +62,7 @@ pub fn together(steps: u32) -> Pair {
 // And one by one: after so many of them, and so many steps of the next.
 fn one_by_one(done: usize, steps: u32) -> Pair
     requires { done < 3 }
+    ensures { OneByOne done steps result }
 {
     let (tapes1, tapes2) = dealt();
     let mut pair = Pair::woken();
@@ -65,6 +76,7 @@ fn one_by_one(done: usize, steps: u32) -> Pair
 // Whether part i of both boxes' messages of a round is what they say in that job alone.
 fn same_words(joined: Pair, alone: Pair, round: u32, i: usize) -> bool
     requires { i < 3 }
+    ensures { (result ≡ true → SameWords round i joined alone) × (SameWords round i joined alone → result ≡ true) }
 {
     let words = crate::five::words(round);
     let from = i * words;
@@ -75,7 +87,9 @@ fn same_words(joined: Pair, alone: Pair, round: u32, i: usize) -> bool
 
 // Whether answer share i is the one of the job alone.
 fn same_share(joined: Answer, alone: Answer, i: usize) -> bool
-    requires { i < 3 }
+    requires { i < 8 }
+    ensures { (result ≡ true → SameShare i (shares_in (reply_of as_reply joined)) (shares_in (reply_of as_reply alone)))
+        × (SameShare i (shares_in (reply_of as_reply joined)) (shares_in (reply_of as_reply alone)) → result ≡ true) }
 {
     match (shares_in(joined), shares_in(alone)) {
         (Some(all), Some(one)) => all[i] == one[0],

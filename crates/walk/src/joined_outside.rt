@@ -1,5 +1,6 @@
 // A state of a job of two outside the ranges counts as asleep in every call, as one of a single job does.
-ghost use Rattle.std.specs.Prelude.{◌≡◌, [], ◌∷◌};
+ghost use Rattle.std.specs.Prelude.{◌≡◌, ◌≤◌, [], ◌∷◌, replicate};
+ghost use Rattle.rules.specs.Batches.{x_in, y_in};
 ghost use Rattle.rules.specs.declared.state.Phase.TheVariants.{Job};
 ghost use Rattle.rules.specs.declared.state.Turn.TheVariants.{Speak};
 

@@ -3,7 +3,9 @@ ghost use Rattle.std.specs.Prelude.{◌≡◌, true, ◌<◌, ◌≤◌, [], ◌
 ghost use Rattle.lists.specs.Tabulate.{tabulate};
 ghost use Rattle.rules.specs.Calls.{speak_rule, hear_rule};
 ghost use Rattle.rules.specs.declared.state.Turn.TheVariants.{Speak, Hear};
-ghost use Rattle.walk.specs.Walk.{two_state, joined_tapes, filler, Answered};
+ghost use Rattle.rules.specs.Answers.{reply_of};
+ghost use Rattle.walk.specs.Said.{as_reply};
+ghost use Rattle.walk.specs.Walk.{two_state, joined_tapes, filler, roomy_speak, roomy_hear, Answered};
 
 use crate::answers::Answer;
 use crate::calls::{FILLER, Tried, hear, speak, untouched};
@@ -155,8 +157,8 @@ fn past(rt: &impl Print, label: &str, said: Answer, kept: bool) -> io::Result<()
 
 // Out has 99 words.
 fn spoken_past() -> (Answer, bool)
-    ensures { (result.1 ≡ true → drop 66 (speak_rule (two_state (Speak 1)) 0 1 (joined_tapes (1 ∷ 1 ∷ []) 0) (tabulate 200 (λ k. 0)) (filler 99)).buffer ≡ filler 33)
-        × (drop 66 (speak_rule (two_state (Speak 1)) 0 1 (joined_tapes (1 ∷ 1 ∷ []) 0) (tabulate 200 (λ k. 0)) (filler 99)).buffer ≡ filler 33 → result.1 ≡ true) }
+    ensures reply { reply_of as_reply result.0 ≡ roomy_speak.reply }
+    ensures kept { (result.1 ≡ true → drop 66 roomy_speak.buffer ≡ filler 33) × (drop 66 roomy_speak.buffer ≡ filler 33 → result.1 ≡ true) }
 {
     let mut out = [FILLER; 99];
     let tried = speak(
@@ -172,8 +174,8 @@ fn spoken_past() -> (Answer, bool)
 
 // Work has 300.
 fn heard_past() -> (Answer, bool)
-    ensures { (result.1 ≡ true → drop 200 (hear_rule (two_state (Hear 1)) 0 1 (joined_tapes (1 ∷ 1 ∷ []) 0) (filler 300) (tabulate 66 (λ k. 0))).buffer ≡ filler 100)
-        × (drop 200 (hear_rule (two_state (Hear 1)) 0 1 (joined_tapes (1 ∷ 1 ∷ []) 0) (filler 300) (tabulate 66 (λ k. 0))).buffer ≡ filler 100 → result.1 ≡ true) }
+    ensures reply { reply_of as_reply result.0 ≡ roomy_hear.reply }
+    ensures kept { (result.1 ≡ true → drop 200 roomy_hear.buffer ≡ filler 100) × (drop 200 roomy_hear.buffer ≡ filler 100 → result.1 ≡ true) }
 {
     let mut work = [FILLER; 300];
     let tried = hear(

@@ -1,9 +1,5 @@
 // What a box keeps along its jobs, and the buffers that it is lent. The room is three comparisons': a smaller job uses the first words of it.
-ghost use Rattle.std.specs.Prelude.{◌≡◌};
-ghost use Rattle.lists.specs.Tabulate.{tabulate};
-ghost use Rattle.rules.specs.Calls.{wake_rule, start_rule, speak_rule, hear_rule};
-ghost use Rattle.exchange.specs.Opening.{first_state};
-ghost use Rattle.walk.specs.Walk.{fresh_tally, After};
+ghost use Rattle.walk.specs.Courses.{Woke, Started, Spoke, Heard};
 
 use crate::answers::Answer;
 use crate::{answers, tallies, tapes};
@@ -23,7 +19,7 @@ pub struct BoxMemory {
 impl BoxMemory {
     // A box that has woken. The words in its buffers are of no account.
     pub fn woken(side: u32) -> BoxMemory
-        ensures { After result result.tally (wake_rule first_state 3 side 5 fresh_tally) × (result.work ≡ tabulate 300 (λ k. 6)) × (result.out ≡ tabulate 99 (λ k. 6)) }
+        ensures { Woke side result }
     {
         let tally = tallies::FRESH;
         let mut state = state::FIRST;
@@ -38,8 +34,7 @@ impl BoxMemory {
     }
 
     pub fn start(&mut self, first: u32, count: u32, shares: &[u32], tapes: &[u32])
-        ensures { After self.new self.new.tally (start_rule self.old.state first count shares.now tapes.now self.old.work self.old.tally)
-            × (self.new.work ≡ self.old.work) × (self.new.out ≡ self.old.out) }
+        ensures { Started first count shares.now tapes.now self.old self.new }
     {
         let answer = limit_box::start(
             &mut self.state,
@@ -54,8 +49,7 @@ impl BoxMemory {
     }
 
     pub fn speak(&mut self, first: u32, round: u32, tapes: &[u32])
-        ensures { After self.new self.new.out (speak_rule self.old.state first round tapes.now self.old.work self.old.out)
-            × (self.new.tally ≡ self.old.tally) × (self.new.work ≡ self.old.work) }
+        ensures { Spoke first round tapes.now self.old self.new }
     {
         let answer = limit_box::speak(
             &mut self.state,
@@ -69,8 +63,7 @@ impl BoxMemory {
     }
 
     pub fn hear(&mut self, first: u32, round: u32, tapes: &[u32], incoming: &[u32])
-        ensures { After self.new self.new.work (hear_rule self.old.state first round tapes.now self.old.work incoming.now)
-            × (self.new.tally ≡ self.old.tally) × (self.new.out ≡ self.old.out) }
+        ensures { Heard first round tapes.now incoming.now self.old self.new }
     {
         let answer = limit_box::hear(
             &mut self.state,

@@ -1,10 +1,9 @@
 // Both boxes step by step through a job.
-ghost use Rattle.std.specs.Prelude.{◌≡◌, ◌≤◌, ◌*◌, [], ◌∷◌, take};
+ghost use Rattle.std.specs.Prelude.{◌≡◌, ◌≤◌};
 ghost use Rattle.protocol.specs.Sizes.{round_for};
-ghost use Rattle.rules.specs.Calls.{wake_rule, start_rule, speak_rule, hear_rule};
-ghost use Rattle.exchange.specs.Opening.{first_state};
-ghost use Rattle.walk.specs.Walk.{box_tape, tally_after, After};
-ghost use Rattle.walk.specs.declared.job_steps.Step.TheVariants.{Start};
+ghost use Rattle.walk.specs.Walk.{tally_after};
+ghost use Rattle.walk.specs.Courses.{asked_of, plain_job, Woken, Stepped, Course, CourseFrom};
+ghost use Rattle.walk.specs.declared.job_steps.Step.TheVariants.{Start, Speak, Hear};
 
 use crate::five::Box1;
 use crate::job_steps::Step;
@@ -25,7 +24,7 @@ pub struct Job<'a> {
 impl<'a> Job<'a> {
     // The words of its messages.
     pub fn words(self, round: u32) -> usize
-        requires { self.entry.count ≤ 3 }
+        requires { self.count ≤ 3 }
         ensures { (result ≤ 99) × (result ≡ round_for 3 self.entry.count round) }
     {
         self.count as usize * crate::five::words(round)
@@ -40,27 +39,36 @@ pub struct Pair {
 
 impl Pair {
     // Both boxes have woken.
-    pub fn woken() -> Pair {
+    pub fn woken() -> Pair
+        ensures { Woken result }
+    {
         Pair {
             box1: BoxMemory::woken(1),
             box2: BoxMemory::woken(2),
         }
     }
 
-    fn start(&mut self, job: Job<'_>) {
+    fn start(&mut self, job: Job<'_>)
+        ensures { Stepped (asked_of job.entry) Start self.old self.new }
+    {
         let Job { first, count, .. } = job;
         self.box1.start(first, count, job.shares1, job.tapes1);
         self.box2.start(first, count, job.shares2, job.tapes2);
     }
 
-    fn speak(&mut self, job: Job<'_>, round: u32) {
+    fn speak(&mut self, job: Job<'_>, round: u32)
+        ensures { Stepped (asked_of job.entry) (Speak round) self.old self.new }
+    {
         self.box1.speak(job.first, round, job.tapes1);
         self.box2.speak(job.first, round, job.tapes2);
     }
 
     // The messages are the first words of the boxes' outs: without a heap the room is of one size. A hear leaves out as it was, so box 2 hears what box 1
     // spoke.
-    fn hear(&mut self, job: Job<'_>, round: u32) {
+    fn hear(&mut self, job: Job<'_>, round: u32)
+        requires { job.count ≤ 3 }
+        ensures { Stepped (asked_of job.entry) (Hear round) self.old self.new }
+    {
         let words = job.words(round);
         let to1 = &self.box2.out[..words];
         self.box1.hear(job.first, round, job.tapes1, to1);
@@ -68,7 +76,10 @@ impl Pair {
         self.box2.hear(job.first, round, job.tapes2, to2);
     }
 
-    fn step(&mut self, job: Job<'_>, step: Step) {
+    fn step(&mut self, job: Job<'_>, step: Step)
+        requires { job.count ≤ 3 }
+        ensures { Stepped (asked_of job.entry) step self.old self.new }
+    {
         match step {
             // a box is awake from the first on
             Step::Wake => {}
@@ -79,7 +90,11 @@ impl Pair {
     }
 
     // So many steps of a job, of which the wake is done.
-    pub fn walk(&mut self, job: Job<'_>, steps: u32) {
+    #[tactic(auto, using(crate::specs::Courses::none, crate::specs::Courses::next))]
+    pub fn walk(&mut self, job: Job<'_>, steps: u32)
+        requires { job.count ≤ 3 }
+        ensures { Course (asked_of job.entry) self.old steps self.new }
+    {
         for earlier in 0..steps {
             self.step(job, Step::at(earlier + 1));
         }
@@ -87,8 +102,10 @@ impl Pair {
 }
 
 // Both boxes after so many steps of a job on tape 0; after wake at 0.
+#[tactic(auto, using(crate::proofs::Reached::tally_is))]
 pub fn reached(steps: u32) -> Pair
-    ensures { result.box1.tally ≡ tally_after steps }
+    ensures tally { result.box1.tally ≡ tally_after steps }
+    ensures course { CourseFrom Woken plain_job steps result }
 {
     let job = Job {
         first: 0,

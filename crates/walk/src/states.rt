@@ -3,6 +3,7 @@ ghost use Rattle.std.specs.Prelude.{◌≡◌};
 ghost use Rattle.lists.specs.Tabulate.{tabulate};
 ghost use Rattle.walk.specs.Walk.{idle_state, job_state, two_state, with_tally, with_side};
 ghost use Rattle.rules.specs.declared.state.Turn.TheVariants.{Speak, Hear};
+ghost use Rattle.rules.specs.declared.state.Phase.TheVariants.{Job};
 
 use crate::memory::BoxMemory;
 use crate::tapes;

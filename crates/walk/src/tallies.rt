@@ -1,7 +1,7 @@
 // Tallies of four tapes, and of ten: tape j has bytes 4j to 4j + 3.
-ghost use Rattle.std.specs.Prelude.{◌≡◌, ◌<◌, set};
-ghost use Rattle.tally.specs.Tally.{mark_of, cut_marked};
-ghost use Rattle.walk.specs.Walk.{fresh_tally, spent_tally};
+ghost use Rattle.std.specs.Prelude.{◌≡◌, ◌<◌, ◌≤◌, ◌+◌, ◌*◌, set};
+ghost use Rattle.tally.specs.Tally.{mark_of, cut_marked, cut_marks};
+ghost use Rattle.walk.specs.Walk.{fresh_tally, ten_fresh, spent_tally};
 
 // All four are fresh.
 pub const FRESH: [u8; 16] = [255; 16];

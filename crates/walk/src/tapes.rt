@@ -1,8 +1,8 @@
 // The plain tapes of width 3, the tapes of threes, and such as are no tapes.
-ghost use Rattle.std.specs.Prelude.{◌≡◌, ◌<◌, ◌≤◌, ◌-◌, length, replicate, set, ◌++◌};
+ghost use Rattle.std.specs.Prelude.{◌≡◌, ◌<◌, ◌≤◌, ◌-◌, ◌+◌, ◌*◌, length, replicate, set, ◌++◌};
 ghost use Rattle.lists.specs.Tabulate.{tabulate};
 ghost use Rattle.tape.specs.Layout.{trailer};
-ghost use Rattle.walk.specs.Walk.{box_tape, threes_tape};
+ghost use Rattle.walk.specs.Walk.{box_tape, joined_tapes, threes_tape};
 
 use field::Width;
 use tape::Label;
