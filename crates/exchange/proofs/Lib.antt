@@ -1,11 +1,10 @@
-mod Turned
 mod Told
+mod Sums
 pub mod Ready
 pub mod Delivery
 pub mod Course
 pub mod Exchanges
 pub mod Begun
 pub mod Right
-mod Jobs
+mod Endings
 pub mod Fresh
-pub mod Cut

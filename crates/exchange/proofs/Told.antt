@@ -1,9 +1,9 @@
--- A hear whose reply is an answer share answered that share.
-use Rattle.std.proofs.Common.{◌≡◌, ℕ, refl, Option, Some, None, Result, Ok, Err}
+-- A hear whose reply are the answer shares answered those.
+use Rattle.std.proofs.Common.{◌≡◌, ℕ, refl, List, Option, Some, None, Result, Ok, Err}
 use Rattle.refusals.specs.declared.Refusal.{Refusal}
-use Rattle.rules.specs.Answers.{share, heard_or_share, reply_of}
+use Rattle.rules.specs.Answers.{finished, heard_or_finished, reply_of}
 
-pub told_share : (r : Result (Option ℕ) Refusal) (word : ℕ) → reply_of heard_or_share r ≡ share word → r ≡ Ok (Some word)
-told_share (Ok (Some own)) word told = let same : own ≡ word = cc in rw same refl
-told_share (Ok None) word told = absurd (cc)
-told_share (Err refusal) word told = absurd (cc)
+pub told_shares : (r : Result (Option (List ℕ)) Refusal) (words : List ℕ) → reply_of heard_or_finished r ≡ finished words → r ≡ Ok (Some words)
+told_shares (Ok (Some own)) words told = let same : own ≡ words = cc in rw same refl
+told_shares (Ok None) words told = absurd (cc)
+told_shares (Err refusal) words told = absurd (cc)

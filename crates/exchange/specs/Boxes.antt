@@ -15,7 +15,7 @@ pub record Ready (s : State) (first : ℕ) (turn : Turn) (tapes work : List ℕ)
   pub job : s.phase ≡ Job turn
   pub first_is : first ≡ s.batch.first
   pub long : length tapes ≡ tape_for s.n s.batch.count
-  pub ordered : (i : ℕ) → i < s.batch.count → tape_ordered s first tapes i ≡ true
+  pub ordered : (i : ℕ) → i < s.batch.count → tape_ordered s s.batch.first tapes i ≡ true
   pub room : work_for s.n s.batch.count ≤ length work
 
 -- both works

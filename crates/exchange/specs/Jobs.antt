@@ -1,8 +1,10 @@
 -- A whole job of both boxes: box 1 comes to it and then box 2, and where neither is refused they exchange all rounds.
-use Rattle.std.specs.Prelude.{ℕ, ◌+◌, ◌%◌, Bool, ◌&&◌, cond, List, eqb, leb, length, replicate, Ok, Err, Result as Answer}
+use Rattle.std.specs.Prelude.{ℕ, ◌+◌, ◌%◌, Bool, ◌&&◌, cond, List, eqb, leb, ltb, length, replicate, Ok, Err, Result as Answer}
 use Rattle.field.specs.Width.{modulus}
+use Rattle.tape.specs.Dealt.{Dealt}
+use Rattle.encoding.specs.Matching.{indicator}
 use Rattle.protocol.specs.Sizes.{most_jobs, round_for}
-use Rattle.rules.specs.Batches.{each_job}
+use Rattle.rules.specs.Batches.{each_job, x_in, y_in, tape_part}
 use Rattle.rules.specs.Calls.{Result}
 use Rattle.rules.specs.declared.state.State.{State}
 use Rattle.refusals.specs.Checks.{ground_of}
@@ -74,3 +76,14 @@ job_of n pair first count box1 box2 =
       tally1 = begun1.buffer;
       tally2 = cond (eqb (refusal_of begun1.reply) 0) begun2.buffer box2.tally;
     }
+
+-- ---- what is right
+
+-- comparison i has a pair of tapes dealt by the rules
+abbrev pub DealtAt : ℕ → ℕ → ℕ → List ℕ → List ℕ → ℕ → Type 0
+DealtAt n pair first t1 t2 i = Dealt n pair (first + i) (tape_part n t1 i) (tape_part n t2 i)
+
+-- 1 if its x < y, and 0 otherwise, where x and y are what the two boxes' shares add up to
+abbrev pub right_bit : ℕ → List ℕ → List ℕ → ℕ → ℕ
+right_bit n shares1 shares2 i =
+    indicator (ltb ((x_in shares1 i + x_in shares2 i) % modulus n) ((y_in shares1 i + y_in shares2 i) % modulus n))

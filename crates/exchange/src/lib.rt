@@ -1,24 +1,22 @@
-// Both boxes of a job in one memory, through the five calls: the opening, one round, the whole exchange, and the answers that it opens. A job is what one
-// start takes: 1 to 8 comparisons on consecutive tapes.
+// Both boxes of a job in one memory, through the five calls: the opening, one round, the whole exchange, and the answers that it opens. A job is
+// what one start takes: 1 to 8 comparisons on consecutive tapes.
 #![tactic(auto)]
 
-ghost use Rattle.std.specs.Prelude.{ℕ, ◌≡◌, cond, ◌+◌, ◌%◌, ◌<◌, ◌≤◌, ltb, length, get_or, IfOk, IsOkAnd, IsSome};
+ghost use Rattle.std.specs.Prelude.{ℕ, ◌≡◌, cond, ◌+◌, ◌%◌, ◌<◌, ◌≤◌, length, get_or, IfOk, IsOkAnd, IsSome};
 ghost use Rattle.std.proofs.lemmas.List.Edits.{sets};
 ghost use Rattle.lists.specs.Tabulate.{tabulate};
 ghost use Rattle.field.specs.Width.{modulus};
-ghost use Rattle.tape.specs.Dealt.{Dealt};
-ghost use Rattle.encoding.specs.Matching.{indicator};
 ghost use Rattle.protocol.specs.Sizes.{most_jobs, round_for};
 ghost use Rattle.refusals.specs.Checks.{ground_of};
 ghost use Rattle.rules.specs.Answers.{started, heard_or_finished, reply_of};
 ghost use Rattle.rules.specs.Modes.{in_phase};
-ghost use Rattle.rules.specs.Batches.{x_in, y_in, tape_part, joined_message};
+ghost use Rattle.rules.specs.Batches.{joined_message};
 ghost use Rattle.rules.specs.Calls.{outcome, heard_after, hear_rule};
 ghost use Rattle.rules.specs.declared.state.Turn.TheVariants.{Speak, Hear};
 ghost use Rattle.rules.specs.declared.state.Phase.TheVariants.{Job as InJob};
 ghost use Rattle.exchange.specs.Opening.{begun};
 ghost use Rattle.exchange.specs.Boxes.{Ready, answers1, answers2};
-ghost use Rattle.exchange.specs.Jobs.{lent, roomy, opened_bits, bits_of, no_bits, ended, job_of};
+ghost use Rattle.exchange.specs.Jobs.{lent, roomy, opened_bits, no_bits, bits_of, ended, job_of, DealtAt, right_bit};
 
 use compare::words::LAST_ROUND;
 use field::Width;
@@ -85,8 +83,8 @@ pub fn begin(
     limit_box::start(state, first, count, shares, tapes, work, tally)
 }
 
-// Here and below both boxes' states and buffers go side by side: a round writes some of them and reads others, and each clause is of one box, so a struct
-// of what a box is lent would be no plainer.
+// Here and below both boxes' states and buffers go side by side: a round writes some of them and reads others, and each clause is of one box, so a
+// struct of what a box is lent would be no plainer.
 // Both boxes speak, and have the hear due then. The words of each stand at the front of its out.
 pub fn both_speak(
     first: u32,
@@ -135,6 +133,7 @@ pub fn both_hear(
 }
 
 // How many words so many jobs send in a round.
+#[tactic(auto, using(protocol::proofs::Lengths::words_most))]
 fn words_for(n: Width, count: u32, round: u32) -> usize
     ensures { result ≡ round_for n.bits count round }
 {
@@ -227,7 +226,7 @@ fn answers(
     (shares_in(heard1), shares_in(heard2))
 }
 
-// A whole job: the opened answers in the order of the comparisons, 0 past the count, or the first refusal. On a pair of tapes dealt by the rules the answer
+// A whole job: the opened bits in the order of the comparisons, 0 past the count, or the first refusal. On a pair of tapes dealt by the rules a bit
 // is 1 if x < y, and 0 otherwise.
 pub fn less(
     jobs: Jobs<'_>,
@@ -245,10 +244,8 @@ pub fn less(
         (lent jobs.entry.box1.now t1.now w1.old k1.old o1.old)
         (lent jobs.entry.box2.now t2.now w2.old k2.old o2.old) }
     ensures right { IfOk result (λ bits. (i : ℕ) → i < jobs.entry.count
-        → Dealt jobs.entry.n jobs.entry.pair (jobs.entry.first + i) (tape_part jobs.entry.n t1.now i) (tape_part jobs.entry.n t2.now i)
-        → get_or bits i 0 ≡ indicator (ltb
-        ((x_in jobs.entry.box1.now i + x_in jobs.entry.box2.now i) % modulus jobs.entry.n)
-        ((y_in jobs.entry.box1.now i + y_in jobs.entry.box2.now i) % modulus jobs.entry.n))) }
+        → DealtAt jobs.entry.n jobs.entry.pair jobs.entry.first t1.now t2.now i
+        → get_or bits i 0 ≡ right_bit jobs.entry.n jobs.entry.box1.now jobs.entry.box2.now i) }
 {
     let Jobs {
         n,
@@ -275,7 +272,10 @@ fn has_room(n: Width, count: u32, o1: &[u32], o2: &[u32]) -> bool
 }
 
 // The sums of the two boxes' answer shares.
-fn added(n: Width, shares1: &[u32; MOST_JOBS], shares2: &[u32; MOST_JOBS]) -> [u32; MOST_JOBS] {
+fn added(n: Width, shares1: [u32; MOST_JOBS], shares2: [u32; MOST_JOBS]) -> [u32; MOST_JOBS]
+    requires { (i : ℕ) → (get_or shares1 i 0 < modulus n.bits) × (get_or shares2 i 0 < modulus n.bits) }
+    ensures { result ≡ tabulate most_jobs (λ i. (get_or shares1 i 0 + get_or shares2 i 0) % modulus n.bits) }
+{
     std::array::from_fn(|i| n.add(shares1[i], shares2[i]))
 }
 
@@ -304,5 +304,5 @@ fn opened(
         return Err(Refusal::Room);
     }
     let (shares1, shares2) = answers(first, s1, s2, t1, t2, w1, w2, o1, o2);
-    Ok(added(n, &shares1, &shares2))
+    Ok(added(n, shares1, shares2))
 }

@@ -1,5 +1,5 @@
-// Memory for jobs of one comparison at any width: room for the longest tape, work and message, and a job with buffers of its own. There is no heap, so a job
-// of a narrower width uses the first words of each.
+// Memory for jobs of one comparison at any width: room for the longest tape, work and message, and a job with buffers of its own. There is no heap,
+// so a job of a narrower width uses the first words of each.
 ghost use Rattle.std.specs.Prelude.{◌≡◌, true, ◌+◌, ◌%◌, ◌<◌, ◌&&◌, eqb, ltb, length, take};
 ghost use Rattle.field.specs.Width.{modulus};
 ghost use Rattle.tape.specs.Layout.{tape_length};

@@ -1,153 +1,102 @@
--- Demand 2 over lists, from what one run follows and the exchange's own theorem.
+-- Demand 2 over lists, from what one run follows and the exchange's own theorem, in each of the jobs that a start took.
 use Prim.Native.Nat.{ℕ, suc, ◌+◌, ◌%◌, ◌<◌}
 use mathlib.Core.Path.{◌≡◌, refl, sym, ap, subst, ◌∙◌}
-use mathlib.Core.Bool.{Bool, true, false, ◌&&◌, cond}
+use mathlib.Core.Bool.{true}
 use mathlib.Core.List.{List, [], ◌∷◌}
 use native.Mathlib.Nat.{le_of_eq, mod-eq_of_lt}
 use native.Mathlib.Omega.{arith}
-use borrow.Author.Tests.{eqb-true, eq-eqb, ltb-true, lt-ltb}
-use lib.Dec.{eqb, ltb}
-use lib.ListN.{length, length-append, length-replicate}
-use Rattle.lists.proofs.Tests.{and_left, and_right}
+use lib.Dec.{ltb}
+use lib.ListN.{length, length-replicate, get_or}
 use Rattle.field.specs.Width.{listed, modulus}
 use Rattle.field.specs.Congruence.{Cong}
 use Rattle.field.proofs.Widths.{bounds}
 use Rattle.shares.specs.Side.{other}
 use Rattle.tape.specs.Dealt.{Matched}
 use Rattle.protocol.specs.Work.{work_length}
+use Rattle.protocol.specs.Sizes.{count_fits}
 use Rattle.protocol.proofs.Halves.{indicator_bit}
 use Rattle.protocol.proofs.Right.{right}
-use Rattle.rules.specs.Answers.{started, spoke, share}
+use Rattle.rules.specs.Answers.{started, spoke, finished}
+use Rattle.rules.specs.Batches.{x_in, y_in}
+use Rattle.rules.proofs.Batches.{each_at}
 use Rattle.guarantees.specs.Boxes.{Box, box1, box2, side_of}
-use Rattle.guarantees.specs.Keys.{Key, key_at}
+use Rattle.guarantees.specs.Keys.{Key}
 use Rattle.guarantees.specs.Entries.{Step, wake, start, speak, hear, drop, cut, cut_start, Entry}
-use Rattle.guarantees.specs.Run.{Lending, Setting, Said, replied, Event, World, memory_of, event_at, stepped, run}
+use Rattle.guarantees.specs.Run.{Lending, Setting, Said, replied, Event, World, event_at, stepped, run}
 use Rattle.guarantees.specs.Premises.{AtFirst, AllDealt, Meets}
-use Rattle.guarantees.specs.Maps.{same_box, opens, opens_job, opened_at}
+use Rattle.guarantees.specs.Maps.{taken_at}
 use Rattle.guarantees.specs.Outcomes.{kind_of, is_opening}
-use Rattle.guarantees.proofs.Outcomes.{opening_of, share_is}
+use Rattle.guarantees.proofs.Outcomes.{opening_of, shares_are}
 use Rattle.guarantees.specs.Correctness.{Happened, Begun, Exchanged, bit_for, Right, Correctness}
-use Rattle.guarantees.specs.Jobs.{blank, sent_by, answer_by}
-use Rattle.guarantees.proofs.Openings.{same_box_lem, same_self, one_more, next_place, run_grows}
-use Rattle.guarantees.proofs.Once.{Marked, marked_next, Once, once_next, found}
+use Rattle.guarantees.specs.Jobs.{blank, sent_by, answer_in, answers_by}
+use Rattle.guarantees.proofs.Openings.{opening, takes_lem, one_more, next_place}
+use Rattle.guarantees.proofs.Once.{taken_there, Marked, marked_next, Once, once_run, SomeEach, some_run}
+use Rattle.guarantees.proofs.Books.{Took, start_at, start_took}
 use Rattle.guarantees.proofs.Jobs.{InOrder}
-use Rattle.guarantees.proofs.First.{invariant_first, marked_first, once_first}
+use Rattle.guarantees.proofs.First.{invariant_first, marked_first, once_first, some_first}
 use Rattle.guarantees.proofs.Invariant.{Uttered, Answered, Conforms, Invariant, Booked, invariant_next}
 
--- ---- the shares that opened each job; out of range where none was opened
-
-abbrev book_at : (Box → ℕ → Lending) → ℕ → ℕ → Box → ℕ → Lending
-book_at shares long n c place = cond (ltb place long) (shares c place) (record { x = modulus n; y = modulus n })
+-- ---- the shares that opened each job, as they were lent
 
 abbrev book : (Box → ℕ → Lending) → List Event → Box → Key → Lending
-book shares log c key = book_at shares (length log) key.width c (opened_at log c key)
+book shares log c key = shares c (taken_at log c key.first)
 
 module _ (g : Setting) (pair : ℕ) (orders : InOrder g pair) (log : List Event) where
   booked : (es : List Entry) (place : ℕ) (w : World) (c : Box) (step : Step) → Marked w → length w.log ≡ place
-      → (run g (suc place) (stepped g place w c step) es).log ≡ log → Booked g (book g.shares log) place w c step
+      → (run g (suc place) (stepped g place w c step) es).log ≡ log → Booked g (book g.shares log) (Took log) place w c step
   booked es place w c (wake n side p) marked at end = tt
-  booked es place w c (start number lent) marked at end =
-      λ cause.
-      let key = key_at (memory_of w c).state number in
-      let grown = run_grows g (suc place) (stepped g place w c (start number lent)) es in
-      let long : length log ≡ suc (length w.log) + length grown.more =
-      ap length (sym end ∙ grown.is) ∙ length-append (stepped g place w c (start number lent)).log grown.more
-      ∙ ap (λ (k : ℕ). k + length grown.more) (next_place g place w c (start number lent)) in
-      let here : opened_at log c key ≡ place =
-      ap (λ (l : List Event). opened_at l c key) (sym end) ∙ found g place w c number lent es marked cause ∙ at in
-      ap (book_at g.shares (length log) key.width c) here ∙ rw (lt-ltb place (length log) (omega (arith, long, at))) refl
-  booked es place w c (speak number round lent out) marked at end = tt
-  booked es place w c (hear number round lent incoming) marked at end = tt
+  booked es place w c (start first count lent) marked at end =
+      λ cause. (
+        ap (g.shares c) (start_at g log es place w c marked at first count lent end cause),
+        start_took g log es place w c marked at first count lent end cause,
+      )
+  booked es place w c (speak first round lent out) marked at end = tt
+  booked es place w c (hear first round lent incoming) marked at end = tt
   booked es place w c drop marked at end = tt
   booked es place w c (cut room) marked at end = tt
-  booked es place w c (cut_start number lent mark room) marked at end = tt
+  booked es place w c (cut_start first count lent at_mark mark room) marked at end = tt
 
   -- a whole run
-  record Ran (w : World) : Type 0 where
-    invariant : Invariant g (book g.shares log) w
-    once : Once w.log
-
-  ran : (es : List Entry) (place : ℕ) (w : World) → Ran w → Marked w → length w.log ≡ place → (run g place w es).log ≡ log
-      → Meets g place w es → Ran (run g place w es)
-  ran [] place w r marked at end meets = r
-  ran (e ∷ es) place w r marked at end meets =
+  ran : (es : List Entry) (place : ℕ) (w : World) → Invariant g (book g.shares log) (Took log) w → Marked w → length w.log ≡ place
+      → (run g place w es).log ≡ log → Meets g place w es → Invariant g (book g.shares log) (Took log) (run g place w es)
+  ran [] place w f marked at end meets = f
+  ran (e ∷ es) place w f marked at end meets =
       ran es (suc place) (stepped g place w e.box e.step)
-      (record {
-        invariant =
-            invariant_next g (book g.shares log) pair orders place w e.box e.step r.invariant meets.0 (booked es place w e.box e.step marked at end);
-        once = once_next w _ marked (one_more g place w e.box e.step) r.once;
-      })
+      (invariant_next g (book g.shares log) (Took log) pair orders place w e.box e.step f meets.0 (booked es place w e.box e.step marked at end))
       (marked_next w _ (one_more g place w e.box e.step) marked) (next_place g place w e.box e.step ∙ ap suc at) end meets.1
 
 -- ---- the place that was found
 
-opened_there : (log : List Event) (c : Box) (key : Key) → opened_at log c key < length log → opens_job c key (event_at log (opened_at log c key)) ≡ true
-opened_there [] c key less = absurd (omega (arith, less))
-opened_there (e ∷ log) c key less = go (opens_job c key e) refl (opened_there log c key) less
-  where
-    go : (t : Bool) → opens_job c key e ≡ t
-        → (opened_at log c key < length log → opens_job c key (event_at log (opened_at log c key)) ≡ true)
-        → cond t 0 (suc (opened_at log c key)) < suc (length log)
-        → opens_job c key (event_at (e ∷ log) (cond t 0 (suc (opened_at log c key)))) ≡ true
-    go true q rest less' = q
-    go false q rest less' = rest (omega (arith, less'))
+start_there : (log : List Event) (c : Box) (key : Key) → Took log c key → Happened log (taken_at log c key.first) c key (replied started)
+start_there log c key t =
+    let e = event_at log (taken_at log c key.first) in
+    let o = opening c key.first e (taken_there log c key.first t.within) in
+    record { within = t.within; box = sym o.box; under = t.key_is; said_is = opening_of e.said o.told }
 
-start_there : (log : List Event) (c : Box) (key : Key) → opened_at log c key < length log → Happened log (opened_at log c key) c key (replied started)
-start_there log c key less =
-    let e = event_at log (opened_at log c key) in
-    let there = opened_there log c key less in
-    let opening = and_left (opens c key.number e) (eqb key.width e.key.width) there in
-    let place = and_left (same_box c e.box && eqb key.number e.key.number) (is_opening (kind_of e.said)) opening in
-    record {
-      within = less;
-      box = sym (same_box_lem c e.box (and_left (same_box c e.box) (eqb key.number e.key.number) place));
-      under =
-          sym
-          (key_is key e.key
-          (eqb-true key.number e.key.number (and_right (same_box c e.box) (eqb key.number e.key.number) place))
-          (eqb-true key.width e.key.width (and_right (opens c key.number e) (eqb key.width e.key.width) there)));
-      said_is = opening_of e.said (and_right (same_box c e.box && eqb key.number e.key.number) (is_opening (kind_of e.said)) opening);
-    }
-  where
-    key_is : (k k' : Key) → k.number ≡ k'.number → k.width ≡ k'.width → k ≡ k'
-    key_is k k' number width = rw (number, width) refl
-
-only_start : (log : List Event) → Once log → (c : Box) (key : Key) (place : ℕ) → Happened log place c key (replied started)
-    → place ≡ opened_at log c key
-only_start log once c key place t =
-    sym
-    (once c key place t.within
-    (rw (t.box, t.under, t.said_is, same_self c, eq-eqb key.number key.number refl, eq-eqb key.width key.width refl) refl))
+only_start : (log : List Event) → Once log → SomeEach log → (c : Box) (key : Key) (place : ℕ) → Happened log place c key (replied started)
+    → taken_at log c key.first ≡ place
+only_start log once some c key place t =
+    let e = event_at log place in
+    let told : is_opening (kind_of e.said) ≡ true = ap (λ (s : Said). is_opening (kind_of s)) t.said_is in
+    let least : 0 < key.count = rw (← t.under) (some place told) in
+    once c key.first place t.within
+    (takes_lem c key.first e (record { box = sym t.box; from = rw t.under (omega arith); below = rw t.under (omega (arith, least)); told = told }))
 
 -- ---- the sum
 
--- a box that answered had opened its job
-opened_before : (shares : Box → ℕ → Lending) (log : List Event) (c : Box) (key : Key) → (book shares log c key).x < modulus key.width
-    → opened_at log c key < length log
-opened_before shares log c key fits = go (ltb (opened_at log c key) (length log)) refl fits
-  where
-    go : (t : Bool) → ltb (opened_at log c key) (length log) ≡ t
-        → (cond t (shares c (opened_at log c key)) (record { x = modulus key.width; y = modulus key.width })).x < modulus key.width
-        → opened_at log c key < length log
-    go true q f = ltb-true _ _ q
-    go false q f = absurd (omega (arith, f))
-
-book_opened : (shares : Box → ℕ → Lending) (log : List Event) (c : Box) (key : Key) → opened_at log c key < length log
-    → book shares log c key ≡ shares c (opened_at log c key)
-book_opened shares log c key less = rw (lt-ltb (opened_at log c key) (length log) less) refl
-
--- the exchange's theorem, of box 1 and box 2
-exchange_right : (tapes : Box → ℕ → ℕ → List ℕ) (lent : Box → Key → Lending) (pair : ℕ) (key : Key)
-    → Matched key.width pair key.number (side_of box1) (tapes box1 key.number key.width) (tapes box2 key.number key.width)
-    → (lent box1 key).y < modulus key.width → (lent box2 key).y < modulus key.width
-    → Cong (modulus key.width) (answer_by tapes lent box1 key + answer_by tapes lent box2 key) (bit_for key.width (lent box1 key) (lent box2 key))
+-- the exchange's theorem in one of the jobs, of box 1 and box 2
+exchange_right : (tapes : Box → ℕ → ℕ → List ℕ) (lent : Box → Key → Lending) (pair : ℕ) (key : Key) (i : ℕ)
+    → Matched key.width pair (key.first + i) (side_of box1) (tapes box1 (key.first + i) key.width) (tapes box2 (key.first + i) key.width)
+    → y_in (lent box1 key) i < modulus key.width → y_in (lent box2 key) i < modulus key.width
+    → Cong (modulus key.width) (answer_in tapes lent box1 key i + answer_in tapes lent box2 key i) (bit_for key.width (lent box1 key) (lent box2 key) i)
 unfolding other
-exchange_right tapes lent pair key m l1 l2 =
-    right m (lent box1 key).x (lent box1 key).y (lent box2 key).x (lent box2 key).y l1 l2 (blank key.width)
+exchange_right tapes lent pair key i m l1 l2 =
+    right m (x_in (lent box1 key) i) (y_in (lent box1 key) i) (x_in (lent box2 key) i) (y_in (lent box2 key) i) l1 l2 (blank key.width)
     (le_of_eq (sym (length-replicate (work_length key.width) 0))) (le_of_eq (sym (length-replicate (work_length key.width) 0)))
 
-bit_below : (n : ℕ) (u v : Lending) → listed n ≡ true → bit_for n u v % modulus n ≡ bit_for n u v
-bit_below n u v l = mod-eq_of_lt (omega (arith, indicator_bit (ltb ((u.x + v.x) % modulus n) ((u.y + v.y) % modulus n)), bounds l))
+bit_below : (n : ℕ) (u v : Lending) (i : ℕ) → listed n ≡ true → bit_for n u v i % modulus n ≡ bit_for n u v i
+bit_below n u v i l =
+    mod-eq_of_lt (omega (arith, indicator_bit (ltb ((x_in u i + x_in v i) % modulus n) ((y_in u i + y_in v i) % modulus n)), bounds l))
 
 -- ---- a run that meets the premises
 
@@ -164,82 +113,85 @@ module _ (g : Setting) (pair : ℕ) (w : World) (entries : List Entry) (at : AtF
   abbrev lent : Box → Key → Lending
   lent = book g.shares log
 
-  whole : Ran g pair (all_orders g pair dealt) log (run g 0 w entries)
+  whole : Invariant g lent (Took log) (run g 0 w entries)
   whole =
-      ran g pair (all_orders g pair dealt) log entries 0 w (record { invariant = invariant_first g lent w at; once = once_first w at }) (marked_first w at)
+      ran g pair (all_orders g pair dealt) log entries 0 w (invariant_first g lent (Took log) w at) (marked_first w at)
       (ap length at.no_events) refl meets
 
-  -- a box that has shares in the book had its start
-  begun : (b : Box) (key : Key) → (lent b key).x < modulus key.width → Begun log b key
-  begun b key fits = record { place = opened_at log b key; start = start_there log b key (opened_before g.shares log b key fits) }
+  only : (b : Box) (key : Key) (place : ℕ) → Happened log place b key (replied started) → taken_at log b key.first ≡ place
+  only =
+      only_start log (once_run g 0 w entries (marked_first w at) (once_first w at)) (some_run g 0 w entries (some_first w at))
 
-  -- the answer of a job is the exchange's
-  record AnswerOf (b : Box) (key : Key) (v : ℕ) : Type 0 where
+  begun : (b : Box) (key : Key) → Took log b key → Begun log b key
+  begun b key t = record { place = taken_at log b key.first; start = start_there log b key t }
+
+  -- the answers of a job are the exchanges'
+  record AnswersOf (b : Box) (key : Key) (vs : List ℕ) : Type 0 where
     width : listed key.width ≡ true
-    is : v ≡ answer_by g.tapes lent b key
-    x_fits : (lent b key).x < modulus key.width
-    y_fits : (lent b key).y < modulus key.width
+    own : Took log b key
+    is : vs ≡ answers_by g.tapes lent b key
+    y_fits : (i : ℕ) → i < key.count → y_in (lent b key) i < modulus key.width
+    counted : count_fits key.count ≡ true
 
-  answered : (b : Box) (place : ℕ) (key : Key) (v : ℕ) → Happened log place b key (replied (share v)) → AnswerOf b key v
-  answered b place key v t =
+  answered : (b : Box) (place : ℕ) (key : Key) (vs : List ℕ) → Happened log place b key (replied (finished vs)) → AnswersOf b key vs
+  answered b place key vs t =
       let e = event_at log place in
-      let a : Answered g lent e = subst (λ (s : Said). Conforms g lent e (kind_of s)) t.said_is (whole.invariant.events place) in
+      let a : Answered g lent (Took log) e = subst (λ (s : Said). Conforms g lent (Took log) e (kind_of s)) t.said_is (whole.events place) in
       record {
         width = rw (← t.under) a.width;
-        is = share_is (sym t.said_is ∙ a.said_is) ∙ a.is ∙ rw (t.box, t.under);
-        x_fits = rw (← t.box, ← t.under) a.x_fits;
+        own = rw (← t.box, ← t.under) a.own;
+        is = shares_are (sym t.said_is ∙ a.said_is) ∙ a.is ∙ rw (t.box, t.under);
         y_fits = rw (← t.box, ← t.under) a.y_fits;
+        counted = rw (← t.under) a.counted;
       }
+
+  answer_at : (b : Box) (key : Key) (vs : List ℕ) → AnswersOf b key vs → (i : ℕ) → i < key.count → get_or vs i 0 ≡ answer_in g.tapes lent b key i
+  answer_at b key vs a i less = ap (λ (l : List ℕ). get_or l i 0) a.is ∙ each_at key.count (answer_in g.tapes lent b key) i a.counted less
 
   exchanged : Exchanged g log
   exchanged =
       record {
         book = lent;
-        lent = shares_there;
+        lent = λ b place key t. ap (g.shares b) (only b key place t);
         messages = spoken;
-        answers = λ b place key v t. (begun b key (answered b place key v t).x_fits, (answered b place key v t).is);
+        answers = λ b place key vs t. (begun b key (answered b place key vs t).own, (answered b place key vs t).is);
       }
     where
-      shares_there : (b : Box) (place : ℕ) (key : Key) → Happened log place b key (replied started) → lent b key ≡ g.shares b place
-      shares_there b place key t =
-          let here = only_start log whole.once b key place t in
-          book_opened g.shares log b key (subst (λ (k : ℕ). k < length log) here t.within) ∙ ap (g.shares b) (sym here)
-
       spoken : (b : Box) (place : ℕ) (key : Key) (count : ℕ) → Happened log place b key (replied (spoke count))
           → Begun log b key × ((event_at log place).spoken ≡ sent_by g.tapes lent b key (event_at log place).round)
       spoken b place key count t =
           let e = event_at log place in
-          let u : Uttered g lent e = subst (λ (s : Said). Conforms g lent e (kind_of s)) t.said_is (whole.invariant.events place) in
-          (begun b key (rw (← t.box, ← t.under) u.x_fits), u.words ∙ rw (t.box, t.under))
+          let u : Uttered g lent (Took log) e = subst (λ (s : Said). Conforms g lent (Took log) e (kind_of s)) t.said_is (whole.events place) in
+          (begun b key (rw (← t.box, ← t.under) u.own), u.words ∙ rw (t.box, t.under))
 
-  right_sum : (place1 place2 : ℕ) (key : Key) (v1 v2 : ℕ) → Happened log place1 box1 key (replied (share v1))
-      → Happened log place2 box2 key (replied (share v2)) → Right g log key v1 v2
-  right_sum place1 place2 key v1 v2 t1 t2 =
+  right_sum : (place1 place2 : ℕ) (key : Key) (vs1 vs2 : List ℕ) → Happened log place1 box1 key (replied (finished vs1))
+      → Happened log place2 box2 key (replied (finished vs2)) → Right g log key vs1 vs2
+  right_sum place1 place2 key vs1 vs2 t1 t2 =
       record {
-        place = λ c. opened_at log c key;
-        opened = λ c. start_there log c key (before c);
-        only = λ c place t. only_start log whole.once c key place t;
+        place = λ c. taken_at log c key.first;
+        opened = λ c. start_there log c key (took c);
+        only = λ c place t. sym (only c key place t);
         sum = added;
       }
     where
-      a1 : AnswerOf box1 key v1
-      a1 = answered box1 place1 key v1 t1
+      a1 : AnswersOf box1 key vs1
+      a1 = answered box1 place1 key vs1 t1
 
-      a2 : AnswerOf box2 key v2
-      a2 = answered box2 place2 key v2 t2
+      a2 : AnswersOf box2 key vs2
+      a2 = answered box2 place2 key vs2 t2
 
-      before : (c : Box) → opened_at log c key < length log
-      before box1 = opened_before g.shares log box1 key a1.x_fits
-      before box2 = opened_before g.shares log box2 key a2.x_fits
+      took : (c : Box) → Took log c key
+      took box1 = a1.own
+      took box2 = a2.own
 
-      added : (v1 + v2) % modulus key.width ≡ bit_for key.width (g.shares box1 (opened_at log box1 key)) (g.shares box2 (opened_at log box2 key))
-      added =
-          ap (λ (k : ℕ). (k + v2) % modulus key.width) a1.is
-          ∙ ap (λ (k : ℕ). (answer_by g.tapes lent box1 key + k) % modulus key.width) a2.is
-          ∙ (exchange_right g.tapes lent pair key (dealt key.number key.width a1.width) a1.y_fits a2.y_fits).same
-          ∙ bit_below key.width (lent box1 key) (lent box2 key) a1.width
-          ∙ ap (λ (u : Lending). bit_for key.width u (lent box2 key)) (book_opened g.shares log box1 key (before box1))
-          ∙ ap (bit_for key.width (g.shares box1 (opened_at log box1 key))) (book_opened g.shares log box2 key (before box2))
+      added : (i : ℕ) → i < key.count
+          → (get_or vs1 i 0 + get_or vs2 i 0) % modulus key.width
+          ≡ bit_for key.width (g.shares box1 (taken_at log box1 key.first)) (g.shares box2 (taken_at log box2 key.first)) i
+      added i less =
+          ap (λ (k : ℕ). (k + get_or vs2 i 0) % modulus key.width) (answer_at box1 key vs1 a1 i less)
+          ∙ ap (λ (k : ℕ). (answer_in g.tapes lent box1 key i + k) % modulus key.width) (answer_at box2 key vs2 a2 i less)
+          ∙ (exchange_right g.tapes lent pair key i (dealt (key.first + i) key.width a1.width) (a1.y_fits i less) (a2.y_fits i less)).same
+          ∙ bit_below key.width (lent box1 key) (lent box2 key) i a1.width
 
 pub correctness : Correctness
 correctness g pair w entries at dealt meets =

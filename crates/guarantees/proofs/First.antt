@@ -19,25 +19,25 @@ use Rattle.guarantees.specs.Outcomes.{kind_of}
 use Rattle.guarantees.specs.Run.{Lending, Setting, Event, quiet, World, memory_of, event_at}
 use Rattle.guarantees.specs.Premises.{AtFirst}
 use Rattle.guarantees.specs.Comparison.{TapeSet, by_box, Common, Loose, Valid, memory_at, world_of}
-use Rattle.guarantees.proofs.LowEquivalence.{LowMemory, LowEquivalent, same}
+use Rattle.guarantees.proofs.LowEquivalence.{LowMemory, LowEquivalent}
 use Rattle.guarantees.proofs.Logs.{same_event}
-use Rattle.guarantees.proofs.Once.{Unopened, Marked, Once}
+use Rattle.guarantees.proofs.Once.{Unopened, Marked, Once, SomeEach}
 use Rattle.guarantees.proofs.Invariant.{Phased, Holds, Conforms, Invariant}
 
-module _ (g : Setting) (book : Box → Key → Lending) where
-  asleep_phased : (b : Box) (s : State) (work : List ℕ) (p : Phase) → is_asleep p ≡ true → Phased g book b s work p
+module _ (g : Setting) (book : Box → Key → Lending) (Known : Box → Key → Type 0) where
+  asleep_phased : (b : Box) (s : State) (work : List ℕ) (p : Phase) → is_asleep p ≡ true → Phased g book Known b s work p
   asleep_phased b s work Asleep h = tt
   asleep_phased b s work Idle h = absurd (false≢true h)
-  asleep_phased b s work (Job turn number x y) h = absurd (false≢true h)
+  asleep_phased b s work (Job turn) h = absurd (false≢true h)
 
-  pub invariant_first : (w : World) → AtFirst w → Invariant g book w
+  pub invariant_first : (w : World) → AtFirst w → Invariant g book Known w
   invariant_first w at =
       record {
         each = each;
-        events = λ k. subst (λ (l : List Event). Conforms g book (event_at l k) (kind_of (event_at l k).said)) (sym at.no_events) refl;
+        events = λ k. subst (λ (l : List Event). Conforms g book Known (event_at l k) (kind_of (event_at l k).said)) (sym at.no_events) refl;
       }
     where
-      each : (b : Box) → Holds g book b (memory_of w b)
+      each : (b : Box) → Holds g book Known b (memory_of w b)
       each b =
           let m = memory_of w b in
           record { holds = asleep_phased b m.state m.work (mode_of m.state) (at.asleep b) }
@@ -46,14 +46,17 @@ pub marked_first : (w : World) → AtFirst w → Marked w
 marked_first w at = record { unopened = λ b number f. subst (λ (l : List Event). Unopened l b number) (sym at.no_events) tt }
 
 pub once_first : (w : World) → AtFirst w → Once w.log
-once_first w at = λ c key k less opening. absurd (omega (arith, less, ap length at.no_events))
+once_first w at = λ c number k less taken. absurd (omega (arith, less, ap length at.no_events))
+
+pub some_first : (w : World) → AtFirst w → SomeEach w.log
+some_first w at = subst SomeEach (sym at.no_events) (λ k opened. absurd (false≢true opened))
 
 -- ---- two runs over one list
 
 memory_first : (c : Common) (w w' : Loose) (b : Box) → LowMemory (memory_at c w b) (memory_at c w' b)
 memory_first c w w' b =
     record {
-      state = record { n = refl; side = refl; pair = refl; tally = refl; phase = same (c.states b).phase };
+      state = record { n = refl; side = refl; pair = refl; tally = refl; phase = refl; first = refl; count = refl; ranged = refl };
       tally = refl;
       room = length_tabulate (c.rooms b) (w.works b) ∙ sym (length_tabulate (c.rooms b) (w'.works b));
     }

@@ -11,8 +11,8 @@ use Rattle.lists.proofs.Every.{every_intro, every_at}
 use Rattle.field.specs.Width.{modulus}
 use Rattle.shares.specs.Reading.{legible}
 use Rattle.rules.specs.Grounds.{words_fit, speak_ground}
-use Rattle.protocol.specs.Rounds.{message}
-use Rattle.rules.specs.Calls.{party_of, speak_rule}
+use Rattle.rules.specs.Batches.{joined_message}
+use Rattle.rules.specs.Calls.{speak_rule}
 use Rattle.rules.specs.declared.state.State.{State}
 use Rattle.rules.proofs.Decide.{decide}
 use Rattle.rules.proofs.Passed.{speak_passed}
@@ -56,26 +56,26 @@ wider m n words le fits =
     let most = leb-true (get_or words i 0) (modulus m) (every_at (length words) (λ j. legible m (get_or words j 0)) fits i less) in
     le-leb (get_or words i 0) (modulus n) (omega (arith, most, pow_mono le)))
 
-speak_fits : (s : State) (number round : ℕ) (tape work out : List ℕ)
-    → let r = speak_rule s number round tape work out in
+speak_fits : (s : State) (first round : ℕ) (tapes work out : List ℕ)
+    → let r = speak_rule s first round tapes work out in
     (n : ℕ) → (is_message (kind_of (replied r.reply)) ≡ true → s.n ≤ n) → words_fit n (spoken_words r.reply r.buffer) ≡ true
 unfolding speak_rule
-speak_fits s number round tape work out n =
+speak_fits s first round tapes work out n =
     decide (λ r. (is_message (kind_of (replied r.reply)) ≡ true → s.n ≤ n) → words_fit n (spoken_words r.reply r.buffer) ≡ true)
-    (speak_ground s number round tape work out) s out _
+    (speak_ground s first round tapes work out) s out _
     (λ zero_ground least.
-    let p = speak_passed s number round tape work out zero_ground in
-    subst (λ (l : List ℕ). words_fit n l ≡ true) (sym (spoken_front s tape work out round p.out_room))
-    (wider s.n n (message (party_of s tape) work round) (least refl) (message_fits_lem s tape work round p.turn.sound.width)))
+    let p = speak_passed s first round tapes work out zero_ground in
+    subst (λ (l : List ℕ). words_fit n l ≡ true) (sym (spoken_front s tapes work out round p.out_room))
+    (wider s.n n (joined_message s tapes work round) (least refl) (message_fits_lem s tapes work round p.turn.sound.width)))
     (λ least. fits_none n)
 
 pub fitting_next : (g : Setting) (place : ℕ) (w : World) (c : Box) (step : Step) → Fitting w.log → Fitting (stepped g place w c step).log
 unfolding stepped
 fitting_next g place w c (wake n side p) f = fitting_after w c _ _ f (λ m least. fits_none m)
-fitting_next g place w c (start number lent) f = fitting_after w c _ _ f (λ m least. fits_none m)
-fitting_next g place w c (speak number round lent out) f =
-    fitting_after w c _ _ f (speak_fits (memory_of w c).state number round (tape_words g lent) (memory_of w c).work out)
-fitting_next g place w c (hear number round lent incoming) f = fitting_after w c _ _ f (λ m least. fits_none m)
+fitting_next g place w c (start first count lent) f = fitting_after w c _ _ f (λ m least. fits_none m)
+fitting_next g place w c (speak first round lent out) f =
+    fitting_after w c _ _ f (speak_fits (memory_of w c).state first round (tape_words g lent) (memory_of w c).work out)
+fitting_next g place w c (hear first round lent incoming) f = fitting_after w c _ _ f (λ m least. fits_none m)
 fitting_next g place w c drop f = fitting_after w c _ _ f (λ m least. fits_none m)
 fitting_next g place w c (cut room) f = fitting_after w c _ _ f (λ m least. fits_none m)
-fitting_next g place w c (cut_start number lent mark room) f = fitting_after w c _ _ f (λ m least. fits_none m)
+fitting_next g place w c (cut_start first count lent at mark room) f = fitting_after w c _ _ f (λ m least. fits_none m)

@@ -1,83 +1,104 @@
--- The invariant of one run: in a job, what work holds of the rounds heard so far is what the job's exchange gives, and so is every message
--- spoken and every answer share.
+-- The invariant of one run: in a job, what work holds of the rounds heard so far is what the job's exchanges give, and so are every message
+-- spoken and all answer shares. Two boxes can be in jobs that share a number and are not the same job; then no message of either is true, so what
+-- follows a round that was heard says that the other box opened the job too.
 use Prim.Native.Nat.{ℕ, zero, suc, ◌+◌, ◌<◌, ◌≤◌}
 use mathlib.Core.Path.{◌≡◌, refl, sym, ap, subst, ◌∙◌}
 use mathlib.Core.Bool.{Bool, true, false, cond}
 use mathlib.Core.List.{List, [], ◌∷◌, ◌++◌}
+use native.Mathlib.Nat.{le_of_eq, le_trans}
 use native.Mathlib.Omega.{arith}
 use borrow.Author.Tests.{eqb-true}
 use lib.Dec.{eqb}
-use lib.ListN.{length}
+use lib.ListN.{length, get_or}
+use Rattle.lists.proofs.Joined.{chained_same, within, length_part, part_chained}
 use Rattle.field.specs.Width.{listed, modulus}
-use Rattle.tape.specs.Order.{in_order}
+use Rattle.tape.specs.Layout.{tape_length}
 use Rattle.tape.proofs.Keys.{order_key}
+use Rattle.tape.proofs.Orders.{readable}
 use Rattle.protocol.specs.Work.{work_length}
-use Rattle.protocol.specs.Rounds.{earlier_rounds, last_round, after_hearing, answer_share}
+use Rattle.protocol.specs.Rounds.{earlier_rounds, last_round, answer_share}
+use Rattle.protocol.specs.Sizes.{count_fits, work_for}
 use Rattle.protocol.proofs.Live.{Live, message_live, after_live, answer_live}
-use Rattle.protocol.proofs.Lengths.{after_length}
-use Rattle.rules.specs.Answers.{heard, share}
-use Rattle.rules.specs.Modes.{round_of, in_range, mode_of, is_asleep}
+use Rattle.rules.specs.Answers.{heard, finished}
+use Rattle.rules.specs.Modes.{round_of, in_range, mode_of, is_asleep, in_phase}
+use Rattle.rules.specs.Batches.{x_in, y_in, no_batch, tape_part, work_part, words_part, party_of, joined_message, joined_after, answer_shares}
 use Rattle.rules.specs.Grounds.{wake_ground, start_ground, speak_ground, hear_ground, drop_ground}
-use Rattle.rules.specs.Calls.{Result, in_phase, party_of, turned, wake_rule, start_rule, speak_rule, heard_after, hear_rule, drop_rule}
+use Rattle.rules.specs.Calls.{Result, wake_rule, start_rule, speak_rule, heard_after, hear_rule, drop_rule}
 use Rattle.rules.specs.declared.state.Turn.{Turn}
 use Rattle.rules.specs.declared.state.Turn.TheVariants.{Speak, Hear}
 use Rattle.rules.specs.declared.state.Phase.{Phase}
 use Rattle.rules.specs.declared.state.Phase.TheVariants.{Asleep, Idle, Job}
 use Rattle.rules.specs.declared.state.State.{State}
 use Rattle.guarantees.specs.Boxes.{Box, box1, box2, side_of, other_box}
-use Rattle.guarantees.specs.Keys.{Key, key_at}
+use Rattle.guarantees.specs.Keys.{Key, job_key, key_at}
 use Rattle.guarantees.specs.Outcomes.{Kind, opening, message, answer, plain, kind_of}
 use Rattle.guarantees.specs.Entries.{Lent, dealt, Incoming, Step, wake, start, speak, hear, drop, cut, cut_start}
-use Rattle.guarantees.specs.Run.{Lending, Setting, Memory, Said, replied, Event, World, memory_of, after, after_cut, cut_said, event_at, tape_words, line_words, incoming_words, spoken_words, stepped}
+use Rattle.guarantees.specs.Run.{Lending, Setting, Memory, Said, replied, Event, World, memory_of, after, after_start, after_cut, cut_said, event_at, tape_words, line_words, incoming_words, spoken_words, stepped}
 use Rattle.guarantees.specs.Premises.{TrueMessage, Keeps}
-use Rattle.guarantees.specs.Jobs.{party_at, sent_by, answer_by}
+use Rattle.guarantees.specs.Jobs.{party_at, sent_in, answer_in, sent_by, answers_by}
 use Rattle.guarantees.proofs.Outcomes.{cut_plain}
 use Rattle.guarantees.proofs.Deliveries.{ground_lent, rule_lent}
-use Rattle.guarantees.proofs.Jobs.{InOrder, holding, sent_is, holding_next, answer_is, holding_room}
-use Rattle.rules.proofs.Spoken.{spoken_front}
+use Rattle.guarantees.proofs.Jobs.{InOrder, holding, sent_is, holding_next, answer_is, holding_room, sent_part}
+use Rattle.rules.proofs.Batches.{each_at, each_same}
+use Rattle.rules.proofs.Spoken.{spoken_front, joined_after_length, after_part}
 use Rattle.rules.proofs.Decide.{decide}
-use Rattle.rules.proofs.Ranges.{awake_mode, awake_listed, Due, job_range}
-use Rattle.rules.proofs.Passed.{start_passed, speak_passed, hear_passed}
+use Rattle.rules.proofs.Ranges.{awake_mode}
+use Rattle.rules.proofs.Passed.{start_passed, TurnPassed, speak_passed, hear_passed}
 
-module _ (g : Setting) (book : Box → Key → Lending) where
+-- what the log has of a speak or a hear
+abbrev turn_event : Box → Memory → ℕ → ℕ → Result → List ℕ → List ℕ → Event
+turn_event b m first round r spoken incoming =
+    record { box = b; key = key_at m.state first; round = round; said = replied r.reply; spoken = spoken; incoming = incoming }
+
+-- the job that a state holds
+abbrev pub own_key : State → Key
+own_key s = key_at s s.batch.first
+
+-- the shares that opened each job, and which jobs each box opened
+module _ (g : Setting) (book : Box → Key → Lending) (Known : Box → Key → Type 0) where
   -- ---- what holds of one box
 
-  -- in a job whose turn has that round: so many rounds were heard
-  pub record InJob (b : Box) (s : State) (work : List ℕ) (turn : Turn) (number x y : ℕ) : Type 0 where
-    pub x_is : x ≡ (book b (key_at s number)).x
-    pub y_is : y ≡ (book b (key_at s number)).y
-    pub room : work_length s.n ≤ length work
+  -- in a job whose turn has that round: so many rounds were heard, and if any was, the other box opened the job too
+  pub record InJob (b : Box) (s : State) (work : List ℕ) (turn : Turn) : Type 0 where
+    pub own : Known b (own_key s)
+    pub x_is : (i : ℕ) → i < s.batch.count → get_or s.batch.x i 0 ≡ x_in (book b (own_key s)) i
+    pub y_is : (i : ℕ) → i < s.batch.count → get_or s.batch.y i 0 ≡ y_in (book b (own_key s)) i
+    pub room : work_for s.n s.batch.count ≤ length work
     pub heard : ℕ
     pub count : round_of turn ≡ suc heard
-    pub live : Live s.n heard work (holding g.tapes book b (key_at s number) heard)
+    pub met : 0 < heard → Known (other_box b) (own_key s)
+    pub live : (i : ℕ) → i < s.batch.count → Live s.n heard (work_part s.n work i) (holding g.tapes book b (own_key s) i heard)
 
   abbrev pub Phased : Box → State → List ℕ → Phase → Type 0
   Phased b s work Asleep = Unit {0}
   Phased b s work Idle = Unit {0}
-  Phased b s work (Job turn number x y) = InJob b s work turn number x y
+  Phased b s work (Job turn) = InJob b s work turn
 
   pub record Holds (b : Box) (m : Memory) : Type 0 where
     pub holds : Phased b m.state m.work (mode_of m.state)
 
   -- ---- what holds of the log
 
-  -- a message spoken is the exchange's, in one of the five rounds of a listed width
+  -- a message spoken is the exchanges', in one of the five rounds of a listed width
   pub record Uttered (e : Event) : Type 0 where
     pub width : listed e.key.width ≡ true
     pub heard : ℕ
     pub round_is : e.round ≡ suc heard
     pub early : heard < last_round
-    pub x_fits : (book e.box e.key).x < modulus e.key.width
+    pub own : Known e.box e.key
+    pub met : 0 < heard → Known (other_box e.box) e.key
     pub words : e.spoken ≡ sent_by g.tapes book e.box e.key e.round
 
-  -- and so is an answer share
+  -- and so are answer shares
   pub record Answered (e : Event) : Type 0 where
-    pub value : ℕ
-    pub said_is : e.said ≡ replied (share value)
+    pub values : List ℕ
+    pub said_is : e.said ≡ replied (finished values)
     pub width : listed e.key.width ≡ true
-    pub is : value ≡ answer_by g.tapes book e.box e.key
-    pub x_fits : (book e.box e.key).x < modulus e.key.width
-    pub y_fits : (book e.box e.key).y < modulus e.key.width
+    pub own : Known e.box e.key
+    pub met : Known (other_box e.box) e.key
+    pub is : values ≡ answers_by g.tapes book e.box e.key
+    pub y_fits : (i : ℕ) → i < e.key.count → y_in (book e.box e.key) i < modulus e.key.width
+    pub counted : count_fits e.key.count ≡ true
     pub silent : e.spoken ≡ []
 
   abbrev pub Conforms : Event → Kind → Type 0
@@ -90,17 +111,17 @@ module _ (g : Setting) (book : Box → Key → Lending) where
     pub each : (b : Box) → Holds b (memory_of w b)
     pub events : (k : ℕ) → Conforms (event_at w.log k) (kind_of (event_at w.log k).said)
 
-  -- a start that is not refused finds its shares in the book
+  -- a start that is not refused finds its shares in the book, and its job among those that its box opened
   abbrev pub Booked : ℕ → World → Box → Step → Type 0
   Booked place w b (wake n side p) = Unit {0}
-  Booked place w b (start number lent) =
-      start_ground (memory_of w b).state number (g.shares b place).x (g.shares b place).y (tape_words g lent) (memory_of w b).work (memory_of w b).tally ≡ 0
-      → book b (key_at (memory_of w b).state number) ≡ g.shares b place
-  Booked place w b (speak number round lent out) = Unit {0}
-  Booked place w b (hear number round lent incoming) = Unit {0}
+  Booked place w b (start first count lent) =
+      start_ground (memory_of w b).state first count (g.shares b place) (tape_words g lent) (memory_of w b).work (memory_of w b).tally ≡ 0
+      → (book b (job_key first count (memory_of w b).state.n) ≡ g.shares b place) × Known b (job_key first count (memory_of w b).state.n)
+  Booked place w b (speak first round lent out) = Unit {0}
+  Booked place w b (hear first round lent incoming) = Unit {0}
   Booked place w b drop = Unit {0}
   Booked place w b (cut room) = Unit {0}
-  Booked place w b (cut_start number lent mark room) = Unit {0}
+  Booked place w b (cut_start first count lent at mark room) = Unit {0}
 
   -- ---- a phase that is settled
 
@@ -122,10 +143,6 @@ module _ (g : Setting) (book : Box → Key → Lending) where
   kept : (b : Box) (m : Memory) (tally : List ℕ) → Holds b m → Holds b (record { state = m.state; work = m.work; tally = tally })
   kept b m tally h = record { holds = h.holds }
 
-  -- the dealt tape that was named
-  named_tape : (lent : Lent) (b : Box) (number n : ℕ) → listed n ≡ true → lent ≡ dealt b number n → tape_words g lent ≡ g.tapes b number n
-  named_tape lent b number n l e = ap (tape_words g) e ∙ rw l
-
   -- ---- wake
 
   wake_holds : (b : Box) (m : Memory) (n side p : ℕ) → Holds b m
@@ -138,27 +155,28 @@ module _ (g : Setting) (book : Box → Key → Lending) where
 
   -- ---- start
 
-  start_holds : (b : Box) (m : Memory) (number : ℕ) (v : Lending) (tape : List ℕ) → Holds b m
-      → (start_ground m.state number v.x v.y tape m.work m.tally ≡ 0 → book b (key_at m.state number) ≡ v)
-      → let r = start_rule m.state number v.x v.y tape m.work m.tally in
-      Holds b (record { state = r.state; work = m.work; tally = r.buffer })
+  start_holds : (b : Box) (m : Memory) (first count : ℕ) (v : Lending) (tapes : List ℕ) → Holds b m
+      → (start_ground m.state first count v tapes m.work m.tally ≡ 0
+      → (book b (job_key first count m.state.n) ≡ v) × Known b (job_key first count m.state.n))
+      → Holds b (after_start m (start_rule m.state first count v tapes m.work m.tally))
   unfolding start_rule
-  start_holds b m number v tape h booked =
-      decide (λ r. Holds b (record { state = r.state; work = m.work; tally = r.buffer }))
-      (start_ground m.state number v.x v.y tape m.work m.tally) m.state m.tally _
+  start_holds b m first count v tapes h booked =
+      decide (λ r. Holds b (after_start m r)) (start_ground m.state first count v tapes m.work m.tally) m.state m.tally _
       (λ zero_ground.
-      let p = start_passed m.state number v.x v.y tape m.work m.tally zero_ground in
+      let p = start_passed m.state first count v tapes m.work m.tally zero_ground in
       let e = booked zero_ground in
       record {
         holds =
             settle b _ m.work
             (record {
-              x_is = ap (λ (q : Lending). q.x) (sym e);
-              y_is = ap (λ (q : Lending). q.y) (sym e);
+              own = e.1;
+              x_is = λ i less. each_at count (x_in v) i p.counted less ∙ ap (λ (q : Lending). x_in q i) (sym e.0);
+              y_is = λ i less. each_at count (y_in v) i p.counted less ∙ ap (λ (q : Lending). y_in q i) (sym e.0);
               room = p.room;
               heard = 0;
               count = refl;
-              live = tt;
+              met = λ some. absurd (omega arith);
+              live = λ i less. tt;
             });
       })
       (kept b m m.tally h)
@@ -174,179 +192,232 @@ module _ (g : Setting) (book : Box → Key → Lending) where
 
   -- ---- the job that a speak or a hear goes on with
 
-  pub record Going (b : Box) (m : Memory) (number round : ℕ) (turn : Turn) (tape : List ℕ) : Type 0 where
-    pub x : ℕ
-    pub y : ℕ
-    pub job : m.state.phase ≡ Job turn number x y
-    pub inside : InJob b m.state m.work turn number x y
-    pub width : listed m.state.n ≡ true
-    pub early : inside.heard < last_round
-    pub x_fits : (book b (key_at m.state number)).x < modulus m.state.n
-    pub y_fits : (book b (key_at m.state number)).y < modulus m.state.n
-    pub party_is : party_of m.state tape ≡ party_at g.tapes book b (key_at m.state number)
+  record Going (b : Box) (m : Memory) (turn : Turn) (tapes : List ℕ) : Type 0 where
+    inside : InJob b m.state m.work turn
+    width : listed m.state.n ≡ true
+    counted : count_fits m.state.batch.count ≡ true
+    early : inside.heard < last_round
+    y_fits : (i : ℕ) → i < m.state.batch.count → y_in (book b (own_key m.state)) i < modulus m.state.n
+    party_is : (i : ℕ) → i < m.state.batch.count → party_of m.state tapes i ≡ party_at g.tapes book b (own_key m.state) i
 
-  -- the box's dealt tape is in order for no side but its own
-  going : (pair : ℕ) (orders : InOrder g pair) (b : Box) (m : Memory) (number round : ℕ) (turn : Turn) (lent : Lent) → Holds b m
-      → (awake : is_asleep (mode_of m.state) ≡ false) → Due m.state number turn
-      → in_order m.state.n m.state.pair m.state.side number (tape_words g lent) ≡ true → lent ≡ dealt b number m.state.n
-      → Going b m number round turn (tape_words g lent)
-  going pair orders b m number round turn lent h awake d ordered named =
-      let l = awake_listed m.state awake in
-      let tape = named_tape lent b number m.state.n l named in
-      let range = job_range m.state d.x d.y awake d.job in
-      let inside : InJob b m.state m.work turn number d.x d.y = subst (Phased b m.state m.work) d.job (awake_phase b m h awake) in
-      let side =
-      (order_key m.state.n m.state.pair m.state.side number m.state.n pair (side_of b) number (g.tapes b number m.state.n)
-      (rw (← tape) ordered) (orders b number m.state.n l)).side_is in
+  -- the dealt tape of each of its jobs is where it was joined
+  part_dealt : (pair : ℕ) (orders : InOrder g pair) (lent : Lent) (b : Box) (first count n : ℕ) → listed n ≡ true → lent ≡ dealt b first count n
+      → (i : ℕ) → i < count → tape_part n (tape_words g lent) i ≡ g.tapes b (first + i) n
+  part_dealt pair orders lent b first count n l named i less =
+      ap (λ (words : List ℕ). tape_part n words i) (ap (tape_words g) named ∙ rw l refl)
+      ∙ part_chained count (tape_length n) (λ k. g.tapes b (first + k) n) i less
+      (λ k before. (readable n pair (side_of b) (first + k) (g.tapes b (first + k) n) (orders b (first + k) n l)).long)
+
+  -- such a tape is in order for no side but its box's
+  going : (pair : ℕ) (orders : InOrder g pair) (b : Box) (m : Memory) (first : ℕ) (turn : Turn) (lent : Lent) → Holds b m
+      → TurnPassed m.state first turn (tape_words g lent) → lent ≡ dealt b first m.state.batch.count m.state.n
+      → Going b m turn (tape_words g lent)
+  going pair orders b m first turn lent h p named =
       record {
-        x = d.x;
-        y = d.y;
-        job = d.job;
         inside = inside;
         width = l;
-        early = omega (arith, range.last, inside.count);
-        x_fits = rw (← inside.x_is) range.x_fits;
-        y_fits = rw (← inside.y_is) range.y_fits;
-        party_is = rw (d.job, side, inside.x_is, inside.y_is, tape);
+        counted = p.range.counted;
+        early = omega (arith, p.range.last, inside.count);
+        y_fits = λ i less. rw (← inside.y_is i less) (p.range.y_fits i less);
+        party_is = λ i less. rw (side i less, inside.x_is i less, inside.y_is i less, tape i less) refl;
       }
+    where
+      s : State
+      s = m.state
+
+      l : listed s.n ≡ true
+      l = p.sound.width
+
+      inside : InJob b s m.work turn
+      inside = subst (Phased b s m.work) p.due.job (awake_phase b m h p.awake)
+
+      tape : (i : ℕ) → i < s.batch.count → tape_part s.n (tape_words g lent) i ≡ g.tapes b (s.batch.first + i) s.n
+      tape = part_dealt pair orders lent b s.batch.first s.batch.count s.n l (named ∙ ap (λ (k : ℕ). dealt b k s.batch.count s.n) p.due.first_is)
+
+      side : (i : ℕ) → i < s.batch.count → s.side ≡ side_of b
+      side i less =
+          let number = s.batch.first + i in
+          (order_key s.n s.pair s.side number s.n pair (side_of b) number (g.tapes b number s.n)
+          (rw (← tape i less) (p.ordered i less)) (orders b number s.n l)).side_is
 
   -- ---- speak
 
-  -- the state goes on to hear, and the words are the exchange's
-  pub record Spoken (b : Box) (m : Memory) (number round : ℕ) (r : Result) : Type 0 where
+  -- the state goes on to hear, and the words are the exchanges'
+  pub record Spoken (b : Box) (m : Memory) (first round : ℕ) (r : Result) : Type 0 where
     pub holds : Holds b (record { state = r.state; work = m.work; tally = m.tally })
-    pub words : Conforms (record { box = b; key = key_at m.state number; round = round; said = replied r.reply; spoken = spoken_words r.reply r.buffer; incoming = [] }) (kind_of (replied r.reply))
+    pub words : Conforms (turn_event b m first round r (spoken_words r.reply r.buffer) []) (kind_of (replied r.reply))
 
-  speak_holds : (pair : ℕ) (orders : InOrder g pair) (b : Box) (m : Memory) (number round : ℕ) (lent : Lent) (out : List ℕ) → Holds b m
-      → (speak_ground m.state number round (tape_words g lent) m.work out ≡ 0 → lent ≡ dealt b number m.state.n)
-      → Spoken b m number round (speak_rule m.state number round (tape_words g lent) m.work out)
-  unfolding speak_rule
-  speak_holds pair orders b m number round lent out h keeps =
-      decide (Spoken b m number round) (speak_ground m.state number round (tape_words g lent) m.work out) m.state out _
-      (λ zero_ground.
-      let p = speak_passed m.state number round (tape_words g lent) m.work out zero_ground in
-      let j = going pair orders b m number round (Speak round) lent h p.turn.awake p.turn.due p.turn.ordered (keeps zero_ground) in
+  message_is : (b : Box) (m : Memory) (round : ℕ) (tapes : List ℕ) → Going b m (Speak round) tapes
+      → joined_message m.state tapes m.work round ≡ sent_by g.tapes book b (own_key m.state) round
+  unfolding joined_message
+  message_is b m round tapes j =
       let i = j.inside in
-      record {
+      let key = own_key m.state in
+      chained_same m.state.batch.count _ _
+      (λ k less.
+      rw (j.party_is k less, i.count)
+      (message_live (party_at g.tapes book b key k) i.heard (work_part m.state.n m.work k) (holding g.tapes book b key k i.heard) (i.live k less)
+      ∙ sym (sent_is g.tapes book b key k i.heard)))
+
+  speak_holds : (pair : ℕ) (orders : InOrder g pair) (b : Box) (m : Memory) (first round : ℕ) (lent : Lent) (out : List ℕ) → Holds b m
+      → (speak_ground m.state first round (tape_words g lent) m.work out ≡ 0 → lent ≡ dealt b first m.state.batch.count m.state.n)
+      → Spoken b m first round (speak_rule m.state first round (tape_words g lent) m.work out)
+  unfolding speak_rule
+  speak_holds pair orders b m first round lent out h keeps =
+      decide (Spoken b m first round) (speak_ground m.state first round (tape_words g lent) m.work out) m.state out _
+      (λ zero_ground.
+      let p = speak_passed m.state first round (tape_words g lent) m.work out zero_ground in
+      let j = going pair orders b m first (Speak round) lent h p.turn (keeps zero_ground) in
+      let i = j.inside in
+      rw p.turn.due.first_is
+      (record {
         holds = record {
           holds =
               settle b _ m.work
-              (rw j.job
               (record {
+                own = i.own;
                 x_is = i.x_is;
                 y_is = i.y_is;
                 room = i.room;
                 heard = i.heard;
                 count = i.count;
+                met = i.met;
                 live = i.live;
-              }));
+              });
         };
         words = record {
           width = j.width;
           heard = i.heard;
           round_is = i.count;
           early = j.early;
-          x_fits = j.x_fits;
-          words =
-              spoken_front m.state (tape_words g lent) m.work out round p.out_room
-              ∙ rw (j.party_is, i.count)
-              (message_live (party_at g.tapes book b (key_at m.state number)) i.heard m.work (holding g.tapes book b (key_at m.state number) i.heard) i.live
-              ∙ sym (sent_is g.tapes book b (key_at m.state number) i.heard));
+          own = i.own;
+          met = i.met;
+          words = spoken_front m.state (tape_words g lent) m.work out round p.out_room ∙ message_is b m round (tape_words g lent) j;
         };
-      })
+      }))
       (record { holds = kept b m m.tally h; words = refl })
 
   -- ---- hear
 
   -- `lent` is what the event has of the words
-  pub record Heard (b : Box) (m : Memory) (number round : ℕ) (lent : List ℕ) (r : Result) : Type 0 where
+  pub record Heard (b : Box) (m : Memory) (first round : ℕ) (lent : List ℕ) (r : Result) : Type 0 where
     pub holds : Holds b (record { state = r.state; work = r.buffer; tally = m.tally })
-    pub answer : Conforms (record { box = b; key = key_at m.state number; round = round; said = replied r.reply; spoken = []; incoming = lent }) (kind_of (replied r.reply))
+    pub answer : Conforms (turn_event b m first round r [] lent) (kind_of (replied r.reply))
 
-  module _ (b : Box) (m : Memory) (number round : ℕ) (tape incoming : List ℕ) (j : Going b m number round (Hear round) tape)
-      (true_words : incoming ≡ sent_by g.tapes book (other_box b) (key_at m.state number) round) where
-    n : ℕ
-    n = m.state.n
+  -- what is heard is the other box's message, which opened the job too
+  record OtherSent (b : Box) (key : Key) (round : ℕ) (words : List ℕ) : Type 0 where
+    words_are : words ≡ sent_by g.tapes book (other_box b) key round
+    opened : Known (other_box b) key
+
+  module _ (b : Box) (m : Memory) (round : ℕ) (tapes incoming : List ℕ) (j : Going b m (Hear round) tapes)
+      (o : OtherSent b (own_key m.state) round incoming) where
+    -- each job's part of it
+    part_heard : (k : ℕ) → k < m.state.batch.count
+        → words_part m.state.n round incoming k ≡ sent_in g.tapes book (other_box b) (own_key m.state) k round
+    part_heard k less = rw (o.words_are, j.inside.count) (sent_part g.tapes book (other_box b) (own_key m.state) k j.inside.heard less)
+
+    part_room : (k : ℕ) → k < m.state.batch.count → work_length m.state.n ≤ length (work_part m.state.n m.work k)
+    part_room k less =
+        let all = within m.state.batch.count (work_length m.state.n) k less in
+        le_of_eq (sym (length_part (work_length m.state.n) m.work k (le_trans all j.inside.room)))
 
     -- what is held after the round is what the exchange gives
-    live_next : Live m.state.n (suc j.inside.heard) (after_hearing (party_of m.state tape) m.work round incoming)
-        (holding g.tapes book b (key_at m.state number) (suc j.inside.heard))
-    live_next =
+    live_next : (k : ℕ) → k < m.state.batch.count
+        → Live m.state.n (suc j.inside.heard) (work_part m.state.n (joined_after m.state tapes m.work round incoming) k)
+        (holding g.tapes book b (own_key m.state) k (suc j.inside.heard))
+    live_next k less =
         let i = j.inside in
-        rw (j.party_is, true_words, i.count, holding_next g.tapes book b (key_at m.state number) i.heard)
-        (after_live (party_at g.tapes book b (key_at m.state number)) j.width m.work (holding g.tapes book b (key_at m.state number) i.heard)
-        (sent_by g.tapes book (other_box b) (key_at m.state number) (suc i.heard)) i.room (holding_room g.tapes book b (key_at m.state number) i.heard) i.heard i.live)
+        let key = own_key m.state in
+        rw (
+          after_part m.state tapes m.work round incoming k less i.room,
+          j.party_is k less,
+          part_heard k less,
+          i.count,
+          holding_next g.tapes book b key k i.heard,
+        )
+        (after_live (party_at g.tapes book b key k) j.width (work_part m.state.n m.work k) (holding g.tapes book b key k i.heard)
+        (sent_in g.tapes book (other_box b) key k (suc i.heard)) (part_room k less) (holding_room g.tapes book b key k i.heard) i.heard (i.live k less))
 
-    -- the answer share of the last round
-    answer_last : round ≡ last_round → answer_share (party_of m.state tape) m.work incoming ≡ answer_by g.tapes book b (key_at m.state number)
-    answer_last e =
-        let i = j.inside in
-        let all_earlier : i.heard ≡ earlier_rounds = omega (arith, i.count) in
-        let live : Live m.state.n earlier_rounds m.work (holding g.tapes book b (key_at m.state number) earlier_rounds) =
-        subst (λ (k : ℕ). Live m.state.n k m.work (holding g.tapes book b (key_at m.state number) k)) all_earlier i.live in
-        rw (j.party_is, true_words, e)
-        (answer_live (party_at g.tapes book b (key_at m.state number)) m.work (holding g.tapes book b (key_at m.state number) earlier_rounds)
-        (sent_by g.tapes book (other_box b) (key_at m.state number) last_round) live
-        ∙ sym (answer_is g.tapes book b (key_at m.state number)))
+    -- the answer shares of the last round
+    answers_last : round ≡ last_round → answer_shares m.state tapes m.work incoming ≡ answers_by g.tapes book b (own_key m.state)
+    unfolding answer_shares
+    answers_last e = each_same m.state.batch.count _ _ one
+      where
+        one : (k : ℕ) → k < m.state.batch.count
+            → answer_share (party_of m.state tapes k) (work_part m.state.n m.work k) (words_part m.state.n last_round incoming k)
+            ≡ answer_in g.tapes book b (own_key m.state) k
+        one k less =
+            let i = j.inside in
+            let key = own_key m.state in
+            let all_earlier : i.heard ≡ earlier_rounds = omega (arith, i.count) in
+            let live : Live m.state.n earlier_rounds (work_part m.state.n m.work k) (holding g.tapes book b key k earlier_rounds) =
+            subst (λ (r : ℕ). Live m.state.n r (work_part m.state.n m.work k) (holding g.tapes book b key k r)) all_earlier (i.live k less) in
+            let words : words_part m.state.n last_round incoming k ≡ sent_in g.tapes book (other_box b) key k last_round =
+            subst (λ (r : ℕ). words_part m.state.n r incoming k ≡ sent_in g.tapes book (other_box b) key k r) e (part_heard k less) in
+            rw (j.party_is k less, words)
+            (answer_live (party_at g.tapes book b key k) (work_part m.state.n m.work k) (holding g.tapes book b key k earlier_rounds)
+            (sent_in g.tapes book (other_box b) key k last_round) live
+            ∙ sym (answer_is g.tapes book b key k))
 
-    hear_goes : (lent : List ℕ) → Heard b m number round lent
-        (cond (eqb round last_round)
-        (record {
-          reply = share (answer_share (party_of m.state tape) m.work incoming);
-          state = in_phase m.state Idle;
-          buffer = after_hearing (party_of m.state tape) m.work round incoming;
-        })
-        (record {
-          reply = heard;
-          state = in_phase m.state (turned m.state.phase (Speak (round + 1)));
-          buffer = after_hearing (party_of m.state tape) m.work round incoming;
-        }))
+    hear_goes : (lent : List ℕ) → Heard b m m.state.batch.first round lent (heard_after m.state tapes m.work round incoming)
+    unfolding heard_after
     hear_goes lent = go (eqb round last_round) refl
       where
         work' : List ℕ
-        work' = after_hearing (party_of m.state tape) m.work round incoming
+        work' = joined_after m.state tapes m.work round incoming
 
         go : (t : Bool) → eqb round last_round ≡ t
-            → Heard b m number round lent
+            → Heard b m m.state.batch.first round lent
             (cond t
-            (record { reply = share (answer_share (party_of m.state tape) m.work incoming); state = in_phase m.state Idle; buffer = work' })
-            (record { reply = heard; state = in_phase m.state (turned m.state.phase (Speak (round + 1))); buffer = work' }))
+            (record { reply = finished (answer_shares m.state tapes m.work incoming); state = in_phase m.state Idle no_batch; buffer = work' })
+            (record { reply = heard; state = in_phase m.state (Job (Speak (round + 1))) m.state.batch; buffer = work' }))
         go true e =
             record {
               holds = record { holds = settle b _ work' tt };
-              answer = record { value = _; said_is = refl; width = j.width; is = answer_last (eqb-true round last_round e); x_fits = j.x_fits; y_fits = j.y_fits; silent = refl };
+              answer = record {
+                values = _;
+                said_is = refl;
+                width = j.width;
+                own = j.inside.own;
+                met = o.opened;
+                is = answers_last (eqb-true round last_round e);
+                y_fits = j.y_fits;
+                counted = j.counted;
+                silent = refl;
+              };
             }
         go false e =
             record {
               holds = record {
                 holds =
-                    settle b (in_phase m.state (turned m.state.phase (Speak (round + 1)))) work'
-                    (subst (λ (p : Phase). Phased b (in_phase m.state (turned m.state.phase (Speak (round + 1)))) work' p)
-                    (sym (ap (λ (p : Phase). turned p (Speak (round + 1))) j.job))
+                    settle b _ work'
                     (record {
+                      own = j.inside.own;
                       x_is = j.inside.x_is;
                       y_is = j.inside.y_is;
-                      room = rw (after_length (party_of m.state tape) m.work incoming round) j.inside.room;
+                      room = rw (joined_after_length m.state tapes m.work round incoming) j.inside.room;
                       heard = suc j.inside.heard;
                       count = omega (arith, j.inside.count);
+                      met = λ some. o.opened;
                       live = live_next;
-                    }));
+                    });
               };
               answer = refl;
             }
 
-  hear_holds : (pair : ℕ) (orders : InOrder g pair) (b : Box) (m : Memory) (number round : ℕ) (lent : Lent) (incoming words : List ℕ) → Holds b m
-      → (hear_ground m.state number round (tape_words g lent) m.work incoming ≡ 0
-      → (lent ≡ dealt b number m.state.n) × (incoming ≡ sent_by g.tapes book (other_box b) (key_at m.state number) round))
-      → Heard b m number round words (hear_rule m.state number round (tape_words g lent) m.work incoming)
-  unfolding hear_rule heard_after
-  hear_holds pair orders b m number round lent incoming words h keeps =
-      decide (Heard b m number round words) (hear_ground m.state number round (tape_words g lent) m.work incoming) m.state m.work _
+  hear_holds : (pair : ℕ) (orders : InOrder g pair) (b : Box) (m : Memory) (first round : ℕ) (lent : Lent) (incoming words : List ℕ) → Holds b m
+      → (hear_ground m.state first round (tape_words g lent) m.work incoming ≡ 0
+      → (lent ≡ dealt b first m.state.batch.count m.state.n) × OtherSent b (key_at m.state first) round incoming)
+      → Heard b m first round words (hear_rule m.state first round (tape_words g lent) m.work incoming)
+  unfolding hear_rule
+  hear_holds pair orders b m first round lent incoming words h keeps =
+      decide (Heard b m first round words) (hear_ground m.state first round (tape_words g lent) m.work incoming) m.state m.work _
       (λ zero_ground.
-      let p = hear_passed m.state number round (tape_words g lent) m.work incoming zero_ground in
+      let p = hear_passed m.state first round (tape_words g lent) m.work incoming zero_ground in
       let k = keeps zero_ground in
-      hear_goes b m number round (tape_words g lent) incoming
-      (going pair orders b m number round (Hear round) lent h p.turn.awake p.turn.due p.turn.ordered k.0) k.1 words)
+      let j = going pair orders b m first (Hear round) lent h p.turn k.0 in
+      let o = subst (λ (number : ℕ). OtherSent b (key_at m.state number) round incoming) p.turn.due.first_is k.1 in
+      rw p.turn.due.first_is (hear_goes b m round (tape_words g lent) incoming j o words))
       (record { holds = kept b m m.tally h; answer = refl })
 
   -- ---- the log and the worlds
@@ -370,13 +441,16 @@ module _ (g : Setting) (book : Box → Key → Lending) where
       both box1 = f.each box1
       both box2 = h
 
-  -- a true message is the exchange's
+  -- a true message is the exchanges', of a job that the other box opened
   true_message : (w : World) (b : Box) (key : Key) (round : ℕ) (incoming : Incoming) → Invariant w → TrueMessage w.log b key round incoming
-      → line_words w.log incoming ≡ sent_by g.tapes book (other_box b) key round
+      → OtherSent b key round (line_words w.log incoming)
   true_message w b key round incoming f t =
       let e = event_at w.log t.place in
       let told : Uttered e = subst (λ (s : Said). Conforms e (kind_of s)) t.uttered (f.events t.place) in
-      ap (line_words w.log) t.named ∙ told.words ∙ rw (t.by, t.under, t.rounded)
+      record {
+        words_are = ap (line_words w.log) t.named ∙ told.words ∙ rw (t.by, t.under, t.rounded);
+        opened = rw (← t.by, ← t.under) told.own;
+      }
 
   -- calls that say nothing of an exchange
   quiet_wake : (m : Memory) (n side p : ℕ) (e : Event) → e.spoken ≡ []
@@ -385,11 +459,11 @@ module _ (g : Setting) (book : Box → Key → Lending) where
   quiet_wake m n side p e none =
       decide (λ r. Conforms e (kind_of (replied r.reply))) (wake_ground m.state n side m.tally) m.state m.tally _ (λ z. none) none
 
-  quiet_start : (m : Memory) (number : ℕ) (v : Lending) (tape : List ℕ) (e : Event) → e.spoken ≡ []
-      → Conforms e (kind_of (replied (start_rule m.state number v.x v.y tape m.work m.tally).reply))
+  quiet_start : (m : Memory) (first count : ℕ) (v : Lending) (tapes : List ℕ) (e : Event) → e.spoken ≡ []
+      → Conforms e (kind_of (replied (start_rule m.state first count v tapes m.work m.tally).reply))
   unfolding start_rule
-  quiet_start m number v tape e none =
-      decide (λ r. Conforms e (kind_of (replied r.reply))) (start_ground m.state number v.x v.y tape m.work m.tally) m.state m.tally _
+  quiet_start m first count v tapes e none =
+      decide (λ r. Conforms e (kind_of (replied r.reply))) (start_ground m.state first count v tapes m.work m.tally) m.state m.tally _
       (λ z. none) none
 
   quiet_drop : (m : Memory) (e : Event) → e.spoken ≡ [] → Conforms e (kind_of (replied (drop_rule m.state).reply))
@@ -400,30 +474,30 @@ module _ (g : Setting) (book : Box → Key → Lending) where
   cut_conforms s e none = subst (Conforms e) (sym (cut_plain s)) none
 
   -- one entry
-  pub invariant_next : (pair : ℕ) (orders : InOrder g pair) (place : ℕ) (w : World) (b : Box) (step : Step) → Invariant w → Keeps g place w b step → Booked place w b step
-      → Invariant (stepped g place w b step)
+  pub invariant_next : (pair : ℕ) (orders : InOrder g pair) (place : ℕ) (w : World) (b : Box) (step : Step) → Invariant w → Keeps g place w b step
+      → Booked place w b step → Invariant (stepped g place w b step)
   unfolding stepped
   invariant_next pair orders place w b (wake n side p) f keeps booked =
       after_invariant w b _ _ f (wake_holds b (memory_of w b) n side p (f.each b)) (quiet_wake (memory_of w b) n side p _ refl)
-  invariant_next pair orders place w b (start number lent) f keeps booked =
-      after_invariant w b _ _ f (start_holds b (memory_of w b) number (g.shares b place) (tape_words g lent) (f.each b) booked)
-      (quiet_start (memory_of w b) number (g.shares b place) (tape_words g lent) _ refl)
-  invariant_next pair orders place w b (speak number round lent out) f keeps booked =
-      let r = speak_holds pair orders b (memory_of w b) number round lent out (f.each b) keeps in
+  invariant_next pair orders place w b (start first count lent) f keeps booked =
+      after_invariant w b _ _ f (start_holds b (memory_of w b) first count (g.shares b place) (tape_words g lent) (f.each b) booked)
+      (quiet_start (memory_of w b) first count (g.shares b place) (tape_words g lent) _ refl)
+  invariant_next pair orders place w b (speak first round lent out) f keeps booked =
+      let r = speak_holds pair orders b (memory_of w b) first round lent out (f.each b) keeps in
       after_invariant w b _ _ f r.holds r.words
-  invariant_next pair orders place w b (hear number round lent incoming) f keeps booked =
+  invariant_next pair orders place w b (hear first round lent incoming) f keeps booked =
       let m = memory_of w b in
       let r =
-      subst (Heard b m number round (incoming_words g place m.state w.log incoming))
-      (sym (rule_lent g place m w.log number round lent incoming))
-      (hear_holds pair orders b m number round lent (line_words w.log incoming) _ (f.each b)
+      subst (Heard b m first round (incoming_words g place m.state w.log incoming))
+      (sym (rule_lent g place m w.log first round lent incoming))
+      (hear_holds pair orders b m first round lent (line_words w.log incoming) _ (f.each b)
       (λ zero_ground.
-      let k = keeps (ground_lent g place m w.log number round lent incoming ∙ zero_ground) in
-      (k.0, true_message w b (key_at m.state number) round incoming f k.1))) in
+      let k = keeps (ground_lent g place m w.log first round lent incoming ∙ zero_ground) in
+      (k.0, true_message w b (key_at m.state first) round incoming f k.1))) in
       after_invariant w b _ _ f r.holds r.answer
   invariant_next pair orders place w b drop f keeps booked =
       after_invariant w b _ _ f (drop_holds b (memory_of w b) (f.each b)) (quiet_drop (memory_of w b) _ refl)
   invariant_next pair orders place w b (cut room) f keeps booked =
       after_invariant w b _ _ f (cut_holds b place room (memory_of w b) _) (cut_conforms (memory_of w b).state _ refl)
-  invariant_next pair orders place w b (cut_start number lent mark room) f keeps booked =
+  invariant_next pair orders place w b (cut_start first count lent at mark room) f keeps booked =
       after_invariant w b _ _ f (cut_holds b place room (memory_of w b) _) (cut_conforms (memory_of w b).state _ refl)

@@ -1,20 +1,22 @@
--- A job's exchange: what the two boxes hold after each round, and the laws that a run goes by.
-use Prim.Native.Nat.{ℕ, zero, suc, ◌≤◌}
+-- A job's exchanges: what the two boxes hold after each round in each of the jobs that its start took, and the laws that a run goes by.
+use Prim.Native.Nat.{ℕ, zero, suc, ◌<◌, ◌≤◌}
 use mathlib.Core.Path.{◌≡◌, refl, sym}
 use mathlib.Core.Bool.{true}
 use mathlib.Core.List.{List}
 use native.Mathlib.Nat.{le_of_eq}
 use lib.ListN.{length, length-replicate}
+use Rattle.lists.proofs.Joined.{part_chained}
 use Rattle.field.specs.Width.{listed}
 use Rattle.tape.specs.Order.{in_order}
 use Rattle.protocol.specs.Work.{work_length}
-use Rattle.protocol.specs.Rounds.{earlier_rounds, last_round, message, after_hearing, answer_share}
+use Rattle.protocol.specs.Rounds.{earlier_rounds, last_round, round_words, message, after_hearing, answer_share}
 use Rattle.protocol.specs.Exchange.{Both, exchanged, sent_own, sent_others, answer_own, answer_others}
-use Rattle.protocol.proofs.Lengths.{after_length}
+use Rattle.protocol.proofs.Lengths.{message_length, after_length}
+use Rattle.rules.specs.Batches.{words_part}
 use Rattle.guarantees.specs.Boxes.{Box, box1, box2, side_of, other_box}
 use Rattle.guarantees.specs.Keys.{Key}
 use Rattle.guarantees.specs.Run.{Lending, Setting}
-use Rattle.guarantees.specs.Jobs.{blank, party_at, sent_by, answer_by}
+use Rattle.guarantees.specs.Jobs.{blank, party_at, sent_in, answer_in, sent_by}
 
 -- the dealt tapes are in order
 abbrev pub InOrder : Setting → ℕ → Type 0
@@ -22,41 +24,52 @@ InOrder g pair = (c : Box) (number n : ℕ) → listed n ≡ true → in_order n
 
 -- tapes by box, number and width, and the shares that opened each job
 module _ (tapes : Box → ℕ → ℕ → List ℕ) (book : Box → Key → Lending) where
-  abbrev both : Key → ℕ → Both
-  both key r = exchanged (party_at tapes book box1 key) (party_at tapes book box2 key) (blank key.width) r
+  abbrev both : Key → ℕ → ℕ → Both
+  both key i r = exchanged (party_at tapes book box1 key i) (party_at tapes book box2 key i) (blank key.width) r
 
-  -- what box b holds after r rounds
-  abbrev pub holding : Box → Key → ℕ → List ℕ
-  holding box1 key r = (both key r).own
-  holding box2 key r = (both key r).others
+  -- what box b holds of job i after r rounds
+  abbrev pub holding : Box → Key → ℕ → ℕ → List ℕ
+  holding box1 key i r = (both key i r).own
+  holding box2 key i r = (both key i r).others
 
   -- ---- the laws that a run goes by
 
-  pub sent_is : (b : Box) (key : Key) (r : ℕ) → sent_by tapes book b key (suc r) ≡ message (party_at tapes book b key) (holding b key r) (suc r)
+  pub sent_is : (b : Box) (key : Key) (i r : ℕ)
+      → sent_in tapes book b key i (suc r) ≡ message (party_at tapes book b key i) (holding b key i r) (suc r)
   unfolding sent_own sent_others
-  sent_is box1 key r = refl
-  sent_is box2 key r = refl
+  sent_is box1 key i r = refl
+  sent_is box2 key i r = refl
 
-  pub holding_next : (b : Box) (key : Key) (r : ℕ)
-      → holding b key (suc r)
-      ≡ after_hearing (party_at tapes book b key) (holding b key r) (suc r) (sent_by tapes book (other_box b) key (suc r))
+  pub holding_next : (b : Box) (key : Key) (i r : ℕ)
+      → holding b key i (suc r)
+      ≡ after_hearing (party_at tapes book b key i) (holding b key i r) (suc r) (sent_in tapes book (other_box b) key i (suc r))
   unfolding exchanged sent_own sent_others
-  holding_next box1 key r = refl
-  holding_next box2 key r = refl
+  holding_next box1 key i r = refl
+  holding_next box2 key i r = refl
 
-  pub answer_is : (b : Box) (key : Key)
-      → answer_by tapes book b key ≡ answer_share (party_at tapes book b key) (holding b key earlier_rounds) (sent_by tapes book (other_box b) key last_round)
+  pub answer_is : (b : Box) (key : Key) (i : ℕ)
+      → answer_in tapes book b key i
+      ≡ answer_share (party_at tapes book b key i) (holding b key i earlier_rounds) (sent_in tapes book (other_box b) key i last_round)
   unfolding answer_own answer_others sent_own sent_others
-  answer_is box1 key = refl
-  answer_is box2 key = refl
+  answer_is box1 key i = refl
+  answer_is box2 key i = refl
 
-  pub holding_room : (b : Box) (key : Key) (r : ℕ) → work_length key.width ≤ length (holding b key r)
+  pub holding_room : (b : Box) (key : Key) (i r : ℕ) → work_length key.width ≤ length (holding b key i r)
   unfolding exchanged
-  holding_room box1 key zero = le_of_eq (sym (length-replicate (work_length key.width) 0))
-  holding_room box2 key zero = le_of_eq (sym (length-replicate (work_length key.width) 0))
-  holding_room box1 key (suc r) =
-      rw (after_length (party_at tapes book box1 key) (holding box1 key r) (message (party_at tapes book box2 key) (holding box2 key r) (suc r)) (suc r))
-      (holding_room box1 key r)
-  holding_room box2 key (suc r) =
-      rw (after_length (party_at tapes book box2 key) (holding box2 key r) (message (party_at tapes book box1 key) (holding box1 key r) (suc r)) (suc r))
-      (holding_room box2 key r)
+  holding_room box1 key i zero = le_of_eq (sym (length-replicate (work_length key.width) 0))
+  holding_room box2 key i zero = le_of_eq (sym (length-replicate (work_length key.width) 0))
+  holding_room box1 key i (suc r) =
+      let own = party_at tapes book box1 key i in
+      let others = party_at tapes book box2 key i in
+      rw (after_length own (holding box1 key i r) (message others (holding box2 key i r) (suc r)) (suc r)) (holding_room box1 key i r)
+  holding_room box2 key i (suc r) =
+      let own = party_at tapes book box2 key i in
+      let others = party_at tapes book box1 key i in
+      rw (after_length own (holding box2 key i r) (message others (holding box1 key i r) (suc r)) (suc r)) (holding_room box2 key i r)
+
+  -- a job's part of what is sent
+  pub sent_part : (b : Box) (key : Key) (i r : ℕ) → i < key.count
+      → words_part key.width (suc r) (sent_by tapes book b key (suc r)) i ≡ sent_in tapes book b key i (suc r)
+  sent_part b key i r less =
+      part_chained key.count (round_words key.width (suc r)) (λ k. sent_in tapes book b key k (suc r)) i less
+      (λ k l. rw (sent_is b key k r) (message_length (party_at tapes book b key k) (holding b key k r) (suc r)))

@@ -10,6 +10,7 @@ pub mod Invariant
 pub mod LowModes
 pub mod Refusals
 pub mod StepConsistency
+pub mod Tapes
 pub mod SameGrounds
 pub mod Fitting
 pub mod Schedule
@@ -23,4 +24,5 @@ pub mod Secrecy
 pub mod Counting
 pub mod AnyTapes
 pub mod Correctness
+pub mod Premises
 pub mod Possible

@@ -1,29 +1,24 @@
 -- Low equivalence: what two runs over one list have in common at every place when they differ in tapes, in-range shares, words of
 -- work and spelled zeros only.
-use Prim.Native.Nat.{ℕ, ◌<◌}
+use Prim.Native.Nat.{ℕ}
 use mathlib.Core.Path.{◌≡◌}
 use lib.ListN.{length}
-use Rattle.field.specs.Width.{modulus}
-use Rattle.rules.specs.declared.state.Turn.{Turn}
-use Rattle.rules.specs.declared.state.Phase.{Phase}
-use Rattle.rules.specs.declared.state.Phase.TheVariants.{Job}
+use Rattle.rules.specs.Modes.{in_range}
 use Rattle.rules.specs.declared.state.State.{State}
 use Rattle.guarantees.specs.Run.{Memory, Event, World, memory_of, event_at}
 use Rattle.guarantees.specs.Boxes.{Box}
 use Rattle.guarantees.specs.View.{covered}
 
--- the same phase, or a job with the same turn and number and other shares, all in range
-pub data LowPhase (n : ℕ) : Phase → Phase → Type 0 where
-  same : (p : Phase) → LowPhase n p p
-  jobs : (turn : Turn) (number x y x' y' : ℕ) → x < modulus n → y < modulus n → x' < modulus n → y' < modulus n
-      → LowPhase n (Job turn number x y) (Job turn number x' y')
-
+-- all but the shares: these are in range in both, or outside a job not looked at in both, so the states count as the same
 pub record LowState (s s' : State) : Type 0 where
   pub n : s.n ≡ s'.n
   pub side : s.side ≡ s'.side
   pub pair : s.pair ≡ s'.pair
   pub tally : s.tally ≡ s'.tally
-  pub phase : LowPhase s.n s.phase s'.phase
+  pub phase : s.phase ≡ s'.phase
+  pub first : s.batch.first ≡ s'.batch.first
+  pub count : s.batch.count ≡ s'.batch.count
+  pub ranged : in_range s ≡ in_range s'
 
 pub record LowMemory (m m' : Memory) : Type 0 where
   pub state : LowState m.state m'.state

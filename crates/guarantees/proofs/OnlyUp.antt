@@ -1,14 +1,12 @@
 -- The numbers of the jobs that a box opens only go up, proved: what is spent stays spent, and a start that is taken is above all that is spent.
-use Prim.Native.Nat.{ℕ, suc, ◌<◌, ◌≤◌}
+use Prim.Native.Nat.{ℕ, suc, ◌+◌, ◌-◌, ◌<◌, ◌≤◌}
 use mathlib.Core.Path.{◌≡◌, refl, sym, ap, subst, ◌∙◌}
 use mathlib.Core.Bool.{Bool, true, false, true≢false}
 use mathlib.Core.List.{List, [], ◌∷◌, ◌++◌, append_assoc}
 use mathlib.Core.Logic.{◌⊎◌, inl, inr, ⊎_elim}
 use native.Mathlib.Nat.{eq-or-lt_of_le}
 use native.Mathlib.Omega.{arith}
-use borrow.Author.Tests.{eq-eqb}
 use lib.ListN.{length}
-use Rattle.lists.proofs.Tests.{and_both}
 use Rattle.tally.specs.Tally.{is_fresh}
 use Rattle.tally.proofs.Late.{spent_below}
 use Rattle.rules.specs.Answers.{started}
@@ -16,12 +14,11 @@ use Rattle.guarantees.specs.Boxes.{Box}
 use Rattle.guarantees.specs.Keys.{Key}
 use Rattle.guarantees.specs.Entries.{Entry}
 use Rattle.guarantees.specs.Run.{Setting, replied, Event, World, memory_of, event_at, stepped, run}
-use Rattle.guarantees.specs.Maps.{same_box, opens}
 use Rattle.guarantees.specs.Outcomes.{kind_of, is_opening}
 use Rattle.guarantees.specs.Correctness.{Happened}
 use Rattle.guarantees.specs.OnlyUp.{SpentAt, OnlyUp}
 use Rattle.guarantees.proofs.Logs.{event_at_lem}
-use Rattle.guarantees.proofs.Openings.{same_self, Taken, OneMore, one_more, next_place, run_grows}
+use Rattle.guarantees.proofs.Openings.{takes_lem, Taken, OneMore, one_more, next_place, run_grows}
 
 -- ---- one entry
 
@@ -58,26 +55,44 @@ module _ (g : Setting) where
       (rest.is ∙ ap (λ (l : List Event). l ++ rest.more) one.is ∙ append_assoc w.log (one.event ∷ []) rest.more)
       ∙ event_at_lem w.log one.event rest.more
 
-  -- a job that it opens
-  first_taken : (place : ℕ) (w : World) (e : Entry) (es : List Entry) (b : Box) (key : Key)
-      → Happened (run g place w (e ∷ es)).log (length w.log) b key (replied started)
-      → Taken (memory_of w b).tally (memory_of (stepped g place w e.box e.step) b).tally key.number
-  first_taken place w e es b key h =
-      let one = one_more g place w e.box e.step in
-      let there = first_event place w e es in
-      one.taken b key.number
-      (subst (λ (d : Event). opens b key.number d ≡ true) there
-      (and_both
-      (and_both (ap (same_box b) h.box ∙ same_self b) (eq-eqb key.number _ (ap (λ (k : Key). k.number) (sym h.under))))
-      (ap (λ s. is_opening (kind_of s)) h.said_is)))
+  -- it opens that job
+  record Opens (b : Box) (key : Key) (d : Event) : Type 0 where
+    box : d.box ≡ b
+    under : d.key ≡ key
+    told : is_opening (kind_of d.said) ≡ true
+
+  first_opens : (place : ℕ) (w : World) (e : Entry) (es : List Entry) (b : Box) (key : Key)
+      → Happened (run g place w (e ∷ es)).log (length w.log) b key (replied started) → Opens b key (one_more g place w e.box e.step).event
+  first_opens place w e es b key h =
+      subst (Opens b key) (first_event place w e es)
+      (record { box = h.box; under = h.under; told = ap (λ s. is_opening (kind_of s)) h.said_is })
+
+  -- so it takes the job's numbers, and there is one
+  module _ (place : ℕ) (w : World) (e : Entry) (es : List Entry) (b : Box) (key : Key)
+      (h : Happened (run g place w (e ∷ es)).log (length w.log) b key (replied started)) where
+    all_taken : (number : ℕ) → key.first ≤ number → number < key.first + key.count
+        → Taken (memory_of w b).tally (memory_of (stepped g place w e.box e.step) b).tally number
+    all_taken number from below =
+        let one = one_more g place w e.box e.step in
+        let o = first_opens place w e es b key h in
+        one.taken b number
+        (takes_lem b number one.event (record { box = sym o.box; from = rw o.under from; below = rw o.under below; told = o.told }))
+
+    some_taken : 0 < key.count
+    some_taken =
+        let o = first_opens place w e es b key h in
+        rw (← o.under) ((one_more g place w e.box e.step).some o.told)
 
   above : (place : ℕ) (w : World) (es : List Entry) (b : Box) (number later : ℕ) (key : Key) → SpentAt w b number → length w.log ≤ later
-      → Happened (run g place w es).log later b key (replied started) → number < key.number
+      → Happened (run g place w es).log later b key (replied started) → number < key.first
   above place w [] b number later key s from h = absurd (omega (arith, h.within, from))
   above place w (e ∷ es) b number later key s from h =
       let one = one_more g place w e.box e.step in
       ⊎_elim
-      (λ here. taken_above w b _ number key.number (first_taken place w e es b key (rw (← here) at h)) s)
+      (λ here.
+      let opened = rw (← here) at h in
+      taken_above w b _ number key.first
+      (all_taken place w e es b key opened key.first (omega arith) (omega (arith, some_taken place w e es b key opened))) s)
       (λ past.
       above (suc place) (stepped g place w e.box e.step) es b number later key (spent_next w _ one b number s)
       (rw (next_place g place w e.box e.step) past) h)
@@ -86,7 +101,7 @@ module _ (g : Setting) where
   -- from a point on
   rising : (place : ℕ) (w : World) (es : List Entry) (b : Box) (earlier later : ℕ) (key key' : Key) → length w.log ≤ earlier → earlier < later
       → Happened (run g place w es).log earlier b key (replied started) → Happened (run g place w es).log later b key' (replied started)
-      → key.number < key'.number
+      → key.first + key.count ≤ key'.first
   rising place w [] b earlier later key key' from less h h' = absurd (omega (arith, h.within, from))
   rising place w (e ∷ es) b earlier later key key' from less h h' =
       let one = one_more g place w e.box e.step in
@@ -94,9 +109,12 @@ module _ (g : Setting) where
       let long = next_place g place w e.box e.step in
       ⊎_elim
       (λ here.
-      above (suc place) next es b key.number later key'
-      (taken_spent w next one b key.number (first_taken place w e es b key (rw (← here) at h)))
-      (omega (arith, here, less, long)) h')
+      let opened = rw (← here) at h in
+      let some = some_taken place w e es b key opened in
+      -- the highest of the earlier job's numbers
+      let highest = key.first + (key.count - 1) in
+      let spent = taken_spent w next one b highest (all_taken place w e es b key opened highest (omega arith) (omega (arith, some))) in
+      omega (arith, above (suc place) next es b highest later key' spent (omega (arith, here, less, long)) h'))
       (λ past. rising (suc place) next es b earlier later key key' (omega (arith, past, long)) less h h')
       (eq-or-lt_of_le from)
 

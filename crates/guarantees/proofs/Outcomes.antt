@@ -2,7 +2,8 @@
 use Prim.Native.Nat.{ℕ}
 use mathlib.Core.Path.{◌≡◌, refl, sym, ap, ◌∙◌}
 use mathlib.Core.Bool.{Bool, true, false, cond, false≢true}
-use Rattle.rules.specs.Answers.{fresh, started, spoke, heard, share, dropped, refused}
+use mathlib.Core.List.{List, []}
+use Rattle.rules.specs.Answers.{fresh, started, spoke, heard, finished, dropped, refused}
 use Rattle.rules.specs.Modes.{mode_of, in_job}
 use Rattle.rules.specs.declared.state.State.{State}
 use Rattle.guarantees.specs.Boxes.{Box, box1, box2, other_box}
@@ -29,8 +30,8 @@ pub record MessageOf (s : Said) : Type 0 where
   pub is : s ≡ replied (spoke count)
 
 pub record AnswerOf (s : Said) : Type 0 where
-  pub value : ℕ
-  pub is : s ≡ replied (share value)
+  pub values : List ℕ
+  pub is : s ≡ replied (finished values)
 
 abbrev pub OfKind : Said → Kind → Type 0
 OfKind s opening = s ≡ replied started
@@ -51,7 +52,7 @@ known (replied (fresh k)) = record { of_kind = tt; kept = refl; shown = λ e. re
 known (replied started) = record { of_kind = refl; kept = refl; shown = λ e. refl }
 known (replied (spoke k)) = record { of_kind = record { count = k; is = refl }; kept = refl; shown = λ e. refl }
 known (replied heard) = record { of_kind = tt; kept = refl; shown = λ e. refl }
-known (replied (share v)) = record { of_kind = record { value = v; is = refl }; kept = refl; shown = λ e. absurd (false≢true (sym e)) }
+known (replied (finished vs)) = record { of_kind = record { values = vs; is = refl }; kept = refl; shown = λ e. absurd (false≢true (sym e)) }
 known (replied dropped) = record { of_kind = tt; kept = refl; shown = λ e. refl }
 known (replied (refused k)) = record { of_kind = tt; kept = refl; shown = λ e. refl }
 
@@ -92,19 +93,19 @@ answer_of s = go (kind_of s) (known s).of_kind
     go answer is e = is
     go plain is e = absurd (false≢true e)
 
--- an answer has one share
-pub share_is : {v v' : ℕ} → replied (share v) ≡ replied (share v') → v ≡ v'
+-- an answer has one list of shares
+pub shares_are : {vs vs' : List ℕ} → replied (finished vs) ≡ replied (finished vs') → vs ≡ vs'
 unfolding known
-share_is e = ap share_in e
+shares_are e = ap shares_in e
   where
-    share_in : Said → ℕ
-    share_in s = given (kind_of s) (known s).of_kind
+    shares_in : Said → List ℕ
+    shares_in s = given (kind_of s) (known s).of_kind
       where
-        given : (k : Kind) → OfKind s k → ℕ
-        given opening is = 0
-        given message is = 0
-        given answer is = is.value
-        given plain is = 0
+        given : (k : Kind) → OfKind s k → List ℕ
+        given opening is = []
+        given message is = []
+        given answer is = is.values
+        given plain is = []
 
 -- ---- the same but for answer shares
 
@@ -112,7 +113,7 @@ pub kind_same : (s s' : Said) → covered s ≡ covered s' → kind_of s ≡ kin
 kind_same s s' e = sym (known s).kept ∙ ap kind_of e ∙ (known s').kept
 
 -- and these the same too
-pub uncover : (s s' : Said) → covered s ≡ covered s' → ((v v' : ℕ) → s ≡ replied (share v) → s' ≡ replied (share v') → v ≡ v') → s ≡ s'
+pub uncover : (s s' : Said) → covered s ≡ covered s' → ((vs vs' : List ℕ) → s ≡ replied (finished vs) → s' ≡ replied (finished vs') → vs ≡ vs') → s ≡ s'
 uncover s s' e shares = go (is_answer (kind_of s)) refl
   where
     too : is_answer (kind_of s') ≡ is_answer (kind_of s)
@@ -123,7 +124,7 @@ uncover s s' e shares = go (is_answer (kind_of s)) refl
     go true q =
         let v = answer_of s q in
         let v' = answer_of s' (too ∙ q) in
-        v.is ∙ ap (λ (k : ℕ). replied (share k)) (shares v.value v'.value v.is v'.is) ∙ sym v'.is
+        v.is ∙ ap (λ (vs : List ℕ). replied (finished vs)) (shares v.values v'.values v.is v'.is) ∙ sym v'.is
 
 pub uncover_message : (s : Said) (k : ℕ) → covered s ≡ replied (spoke k) → s ≡ replied (spoke k)
 uncover_message s k e = sym ((known s).shown (ap is_answer (sym (known s).kept ∙ ap kind_of e))) ∙ e

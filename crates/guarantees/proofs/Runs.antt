@@ -9,25 +9,29 @@ use Rattle.guarantees.specs.Run.{Setting, Event, World, stepped, run}
 use Rattle.guarantees.specs.Premises.{Meets, AllCompatible}
 use Rattle.guarantees.proofs.Openings.{one_more, next_place}
 use Rattle.guarantees.proofs.Once.{Marked, marked_next}
-use Rattle.guarantees.proofs.Books.{book_of, booked, booked_too}
+use Rattle.guarantees.proofs.Books.{Took, book_of, booked, booked_too}
 use Rattle.guarantees.proofs.Unwinding.{Alike, Related, same_ground, related_next}
 use Rattle.guarantees.proofs.SameGrounds.{compatible_back, keeps_too}
 
-module _ (b : Box) (g g' : Setting) (pair : ℕ) (log : List Event) (a : Alike b g g' pair (book_of g.shares log) (book_of g'.shares log)) where
+-- what the first run's log has of the jobs: each box's shares, as a table of shares gives them, and the keys that it opened
+module _ (b : Box) (g g' : Setting) (pair : ℕ) (log : List Event)
+    (a : Alike b g g' pair (book_of g.shares log) (book_of g'.shares log) (Took log)) where
+  abbrev pub Beside : World → World → Type 0
+  Beside w w' = Related b g g' pair (book_of g.shares log) (book_of g'.shares log) (Took log) w w'
+
   pub record Both (es : List Entry) (place : ℕ) (w w' : World) : Type 0 where
-    pub related : Related b g g' pair (book_of g.shares log) (book_of g'.shares log) (run g place w es) (run g' place w' es)
+    pub related : Beside (run g place w es) (run g' place w' es)
     pub meets : Meets g' place w' es
     pub compatible : AllCompatible g.shares g' place w' es
 
-  pub both : (es : List Entry) (place : ℕ) (w w' : World)
-      → Related b g g' pair (book_of g.shares log) (book_of g'.shares log) w w' → Marked w → length w.log ≡ place
+  pub both : (es : List Entry) (place : ℕ) (w w' : World) → Beside w w' → Marked w → length w.log ≡ place
       → (run g place w es).log ≡ log → Meets g place w es → AllCompatible g'.shares g place w es → Both es place w w'
   both [] place w w' j marked at end meets compatible = record { related = j; meets = tt; compatible = tt }
   both (e ∷ es) place w w' j marked at end meets compatible =
-      let f = same_ground b g g' pair _ _ a w w' j place e.box e.step compatible.0 in
+      let f = same_ground b g g' pair _ _ _ a w w' j place e.box e.step compatible.0 in
       let rest =
       both es (suc place) (stepped g place w e.box e.step) (stepped g' place w' e.box e.step)
-      (related_next b g g' pair _ _ a w w' j place e.box e.step meets.0 compatible.0
+      (related_next b g g' pair _ _ _ a w w' j place e.box e.step meets.0 compatible.0
       (booked g log es place w e.box marked at e.step end)
       (booked_too g log es place w e.box marked at g' w' e.step j.low f end))
       (marked_next w _ (one_more g place w e.box e.step) marked)

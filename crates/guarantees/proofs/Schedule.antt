@@ -2,16 +2,13 @@
 -- the first does and no hear is lent a message of a larger width. The second then meets them too.
 use Prim.Native.Nat.{ℕ, suc}
 use mathlib.Core.Path.{◌≡◌, refl, sym, ap, ◌∙◌}
-use mathlib.Core.Bool.{Bool, true, false, not, cond, true≢false}
-use mathlib.Core.List.{List, [], ◌∷◌, ◌++◌}
+use mathlib.Core.Bool.{Bool, true, false, true≢false}
+use mathlib.Core.List.{List, [], ◌∷◌}
 use native.Mathlib.Nat.{le_of_eq}
 use lib.ListN.{length}
-use Rattle.refusals.specs.Numbers.{number_of}
-use Rattle.refusals.specs.declared.Refusal.{Refusal}
-use Rattle.refusals.specs.declared.Refusal.TheVariants.{Word}
-use Rattle.refusals.specs.Grounds.{Ground, ◌when◌, earliest_of}
+use Rattle.refusals.specs.Grounds.{earliest_of}
 use Rattle.refusals.proofs.Chains.{first_none, both_none}
-use Rattle.rules.specs.Grounds.{turn_grounds, words_fit, hear_ground}
+use Rattle.rules.specs.Grounds.{turn_grounds, word_grounds, words_fit, hear_ground}
 use Rattle.rules.specs.declared.state.Turn.TheVariants.{Hear}
 use Rattle.rules.specs.declared.state.State.{State}
 use Rattle.guarantees.specs.Boxes.{Box}
@@ -23,76 +20,62 @@ use Rattle.guarantees.specs.Premises.{TrueMessage, Keeps, Meets, Compatible, All
 use Rattle.guarantees.specs.AnyTapes.{NotWider, Narrow, AllNarrow}
 use Rattle.guarantees.proofs.LowEquivalence.{LowState, LowEquivalent}
 use Rattle.rules.proofs.Passed.{hear_passed}
-use Rattle.guarantees.proofs.LowModes.{asleep_same, job_same, due_same}
-use Rattle.guarantees.proofs.Refusals.{OrderAlike, speak_same, hear_same}
+use Rattle.guarantees.proofs.Refusals.{TapesAlike, turn_same, speak_same, hear_same}
 use Rattle.guarantees.proofs.StepConsistency.{SameGround, step_consistent}
 use Rattle.guarantees.proofs.Outcomes.{message_of_lem, uncover_message}
 use Rattle.guarantees.proofs.Deliveries.{ground_lent}
 use Rattle.guarantees.proofs.Fitting.{Fitting, fitting_next}
 use Rattle.guarantees.proofs.Jobs.{InOrder}
-use Rattle.guarantees.proofs.SameGrounds.{order_same, start_ground_lem, compatible_back, key_same, true_too, true_back, keeps_too}
+use Rattle.guarantees.proofs.Tapes.{tapes_alike}
+use Rattle.guarantees.proofs.SameGrounds.{start_ground_lem, compatible_back, key_same, true_too, true_back, keeps_too}
 
 -- ---- refused alike before the last ground
 
--- where a ground before the last one holds, the last one does not count
-last_free : (gs : List Ground) (refusal : Refusal) (t : Bool) → (earliest_of (gs ++ ((refusal when false) ∷ [])) ≡ 0 → ⊥)
-    → earliest_of (gs ++ ((refusal when false) ∷ [])) ≡ earliest_of (gs ++ ((refusal when t) ∷ []))
-last_free [] refusal t some = absurd (some refl)
-last_free (g ∷ gs) refusal t some = skip g.holds (number_of g.refusal) _ _ (last_free gs refusal t) some
-  where
-    skip : (b : Bool) (k u v : ℕ) → ((u ≡ 0 → ⊥) → u ≡ v) → (cond b k u ≡ 0 → ⊥) → cond b k u ≡ cond b k v
-    skip true k u v rest nonzero = refl
-    skip false k u v rest nonzero = rest nonzero
+-- past every other ground a hear looks at the words
+words_last : (s : State) (first round : ℕ) (tapes work incoming : List ℕ) → earliest_of (turn_grounds s first (Hear round) tapes work incoming) ≡ 0
+    → hear_ground s first round tapes work incoming ≡ earliest_of (word_grounds s.n incoming)
+unfolding hear_ground
+words_last s first round tapes work incoming passed =
+    first_none (turn_grounds s first (Hear round) tapes work incoming) (word_grounds s.n incoming) passed
 
-module _ {s s' : State} (number round : ℕ) (tape tape' work work' incoming incoming' : List ℕ) (t : LowState s s')
-    (room : length work ≡ length work') (order : OrderAlike s number tape tape') (long : length incoming ≡ length incoming') where
-  abbrev early : List Ground
-  early = turn_grounds s number (Hear round) tape work incoming
+-- and takes those that fit
+words_taken : (s : State) (first round : ℕ) (tapes work incoming : List ℕ) → earliest_of (turn_grounds s first (Hear round) tapes work incoming) ≡ 0
+    → words_fit s.n incoming ≡ true → hear_ground s first round tapes work incoming ≡ 0
+words_taken s first round tapes work incoming passed fits = words_last s first round tapes work incoming passed ∙ rw fits refl
 
-  -- the second run's ground, by the first run's tests but for the words
-  hear_early : hear_ground s' number round tape' work' incoming' ≡ earliest_of (early ++ ((Word when not (words_fit s.n incoming')) ∷ []))
-  unfolding hear_ground
-  hear_early = rw (asleep_same t, job_same t, due_same number (Hear round) t, order, room, long, t.n, t.side, t.pair)
+-- a hear that is taken passed them
+turn_taken : (s : State) (first round : ℕ) (tapes work incoming : List ℕ) → hear_ground s first round tapes work incoming ≡ 0
+    → earliest_of (turn_grounds s first (Hear round) tapes work incoming) ≡ 0
+unfolding hear_ground
+turn_taken s first round tapes work incoming taken =
+    (both_none (turn_grounds s first (Hear round) tapes work incoming) (word_grounds s.n incoming) taken).0
 
-  hear_own : hear_ground s number round tape work incoming ≡ earliest_of (early ++ ((Word when not (words_fit s.n incoming)) ∷ []))
-  unfolding hear_ground
-  hear_own = refl
+module _ {s s' : State} (t : LowState s s') (first round : ℕ) (tapes tapes' work work' incoming incoming' : List ℕ)
+    (lent : TapesAlike s s.batch.first s.batch.count tapes tapes') (room : length work ≡ length work') (long : length incoming ≡ length incoming') where
+  turns : earliest_of (turn_grounds s first (Hear round) tapes work incoming) ≡ earliest_of (turn_grounds s' first (Hear round) tapes' work' incoming')
+  turns = turn_same t first (Hear round) tapes tapes' work work' incoming incoming' lent room long
 
-  -- refused before the last ground in the first run
-  hear_before : words_fit s.n incoming ≡ true → (hear_ground s number round tape work incoming ≡ 0 → ⊥)
-      → hear_ground s number round tape work incoming ≡ hear_ground s' number round tape' work' incoming'
-  hear_before fits some =
-      let own = hear_own ∙ ap (λ (b : Bool). earliest_of (early ++ ((Word when not b) ∷ []))) fits in
-      own ∙ last_free early Word (not (words_fit s.n incoming')) (λ z. some (own ∙ z)) ∙ sym hear_early
-
-  -- or in the second
-  hear_after : words_fit s.n incoming' ≡ true → (hear_ground s' number round tape' work' incoming' ≡ 0 → ⊥)
-      → hear_ground s number round tape work incoming ≡ hear_ground s' number round tape' work' incoming'
-  hear_after fits some =
-      let there = hear_early ∙ ap (λ (b : Bool). earliest_of (early ++ ((Word when not b) ∷ []))) fits in
-      hear_own ∙ sym (last_free early Word (not (words_fit s.n incoming)) (λ z. some (there ∙ z))) ∙ sym there
-
-  -- taken in the second run, a message with a word p or more is refused with 13 in the first
-  hear_thirteen : hear_ground s' number round tape' work' incoming' ≡ 0 → words_fit s.n incoming ≡ false
-      → hear_ground s number round tape work incoming ≡ 13
+  -- taken in the second run, a message with a word above p is refused with 13 in the first
+  hear_thirteen : hear_ground s' first round tapes' work' incoming' ≡ 0 → words_fit s.n incoming ≡ false
+      → hear_ground s first round tapes work incoming ≡ 13
   hear_thirteen taken unfit =
-      let passed = (both_none early ((Word when not (words_fit s.n incoming')) ∷ []) (sym hear_early ∙ taken)).0 in
-      hear_own
-      ∙ ap (λ (b : Bool). earliest_of (early ++ ((Word when not b) ∷ []))) unfit
-      ∙ first_none early ((Word when true) ∷ []) passed
+      words_last s first round tapes work incoming (turns ∙ turn_taken s' first round tapes' work' incoming' taken) ∙ rw unfit refl
 
   -- where a message that is taken in one run fits in the other, both refuse alike
-  hear_alike : (hear_ground s number round tape work incoming ≡ 0 → words_fit s.n incoming' ≡ true)
-      → (hear_ground s' number round tape' work' incoming' ≡ 0 → words_fit s.n incoming ≡ true)
-      → hear_ground s number round tape work incoming ≡ hear_ground s' number round tape' work' incoming'
-  hear_alike there back = go (words_fit s.n incoming) (words_fit s.n incoming') refl refl
+  hear_alike : (hear_ground s first round tapes work incoming ≡ 0 → words_fit s.n incoming' ≡ true)
+      → (hear_ground s' first round tapes' work' incoming' ≡ 0 → words_fit s.n incoming ≡ true)
+      → hear_ground s first round tapes work incoming ≡ hear_ground s' first round tapes' work' incoming'
+  hear_alike there back =
+      hear_same t first round tapes tapes' work work' incoming incoming' lent room long
+      (λ passed. go passed (words_fit s.n incoming) (words_fit s.n incoming') refl refl)
     where
-      go : (u v : Bool) → words_fit s.n incoming ≡ u → words_fit s.n incoming' ≡ v
-          → hear_ground s number round tape work incoming ≡ hear_ground s' number round tape' work' incoming'
-      go true true p q = hear_same number round tape tape' work work' incoming incoming' t room order long (p ∙ sym q)
-      go false false p q = hear_same number round tape tape' work work' incoming incoming' t room order long (p ∙ sym q)
-      go true false p q = hear_before p (λ z. true≢false (sym (there z) ∙ q))
-      go false true p q = hear_after q (λ z. true≢false (sym (back z) ∙ p))
+      go : earliest_of (turn_grounds s first (Hear round) tapes work incoming) ≡ 0 → (u v : Bool) → words_fit s.n incoming ≡ u → words_fit s.n incoming' ≡ v
+          → words_fit s.n incoming ≡ words_fit s.n incoming'
+      go passed true true p q = p ∙ sym q
+      go passed false false p q = p ∙ sym q
+      go passed true false p q = absurd (true≢false (sym (there (words_taken s first round tapes work incoming passed p)) ∙ q))
+      go passed false true p q =
+          absurd (true≢false (sym (back (words_taken s' first round tapes' work' incoming' (sym turns ∙ passed) (rw (← t.n) q))) ∙ p))
 
 -- ---- two runs
 
@@ -117,37 +100,37 @@ module _ (g g' : Setting) (pair : ℕ) (orders : InOrder g pair) (orders' : InOr
   -- what the second run asks of the first: a message taken there has its words below p here
   abbrev Below : World → World → Box → Step → Type 0
   Below w w' c (wake n side p) = Unit {0}
-  Below w w' c (start number lent) = Unit {0}
-  Below w w' c (speak number round lent out) = Unit {0}
-  Below w w' c (hear number round lent incoming) =
-      hear_ground (memory_of w' c).state number round (tape_words g' lent) (memory_of w' c).work (line_words w'.log incoming) ≡ 0
+  Below w w' c (start first count lent) = Unit {0}
+  Below w w' c (speak first round lent out) = Unit {0}
+  Below w w' c (hear first round lent incoming) =
+      hear_ground (memory_of w' c).state first round (tape_words g' lent) (memory_of w' c).work (line_words w'.log incoming) ≡ 0
       → words_fit (memory_of w c).state.n (line_words w.log incoming) ≡ true
   Below w w' c drop = Unit {0}
   Below w w' c (cut room) = Unit {0}
-  Below w w' c (cut_start number lent mark room) = Unit {0}
+  Below w w' c (cut_start first count lent at mark room) = Unit {0}
 
   same_ground : (place : ℕ) (w w' : World) (c : Box) (step : Step) → Comparable w w' → Compatible g'.shares g place w c step
       → Keeps g place w c step → Below w w' c step → SameGround g g' place w w' c step
   same_ground place w w' c (wake n side p) j h keeps below = tt
-  same_ground place w w' c (start number lent) j h keeps below = start_ground_lem g g' pair orders orders' w w' j.low place c number lent h.0 h.1
-  same_ground place w w' c (speak number round lent out) j h keeps below =
+  same_ground place w w' c (start first count lent) j h keeps below = start_ground_lem g g' pair orders orders' w w' j.low place c first count lent h
+  same_ground place w w' c (speak first round lent out) j h keeps below =
       let s = (memory_of w c).state in
       let t = j.low.memories c in
-      speak_same number round _ _ _ _ out t.state t.room (order_same g g' pair orders orders' s.n s.pair s.side number lent)
-  same_ground place w w' c (hear number round lent incoming) j h keeps below =
+      speak_same t.state first round _ _ _ _ out (tapes_alike g g' pair orders orders' s s.batch.first s.batch.count lent) t.room
+  same_ground place w w' c (hear first round lent incoming) j h keeps below =
       let s = (memory_of w c).state in
       let t = j.low.memories c in
-      let spelled = ground_lent g place (memory_of w c) w.log number round lent incoming in
+      let spelled = ground_lent g place (memory_of w c) w.log first round lent incoming in
       spelled
-      ∙ hear_alike number round _ _ _ _ _ _ t.state t.room (order_same g g' pair orders orders' s.n s.pair s.side number lent)
+      ∙ hear_alike t.state first round _ _ _ _ _ _ (tapes_alike g g' pair orders orders' s s.batch.first s.batch.count lent) t.room
       (long_same w w' j.low incoming)
-      (λ taken. true_fits w'.log j.fits' c (key_at s number) round incoming (true_too w w' j.low c _ _ round incoming refl (keeps (spelled ∙ taken)).1))
+      (λ taken. true_fits w'.log j.fits' c (key_at s first) round incoming (true_too w w' j.low c _ _ round incoming refl (keeps (spelled ∙ taken)).1))
       below
-      ∙ sym (ground_lent g' place (memory_of w' c) w'.log number round lent incoming)
+      ∙ sym (ground_lent g' place (memory_of w' c) w'.log first round lent incoming)
   same_ground place w w' c drop j h keeps below = tt
   same_ground place w w' c (cut room) j h keeps below = tt
-  same_ground place w w' c (cut_start number lent mark room) j h keeps below =
-      start_ground_lem g g' pair orders orders' w w' j.low place c number lent h.0 h.1
+  same_ground place w w' c (cut_start first count lent at mark room) j h keeps below =
+      start_ground_lem g g' pair orders orders' w w' j.low place c first count lent h
 
   comparable_next : (place : ℕ) (w w' : World) (c : Box) (step : Step) → Comparable w w' → SameGround g g' place w w' c step
       → Comparable (stepped g place w c step) (stepped g' place w' c step)
@@ -162,15 +145,16 @@ module _ (g g' : Setting) (pair : ℕ) (orders : InOrder g pair) (orders' : InOr
 
   true_below : (place : ℕ) (w w' : World) (c : Box) (step : Step) → Comparable w w' → Keeps g' place w' c step → Below w w' c step
   true_below place w w' c (wake n side p) j keeps = tt
-  true_below place w w' c (start number lent) j keeps = tt
-  true_below place w w' c (speak number round lent out) j keeps = tt
-  true_below place w w' c (hear number round lent incoming) j keeps =
+  true_below place w w' c (start first count lent) j keeps = tt
+  true_below place w w' c (speak first round lent out) j keeps = tt
+  true_below place w w' c (hear first round lent incoming) j keeps =
       λ taken.
-      true_fits w.log j.fits c (key_at (memory_of w c).state number) round incoming
-      (true_back w w' j.low c _ _ round incoming (key_same j.low c number) (keeps (ground_lent g' place (memory_of w' c) w'.log number round lent incoming ∙ taken)).1)
+      true_fits w.log j.fits c (key_at (memory_of w c).state first) round incoming
+      (true_back w w' j.low c _ _ round incoming (key_same j.low c first)
+      (keeps (ground_lent g' place (memory_of w' c) w'.log first round lent incoming ∙ taken)).1)
   true_below place w w' c drop j keeps = tt
   true_below place w w' c (cut room) j keeps = tt
-  true_below place w w' c (cut_start number lent mark room) j keeps = tt
+  true_below place w w' c (cut_start first count lent at mark room) j keeps = tt
 
   pub same_schedule : (es : List Entry) (place : ℕ) (w w' : World) → Comparable w w' → AllCompatible g'.shares g place w es
       → Meets g place w es → Meets g' place w' es → LowEquivalent (run g place w es) (run g' place w' es)
@@ -194,9 +178,9 @@ module _ (g g' : Setting) (pair : ℕ) (orders : InOrder g pair) (orders' : InOr
   -- so a hear is refused with 13 for other words only, which are the same in both runs
   narrow_below : (place : ℕ) (w w' : World) (c : Box) (step : Step) → Comparable w w' → Narrow g place w c step → Below w w' c step
   narrow_below place w w' c (wake n side p) j narrow = tt
-  narrow_below place w w' c (start number lent) j narrow = tt
-  narrow_below place w w' c (speak number round lent out) j narrow = tt
-  narrow_below place w w' c (hear number round lent (spoken_at from)) j narrow = λ taken. go (words_fit m.state.n incoming) refl taken
+  narrow_below place w w' c (start first count lent) j narrow = tt
+  narrow_below place w w' c (speak first round lent out) j narrow = tt
+  narrow_below place w w' c (hear first round lent (spoken_at from)) j narrow = λ taken. go (words_fit m.state.n incoming) refl taken
     where
       m : Memory
       m = memory_of w c
@@ -205,36 +189,36 @@ module _ (g g' : Setting) (pair : ℕ) (orders : InOrder g pair) (orders' : InOr
       incoming = (event_at w.log from).spoken
 
       go : (b : Bool) → words_fit m.state.n incoming ≡ b
-          → hear_ground (memory_of w' c).state number round (tape_words g' lent) (memory_of w' c).work (event_at w'.log from).spoken ≡ 0
+          → hear_ground (memory_of w' c).state first round (tape_words g' lent) (memory_of w' c).work (event_at w'.log from).spoken ≡ 0
           → words_fit m.state.n incoming ≡ true
       go true fits taken = fits
       go false unfit taken =
           let t = j.low.memories c in
           narrow_fits w.log j.fits m.state.n from
           (narrow
-          (ground_lent g place (memory_of w c) w.log number round lent (spoken_at from)
-          ∙ hear_thirteen number round _ _ _ _ incoming _ t.state t.room
-          (order_same g g' pair orders orders' m.state.n m.state.pair m.state.side number lent)
+          (ground_lent g place (memory_of w c) w.log first round lent (spoken_at from)
+          ∙ hear_thirteen t.state first round _ _ _ _ incoming _
+          (tapes_alike g g' pair orders orders' m.state m.state.batch.first m.state.batch.count lent) t.room
           (j.low.events from).long taken unfit))
-  narrow_below place w w' c (hear number round lent (other words)) j narrow =
-      λ taken. rw (j.low.memories c).state.n (hear_passed (memory_of w' c).state number round _ _ words taken).words
+  narrow_below place w w' c (hear first round lent (other words)) j narrow =
+      λ taken. rw (j.low.memories c).state.n (hear_passed (memory_of w' c).state first round _ _ words taken).words
   narrow_below place w w' c drop j narrow = tt
   narrow_below place w w' c (cut room) j narrow = tt
-  narrow_below place w w' c (cut_start number lent mark room) j narrow = tt
+  narrow_below place w w' c (cut_start first count lent at mark room) j narrow = tt
 
   narrow_too : (place : ℕ) (w w' : World) (c : Box) (step : Step) → LowEquivalent w w' → SameGround g g' place w w' c step → Narrow g place w c step
       → Narrow g' place w' c step
   narrow_too place w w' c (wake n side p) k f narrow = tt
-  narrow_too place w w' c (start number lent) k f narrow = tt
-  narrow_too place w w' c (speak number round lent out) k f narrow = tt
-  narrow_too place w w' c (hear number round lent (spoken_at from)) k f narrow =
+  narrow_too place w w' c (start first count lent) k f narrow = tt
+  narrow_too place w w' c (speak first round lent out) k f narrow = tt
+  narrow_too place w w' c (hear first round lent (spoken_at from)) k f narrow =
       λ cause count said.
       let se = k.events from in
       rw (← se.key, ← (k.memories c).state.n) (narrow (f ∙ cause) count (uncover_message _ count (se.said ∙ ap covered said)))
-  narrow_too place w w' c (hear number round lent (other words)) k f narrow = λ cause. tt
+  narrow_too place w w' c (hear first round lent (other words)) k f narrow = λ cause. tt
   narrow_too place w w' c drop k f narrow = tt
   narrow_too place w w' c (cut room) k f narrow = tt
-  narrow_too place w w' c (cut_start number lent mark room) k f narrow = tt
+  narrow_too place w w' c (cut_start first count lent at mark room) k f narrow = tt
 
   -- what then holds of the second run
   pub record Lasts (es : List Entry) (place : ℕ) (w' : World) : Type 0 where

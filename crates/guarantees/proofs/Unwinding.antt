@@ -18,25 +18,30 @@ use Rattle.guarantees.specs.Run.{Lending, Setting, Memory, Said, nothing, Event,
 use Rattle.guarantees.specs.Premises.{Keeps, Compatible}
 use Rattle.guarantees.specs.View.{heard_as, seen, view}
 use Rattle.guarantees.proofs.LowEquivalence.{LowEvent, LowEquivalent}
-use Rattle.guarantees.specs.Jobs.{sent_by, answer_by}
+use Rattle.guarantees.specs.Jobs.{sent_by, answers_by}
 use Rattle.guarantees.proofs.Refusals.{speak_same, hear_same}
 use Rattle.guarantees.proofs.StepConsistency.{SameGround, step_consistent}
-use Rattle.guarantees.proofs.Outcomes.{is_message, kind_same, uncover, share_is, said_at_lem}
+use Rattle.guarantees.proofs.Outcomes.{is_message, kind_same, uncover, shares_are, said_at_lem}
 use Rattle.guarantees.proofs.Deliveries.{ground_lent}
 use Rattle.guarantees.proofs.Jobs.{InOrder}
-use Rattle.guarantees.proofs.SameGrounds.{order_same, start_ground_lem, keeps_too}
+use Rattle.guarantees.proofs.Tapes.{tapes_alike}
+use Rattle.guarantees.proofs.SameGrounds.{start_ground_lem, keeps_too}
 use Rattle.guarantees.proofs.Invariant.{Uttered, Answered, Conforms, Invariant, Booked, invariant_next}
+
+pub other_twice : (b : Box) → other_box (other_box b) ≡ b
+other_twice box1 = refl
+other_twice box2 = refl
 
 -- ---- what is told of an event
 
-module _ (g : Setting) (book : Box → Key → Lending) (e : Event) where
-  uttered : (k : Kind) → Conforms g book e k → is_message k ≡ true → Uttered g book e
+module _ (g : Setting) (book : Box → Key → Lending) (Known : Box → Key → Type 0) (e : Event) where
+  uttered : (k : Kind) → Conforms g book Known e k → is_message k ≡ true → Uttered g book Known e
   uttered opening t h = absurd (false≢true h)
   uttered message t h = t
   uttered answer t h = absurd (false≢true h)
   uttered plain t h = absurd (false≢true h)
 
-  silent : (k : Kind) → Conforms g book e k → is_message k ≡ false → e.spoken ≡ []
+  silent : (k : Kind) → Conforms g book Known e k → is_message k ≡ false → e.spoken ≡ []
   silent opening t h = t
   silent message t h = absurd (false≢true (sym h))
   silent answer t h = t.silent
@@ -73,32 +78,33 @@ heard_after_lem w w' box2 m m' e e' long old new = heard_more w.log w'.log e e' 
 
 -- what a hear adds to the log, as far as its words go
 abbrev hear_event : Setting → ℕ → World → Box → ℕ → Incoming → Event
-hear_event g place w c number incoming =
+hear_event g place w c first incoming =
     record {
       box = c;
-      key = key_at (memory_of w c).state number;
+      key = key_at (memory_of w c).state first;
       round = 0;
       said = nothing;
       spoken = [];
       incoming = incoming_words g place (memory_of w c).state w.log incoming;
     }
 
--- two books of shares, and two settings
-module _ (b : Box) (g g' : Setting) (pair : ℕ) (book book' : Box → Key → Lending) where
-  -- the dealt tapes are in order, and each key's exchange looks the same under both
+-- two books of shares, two settings, and which keys each box opened
+module _ (b : Box) (g g' : Setting) (pair : ℕ) (book book' : Box → Key → Lending) (Known : Box → Key → Type 0) where
+  -- the dealt tapes are in order, and what comes of each key looks the same under both: round 1 of a box that opened it, and all else where both
+  -- boxes did
   pub record Alike : Type 0 where
     pub orders : InOrder g pair
     pub orders' : InOrder g' pair
-    pub sent : (c : Box) (key : Key) (r : ℕ) → listed key.width ≡ true → r < last_round
+    pub sent : (c : Box) (key : Key) (r : ℕ) → listed key.width ≡ true → r < last_round → Known c key → (0 < r → Known (other_box c) key)
         → sent_by g.tapes book c key (suc r) ≡ sent_by g'.tapes book' c key (suc r)
-    pub answered : (key : Key) → listed key.width ≡ true
-        → answer_by g.tapes book (other_box b) key ≡ answer_by g'.tapes book' (other_box b) key
+    pub answered : (key : Key) → listed key.width ≡ true → Known (other_box b) key → Known b key
+        → answers_by g.tapes book (other_box b) key ≡ answers_by g'.tapes book' (other_box b) key
 
   -- two worlds that the runs reach at one place
   pub record Related (w w' : World) : Type 0 where
     pub low : LowEquivalent w w'
-    pub invariant : Invariant g book w
-    pub invariant' : Invariant g' book' w'
+    pub invariant : Invariant g book Known w
+    pub invariant' : Invariant g' book' Known w'
     pub heard_same : HeardSame w.log w'.log
 
   module _ (a : Alike) (w w' : World) (j : Related w w') where
@@ -119,27 +125,29 @@ module _ (b : Box) (g g' : Setting) (pair : ℕ) (book book' : Box → Key → L
 
         go : (t : Bool) → is_message (kind_of e.said) ≡ t → e.spoken ≡ e'.spoken
         go false q =
-            silent g book e (kind_of e.said) (j.invariant.events k) q
-            ∙ sym (silent g' book' e' (kind_of e'.said) (j.invariant'.events k) (sym told ∙ q))
+            silent g book Known e (kind_of e.said) (j.invariant.events k) q
+            ∙ sym (silent g' book' Known e' (kind_of e'.said) (j.invariant'.events k) (sym told ∙ q))
         go true q =
-            let u = uttered g book e (kind_of e.said) (j.invariant.events k) q in
-            let u' = uttered g' book' e' (kind_of e'.said) (j.invariant'.events k) (sym told ∙ q) in
+            let u = uttered g book Known e (kind_of e.said) (j.invariant.events k) q in
+            let u' = uttered g' book' Known e' (kind_of e'.said) (j.invariant'.events k) (sym told ∙ q) in
             let exchange : sent_by g.tapes book e.box e.key e.round ≡ sent_by g'.tapes book' e'.box e'.key e'.round =
-            rw (← se.box, ← se.key, ← se.round, u.round_is) (a.sent e.box e.key u.heard u.width u.early) in
+            rw (← se.box, ← se.key, ← se.round, u.round_is) (a.sent e.box e.key u.heard u.width u.early u.own u.met) in
             u.words ∙ exchange ∙ sym u'.words
 
     said_same : (k : ℕ) → (event_at w.log k).box ≡ other_box b → (event_at w.log k).said ≡ (event_at w'.log k).said
-    said_same k at =
+    said_same k here =
         let e = event_at w.log k in
         let e' = event_at w'.log k in
         let se = j.low.events k in
         uncover e.said e'.said se.said
-        (λ v v' q q'.
-        let t : Answered g book e = subst (λ (s : Said). Conforms g book e (kind_of s)) q (j.invariant.events k) in
-        let t' : Answered g' book' e' = subst (λ (s : Said). Conforms g' book' e' (kind_of s)) q' (j.invariant'.events k) in
-        let exchange : answer_by g.tapes book e.box e.key ≡ answer_by g'.tapes book' e'.box e'.key =
-        rw (← se.box, ← se.key, at) (a.answered e.key t.width) in
-        share_is (sym q ∙ t.said_is) ∙ t.is ∙ exchange ∙ sym t'.is ∙ sym (share_is (sym q' ∙ t'.said_is)))
+        (λ vs vs' q q'.
+        let t : Answered g book Known e = subst (λ (s : Said). Conforms g book Known e (kind_of s)) q (j.invariant.events k) in
+        let t' : Answered g' book' Known e' = subst (λ (s : Said). Conforms g' book' Known e' (kind_of s)) q' (j.invariant'.events k) in
+        let own : Known (other_box b) e.key = subst (λ (c : Box). Known c e.key) here t.own in
+        let met : Known b e.key = subst (λ (c : Box). Known c e.key) (ap other_box here ∙ other_twice b) t.met in
+        let exchange : answers_by g.tapes book e.box e.key ≡ answers_by g'.tapes book' e'.box e'.key =
+        rw (← se.box, ← se.key, here) (a.answered e.key t.width own met) in
+        shares_are (sym q ∙ t.said_is) ∙ t.is ∙ exchange ∙ sym t'.is ∙ sym (shares_are (sym q' ∙ t'.said_is)))
 
     pub views : view b w.log ≡ view b w'.log
     views = view_same b w.log w'.log j.low.places each
@@ -158,26 +166,27 @@ module _ (b : Box) (g g' : Setting) (pair : ℕ) (book book' : Box → Key → L
     -- the same ground of refusal in both runs
     pub same_ground : (place : ℕ) (c : Box) (step : Step) → Compatible g'.shares g place w c step → SameGround g g' place w w' c step
     same_ground place c (wake n side p) h = tt
-    same_ground place c (start number lent) h = start_ground_lem g g' pair a.orders a.orders' w w' j.low place c number lent h.0 h.1
-    same_ground place c (speak number round lent out) h =
-        let m = memory_of w c in
+    same_ground place c (start first count lent) h = start_ground_lem g g' pair a.orders a.orders' w w' j.low place c first count lent h
+    same_ground place c (speak first round lent out) h =
+        let s = (memory_of w c).state in
         let t = j.low.memories c in
-        speak_same number round _ _ _ _ out t.state t.room (order_same g g' pair a.orders a.orders' m.state.n m.state.pair m.state.side number lent)
-    same_ground place c (hear number round lent incoming) h =
+        speak_same t.state first round _ _ _ _ out (tapes_alike g g' pair a.orders a.orders' s s.batch.first s.batch.count lent) t.room
+    same_ground place c (hear first round lent incoming) h =
         let m = memory_of w c in
+        let s = m.state in
         let t = j.low.memories c in
-        ground_lent g place m w.log number round lent incoming
-        ∙ hear_same number round _ _ _ _ _ _ t.state t.room (order_same g g' pair a.orders a.orders' m.state.n m.state.pair m.state.side number lent)
-        (ap length (words_same incoming)) (ap (words_fit m.state.n) (words_same incoming))
-        ∙ sym (ground_lent g' place (memory_of w' c) w'.log number round lent incoming)
+        ground_lent g place m w.log first round lent incoming
+        ∙ hear_same t.state first round _ _ _ _ _ _ (tapes_alike g g' pair a.orders a.orders' s s.batch.first s.batch.count lent) t.room
+        (ap length (words_same incoming)) (λ passed. ap (words_fit s.n) (words_same incoming))
+        ∙ sym (ground_lent g' place (memory_of w' c) w'.log first round lent incoming)
     same_ground place c drop h = tt
     same_ground place c (cut room) h = tt
-    same_ground place c (cut_start number lent mark room) h = start_ground_lem g g' pair a.orders a.orders' w w' j.low place c number lent h.0 h.1
+    same_ground place c (cut_start first count lent at mark room) h = start_ground_lem g g' pair a.orders a.orders' w w' j.low place c first count lent h
 
     -- each run's board spells the words its own way; the reading is the same
-    read_same : (place : ℕ) (c : Box) (number : ℕ) (incoming : Incoming)
-        → heard_as (hear_event g place w c number incoming) ≡ heard_as (hear_event g' place w' c number incoming)
-    read_same place c number incoming =
+    read_same : (place : ℕ) (c : Box) (first : ℕ) (incoming : Incoming)
+        → heard_as (hear_event g place w c first incoming) ≡ heard_as (hear_event g' place w' c first incoming)
+    read_same place c first incoming =
         delivered_read (memory_of w c).state.n (g.board place) (line_words w.log incoming)
         ∙ ap₂ read_words (j.low.memories c).state.n (words_same incoming)
         ∙ sym (delivered_read (memory_of w' c).state.n (g'.board place) (line_words w'.log incoming))
@@ -185,23 +194,23 @@ module _ (b : Box) (g g' : Setting) (pair : ℕ) (book book' : Box → Key → L
     heard_next : (place : ℕ) (c : Box) (step : Step) → HeardSame (stepped g place w c step).log (stepped g' place w' c step).log
     unfolding stepped
     heard_next place c (wake n side p) = heard_after_lem w w' c _ _ _ _ j.low.places j.heard_same refl
-    heard_next place c (start number lent) = heard_after_lem w w' c _ _ _ _ j.low.places j.heard_same refl
-    heard_next place c (speak number round lent out) = heard_after_lem w w' c _ _ _ _ j.low.places j.heard_same refl
-    heard_next place c (hear number round lent incoming) =
-        heard_after_lem w w' c _ _ _ _ j.low.places j.heard_same (read_same place c number incoming)
+    heard_next place c (start first count lent) = heard_after_lem w w' c _ _ _ _ j.low.places j.heard_same refl
+    heard_next place c (speak first round lent out) = heard_after_lem w w' c _ _ _ _ j.low.places j.heard_same refl
+    heard_next place c (hear first round lent incoming) =
+        heard_after_lem w w' c _ _ _ _ j.low.places j.heard_same (read_same place c first incoming)
     heard_next place c drop = heard_after_lem w w' c _ _ _ _ j.low.places j.heard_same refl
     heard_next place c (cut room) = heard_after_lem w w' c _ _ _ _ j.low.places j.heard_same refl
-    heard_next place c (cut_start number lent mark room) = heard_after_lem w w' c _ _ _ _ j.low.places j.heard_same refl
+    heard_next place c (cut_start first count lent at mark room) = heard_after_lem w w' c _ _ _ _ j.low.places j.heard_same refl
 
     -- one entry
     pub related_next : (place : ℕ) (c : Box) (step : Step) → Keeps g place w c step → Compatible g'.shares g place w c step
-        → Booked g book place w c step → Booked g' book' place w' c step
+        → Booked g book Known place w c step → Booked g' book' Known place w' c step
         → Related (stepped g place w c step) (stepped g' place w' c step)
     related_next place c step keeps h booked booked' =
         let f = same_ground place c step h in
         record {
           low = step_consistent g g' place w w' c step j.low f;
-          invariant = invariant_next g book pair a.orders place w c step j.invariant keeps booked;
-          invariant' = invariant_next g' book' pair a.orders' place w' c step j.invariant' (keeps_too g g' place w w' j.low c step f keeps) booked';
+          invariant = invariant_next g book Known pair a.orders place w c step j.invariant keeps booked;
+          invariant' = invariant_next g' book' Known pair a.orders' place w' c step j.invariant' (keeps_too g g' place w w' j.low c step f keeps) booked';
           heard_same = heard_next place c step;
         }

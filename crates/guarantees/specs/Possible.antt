@@ -1,148 +1,268 @@
--- The premises of demand 3 are not empty: two lists at width 3 that meet them, on the plain tapes, in which both boxes answer; one of them also
--- with a board that spells every zero as p. Nor is the law for the depots: two lists in which box 1 starts twice, upwards and downwards.
-use Rattle.std.specs.Prelude.{ℕ, zero, suc, ◌+◌, ◌*◌, ◌%◌, ◌≡◌, Bool, true, false, List, [], ◌∷◌, ◌++◌, ltb, get_or, replicate}
+-- The premises of demand 3 are not empty: lists at width 3 that meet them, on the plain tapes, in which both boxes start and finish a job. In one the
+-- board spells every zero as p, in one a start takes two jobs, in two the power fails in a start's marks. Nor is the law for the depots: lists in which
+-- box 1 starts twice, upwards, downwards and onto a number that is taken.
+use Rattle.std.specs.Prelude.{ℕ, zero, suc, ◌+◌, ◌*◌, ◌%◌, ◌<◌, ◌≡◌, Bool, true, false, cond, eqb}
+use Rattle.std.specs.Prelude.{List, [], ◌∷◌, ◌++◌, get_or, take, replicate}
 use Rattle.field.specs.Width.{modulus}
 use Rattle.tape.specs.Plain.{plain_tape}
-use Rattle.encoding.specs.Matching.{indicator}
 use Rattle.protocol.specs.Work.{work_length}
-use Rattle.protocol.specs.Rounds.{earlier_rounds, last_round, round_words}
-use Rattle.tally.specs.Tally.{Mark, mark_bytes}
-use Rattle.rules.specs.Answers.{started, share, refused}
+use Rattle.protocol.specs.Rounds.{earlier_rounds, last_round}
+use Rattle.protocol.specs.Sizes.{round_for}
+use Rattle.tally.specs.Tally.{Mark, mark_bytes, is_fresh}
+use Rattle.rules.specs.Answers.{started, finished, refused}
 use Rattle.rules.specs.Grounds.{start_ground}
+use Rattle.rules.specs.Batches.{no_batch}
 use Rattle.rules.specs.declared.state.Phase.TheVariants.{Asleep}
 use Rattle.guarantees.specs.Boxes.{Box, box1, box2, side_of, other_box}
 use Rattle.guarantees.specs.Keys.{Key, job_key}
 use Rattle.guarantees.specs.Entries.{dealt, spoken_at, Step, wake, start, speak, hear, drop, cut_start, Entry}
-use Rattle.guarantees.specs.Run.{Lending, Said, replied, Event, event_at, tape_words, run}
-use Rattle.guarantees.specs.Comparison.{TapeSet, Valid, Common, Loose, world_of, setting_of, events, Premises}
+use Rattle.guarantees.specs.Run.{Lending, Said, Setting, replied, Event, World, event_at, tape_words, run}
+use Rattle.guarantees.specs.Comparison.{TapeSet, Valid, Common, Loose, world_of, setting_of, Premises}
+use Rattle.guarantees.specs.Correctness.{Happened, bit_for}
 
 abbrev pub pair_number : ℕ
 pair_number = 5
 
--- x = 5 + 5 and y = 1 + 3, that is 3 and 4 modulo 7
-abbrev pub shares_of : Box → ℕ → Lending
-shares_of box1 place = record { x = 5; y = 1 }
-shares_of box2 place = record { x = 5; y = 3 }
+-- how many jobs the start at a place takes
+abbrev pub Counts : Type 0
+Counts = ℕ → ℕ
+
+-- modulo 7 x = 5 + 5 is 3 and y = 1 + 3 is 4 in the first job of a start, x = 4 + 2 and y = 6 + 0 are 6 in the second
+abbrev pub shares_of : Counts → Box → ℕ → Lending
+shares_of counts box1 place = take (2 * counts place) (5 ∷ 1 ∷ 4 ∷ 6 ∷ [])
+shares_of counts box2 place = take (2 * counts place) (5 ∷ 3 ∷ 2 ∷ 0 ∷ [])
 
 -- the second shares of the box that is to stay hidden
-abbrev pub shares_anew : ℕ → Lending
-shares_anew place = record { x = 0; y = 6 }
+abbrev pub shares_anew : Counts → ℕ → Lending
+shares_anew counts place = take (2 * counts place) (0 ∷ 6 ∷ 3 ∷ 3 ∷ [])
 
 abbrev pub plain_set : Box → TapeSet
 plain_set b number n = plain_tape n pair_number (side_of b) number
 
--- both boxes asleep, with room to work and two fresh tapes
-abbrev pub plain_common : List Entry → Box → Common
-plain_common entries b =
+-- room to work on two jobs
+abbrev pub room : ℕ
+room = 2 * work_length 3
+
+-- both boxes asleep, with that room and two fresh tapes
+abbrev pub plain_common : Counts → List Entry → Box → Common
+plain_common counts entries b =
     record {
       entries = entries;
-      states = λ c. record { n = 0; side = 0; pair = 0; tally = 0; phase = Asleep };
+      states = λ c. record { n = 0; side = 0; pair = 0; tally = 0; phase = Asleep; batch = no_batch };
       tallies = λ c. replicate (2 * mark_bytes) 255;
-      rooms = λ c. work_length 3;
+      rooms = λ c. room;
       pair = pair_number;
       others = plain_set (other_box b);
-      lendings = shares_of (other_box b);
+      lendings = shares_of counts (other_box b);
     }
 
 -- zeros in work; the board respells every zero, or none
 abbrev pub zeros : Bool → Loose
-zeros respelled = record { works = λ c k. 0; leftovers = λ place k. 0; board = λ place k. respelled }
+zeros respells = record { works = λ c k. 0; leftovers = λ place k. 0; board = λ place k. respells }
+
+-- ---- lists
 
 infixl 10 ◌does◌
 abbrev pub ◌does◌ : Box → Step → Entry
 b does s = record { box = b; step = s }
 
--- the job on tape 0
-abbrev pub tape0 : Key
-tape0 = job_key 0 3
-
 abbrev pub wakes : Box → Entry
 wakes b = b does wake 3 (side_of b) pair_number
 
--- a round from a place on: both speak, then both hear
-abbrev pub round_from : ℕ → ℕ → List Entry
-round_from place round =
-    let out : List ℕ = replicate (round_words 3 round) 0 in
-    (box1 does speak 0 round (dealt box1 0 3) out)
-    ∷ (box2 does speak 0 round (dealt box2 0 3) out)
-    ∷ (box1 does hear 0 round (dealt box1 0 3) (spoken_at (place + 1)))
-    ∷ (box2 does hear 0 round (dealt box2 0 3) (spoken_at place))
+-- of a start that takes so many jobs from a first number on: a round from a place of the list on, in which both speak, then both hear
+abbrev pub round_from : (place first count round : ℕ) → List Entry
+round_from place first count round =
+    let out : List ℕ = replicate (round_for 3 count round) 0 in
+    (box1 does speak first round (dealt box1 first count 3) out)
+    ∷ (box2 does speak first round (dealt box2 first count 3) out)
+    ∷ (box1 does hear first round (dealt box1 first count 3) (spoken_at (place + 1)))
+    ∷ (box2 does hear first round (dealt box2 first count 3) (spoken_at place))
     ∷ []
 
 -- the rounds up to one, from a place on: four entries each
-abbrev pub rounds_from : ℕ → ℕ → List Entry
-rounds_from place zero = []
-rounds_from place (suc r) = rounds_from place r ++ round_from (place + 4 * r) (suc r)
+abbrev pub rounds_from : (place first count round : ℕ) → List Entry
+rounds_from place first count zero = []
+rounds_from place first count (suc r) = rounds_from place first count r ++ round_from (place + 4 * r) first count (suc r)
 
--- a whole job on tape 0, from a place on
-abbrev pub job_from : ℕ → List Entry
-job_from place =
-    (box1 does start 0 (dealt box1 0 3))
-    ∷ (box2 does start 0 (dealt box2 0 3))
-    ∷ rounds_from (place + 2) last_round
+-- both start, and all their rounds, from a place on
+abbrev pub job_from : (place first count : ℕ) → List Entry
+job_from place first count =
+    (box1 does start first count (dealt box1 first count 3))
+    ∷ (box2 does start first count (dealt box2 first count 3))
+    ∷ rounds_from (place + 2) first count last_round
 
--- where the boxes hear the last round in such a job, one after the other
+-- where the boxes hear the last round then, one after the other
 abbrev pub last_hears : ℕ → ℕ
 last_hears place = place + 2 + 4 * earlier_rounds + 2
-
-unfoldable pub whole : List Entry
-whole = wakes box1 ∷ wakes box2 ∷ job_from 2
 
 -- a mark of four bytes FF
 abbrev pub unmarked : Mark
 unmarked = record { first = 255; second = 255; third = 255; fourth = 255 }
 
--- at first the power fails in box 1's mark, which leaves FF in all four bytes, and a word more in work; the later job is on that very tape
-unfoldable pub again : List Entry
-again = wakes box1 ∷ wakes box2 ∷ (box1 does cut_start 0 (dealt box1 0 3) unmarked (work_length 3 + 1)) ∷ wakes box1 ∷ job_from 4
+-- the power fails in the mark of job `at` of box 1's start of so many jobs, which leaves FF in all four bytes, and a word more in work
+abbrev pub cut_unmarked : (count at : ℕ) → Entry
+cut_unmarked count at = box1 does cut_start 0 count (dealt box1 0 count 3) at unmarked (room + 1)
 
--- the box answers at that place, on tape 0, with that share
-pub record AnswersAt (log : List Event) (place : ℕ) (b : Box) (v : ℕ) : Type 0 where
-  pub box : (event_at log place).box ≡ b
-  pub key : (event_at log place).key ≡ tape0
-  pub said : (event_at log place).said ≡ replied (share v)
+-- ---- a list and what it comes to
 
--- whichever box is to stay hidden: the list meets the premises, and both boxes answer with their last hears, from that place on
-pub record Possible (entries : List Entry) (respelled : Bool) (place : ℕ) (b : Box) : Type 0 where
-  pub valid : Valid (plain_common entries b) b (plain_set b)
-  pub premises : Premises (plain_common entries b) b (shares_of b) shares_anew (plain_set b) (zeros respelled)
-  pub answer1 : AnswersAt (events (plain_common entries b) b (plain_set b) (shares_of b) (zeros respelled)) place box1 1
-  pub answer2 : AnswersAt (events (plain_common entries b) b (plain_set b) (shares_of b) (zeros respelled)) (place + 1) box2 0
+pub record Case : Type 0 where
+  pub entries : List Entry
+  -- the starts take so many jobs, and are lent two shares for each
+  pub counts : Counts
+  -- the board spells every zero as p, or none
+  pub respells : Bool
+  -- box 1's start of the job that both finish stands at this place, box 2's at the next one, and the job is known by this
+  pub opened : ℕ
+  pub key : Key
+  -- the answers of box 1 and of box 2
+  pub answers1 : List ℕ
+  pub answers2 : List ℕ
 
--- the sum of the two answers is the bit of x < y
-abbrev pub RightSum : Type 0
-RightSum = (1 + 0) % modulus 3 ≡ indicator (ltb ((5 + 5) % modulus 3) ((1 + 3) % modulus 3))
+-- a word for each of eight jobs: two, and 0 past them
+abbrev pub two_answers : ℕ → ℕ → List ℕ
+two_answers v v' = v ∷ v' ∷ replicate 6 0
 
--- in the second list the power did fail in a mark: that start had passed its checks
-abbrev pub CutInMark : Type 0
-CutInMark =
-    let c = plain_common again box1 in
-    let g = setting_of c box1 (plain_set box1) (shares_of box1) (zeros false) in
-    let m = (run g 0 (world_of c (zeros false)) (wakes box1 ∷ wakes box2 ∷ [])).memory1 in
-    start_ground m.state 0 (g.shares box1 2).x (g.shares box1 2).y (tape_words g (dealt box1 0 3)) m.work m.tally ≡ 0
+-- a whole job, with the zeros on the line as they were spoken, or spelled p
+abbrev pub one_job : Bool → Case
+one_job respells =
+    record {
+      entries = wakes box1 ∷ wakes box2 ∷ job_from 2 0 1;
+      counts = λ place. 1;
+      respells = respells;
+      opened = 2;
+      key = job_key 0 1 3;
+      answers1 = two_answers 1 0;
+      answers2 = two_answers 0 0;
+    }
+
+unfoldable pub whole : Case
+whole = one_job false
+
+unfoldable pub respelled : Case
+respelled = one_job true
+
+-- at first the power fails in box 1's mark; the later job is on that very tape
+unfoldable pub again : Case
+again =
+    record {
+      entries = wakes box1 ∷ wakes box2 ∷ cut_unmarked 1 0 ∷ wakes box1 ∷ job_from 4 0 1;
+      counts = λ place. 1;
+      respells = false;
+      opened = 4;
+      key = job_key 0 1 3;
+      answers1 = two_answers 1 0;
+      answers2 = two_answers 0 0;
+    }
+
+-- one start takes two jobs
+unfoldable pub joined : Case
+joined =
+    record {
+      entries = wakes box1 ∷ wakes box2 ∷ job_from 2 0 2;
+      counts = λ place. 2;
+      respells = false;
+      opened = 2;
+      key = job_key 0 2 3;
+      answers1 = two_answers 1 0;
+      answers2 = two_answers 0 0;
+    }
+
+-- at first the power fails between the two marks of box 1's start of two jobs; the later job is on the second tape alone
+unfoldable pub between : Case
+between =
+    record {
+      entries = wakes box1 ∷ wakes box2 ∷ cut_unmarked 2 1 ∷ wakes box1 ∷ job_from 4 1 1;
+      counts = λ place. cond (eqb place 2) 2 1;
+      respells = false;
+      opened = 4;
+      key = job_key 1 1 3;
+      answers1 = two_answers 1 0;
+      answers2 = two_answers 0 0;
+    }
+
+-- box b being the one to stay hidden
+abbrev pub common_in : Case → Box → Common
+common_in k b = plain_common k.counts k.entries b
+
+abbrev pub setting_in : Case → Box → Setting
+setting_in k b = setting_of (common_in k b) b (plain_set b) (shares_of k.counts b) (zeros k.respells)
+
+abbrev pub world_in : Case → Box → World
+world_in k b = world_of (common_in k b) (zeros k.respells)
+
+-- the run of entries at the front of the list
+abbrev pub run_in : Case → Box → List Entry → World
+run_in k b entries = run (setting_in k b) 0 (world_in k b) entries
+
+abbrev pub log_in : Case → Box → List Event
+log_in k b = (run_in k b k.entries).log
+
+-- whichever box is to stay hidden: the list meets the premises, and both boxes start the job and answer with their last hears
+pub record Possible (k : Case) (b : Box) : Type 0 where
+  pub valid : Valid (common_in k b) b (plain_set b)
+  pub premises : Premises (common_in k b) b (shares_of k.counts b) (shares_anew k.counts) (plain_set b) (zeros k.respells)
+  pub start1 : Happened (log_in k b) k.opened box1 k.key (replied started)
+  pub start2 : Happened (log_in k b) (k.opened + 1) box2 k.key (replied started)
+  pub answer1 : Happened (log_in k b) (last_hears k.opened) box1 k.key (replied (finished k.answers1))
+  pub answer2 : Happened (log_in k b) (last_hears k.opened + 1) box2 k.key (replied (finished k.answers2))
+
+-- in each job the sum of the two answers is the bit of x < y
+abbrev pub RightSumIn : Case → Type 0
+RightSumIn k =
+    (i : ℕ) → i < k.key.count
+    → (get_or k.answers1 i 0 + get_or k.answers2 i 0) % modulus 3
+    ≡ bit_for 3 (shares_of k.counts box1 k.opened) (shares_of k.counts box2 (k.opened + 1)) i
+
+pub record RightSum : Type 0 where
+  pub in_whole : RightSumIn whole
+  pub in_respelled : RightSumIn respelled
+  pub in_again : RightSumIn again
+  pub in_joined : RightSumIn joined
+  pub in_between : RightSumIn between
+
+-- the third entry being such a cut, the power did fail in a mark: that start had passed its checks. After it tape 0 is fresh or not, and tape 1 is
+pub record CutIn (k : Case) (fresh0 : Bool) : Type 0 where
+  pub passed :
+      let m = (run_in k box1 (take 2 k.entries)).memory1 in
+      let count = k.counts 2 in
+      start_ground m.state 0 count (shares_of k.counts box1 2) (tape_words (setting_in k box1) (dealt box1 0 count 3)) m.work m.tally ≡ 0
+  pub tape0 : is_fresh (run_in k box1 (take 3 k.entries)).memory1.tally 0 ≡ fresh0
+  pub tape1 : is_fresh (run_in k box1 (take 3 k.entries)).memory1.tally 1 ≡ true
+
+-- in the only mark, which stays FF: both tapes are as fresh as before. In the second of two: the first tape is spent
+pub record CutInMark : Type 0 where
+  pub in_again : CutIn again true
+  pub in_between : CutIn between false
 
 -- where the board respells, it did: in the first round each box hears a 7, which none speaks
 abbrev pub ZerosRespelled : Type 0
 ZerosRespelled =
-    let log = events (plain_common whole box1) box1 (plain_set box1) (shares_of box1) (zeros true) in
+    let log = log_in respelled box1 in
     (get_or (event_at log 6).incoming 27 0 ≡ 7) × (get_or (event_at log 7).incoming 28 0 ≡ 7)
 
+-- ---- two starts
+
 -- box 1 opens a job, drops it and starts another
-unfoldable pub starts_twice : ℕ → ℕ → List Entry
-starts_twice first second =
+unfoldable pub starts_twice : (first count first' count' : ℕ) → List Entry
+starts_twice first count first' count' =
     wakes box1
-    ∷ (box1 does start first (dealt box1 first 3))
+    ∷ (box1 does start first count (dealt box1 first count 3))
     ∷ (box1 does drop)
-    ∷ (box1 does start second (dealt box1 second 3))
+    ∷ (box1 does start first' count' (dealt box1 first' count' 3))
     ∷ []
 
 -- what its two starts come to: the events 1 and 3
-abbrev pub said_twice : ℕ → ℕ → Said × Said
-said_twice first second =
-    let log = events (plain_common (starts_twice first second) box1) box1 (plain_set box1) (shares_of box1) (zeros false) in
+abbrev pub said_twice : (first count first' count' : ℕ) → Said × Said
+said_twice first count first' count' =
+    let counts : Counts = λ place. cond (eqb place 1) count count' in
+    let c = plain_common counts (starts_twice first count first' count') box1 in
+    let log = (run (setting_of c box1 (plain_set box1) (shares_of counts box1) (zeros false)) 0 (world_of c (zeros false)) c.entries).log in
     ((event_at log 1).said, (event_at log 3).said)
 
--- upwards both jobs are opened; downwards the second number is late
+-- upwards both jobs are opened; downwards the second number is late. A start of two jobs takes both numbers, so where one of two starts takes two, a
+-- number that both name is spent at the second
 pub record UpAndDown : Type 0 where
-  pub up : said_twice 0 1 ≡ (replied started, replied started)
-  pub down : said_twice 1 0 ≡ (replied started, replied (refused 15))
+  pub up : said_twice 0 1 1 1 ≡ (replied started, replied started)
+  pub down : said_twice 1 1 0 1 ≡ (replied started, replied (refused 15))
+  pub onto_first : said_twice 0 1 0 2 ≡ (replied started, replied (refused 8))
+  pub onto_second : said_twice 0 2 1 1 ≡ (replied started, replied (refused 8))

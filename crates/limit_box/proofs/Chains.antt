@@ -1,7 +1,7 @@
 -- Grounds in short lists, one after another: past those of which none holds comes the one that decides.
 use Prim.Native.Nat.{ℕ}
-use mathlib.Core.Path.{◌≡◌, sym, ◌∙◌}
-use mathlib.Core.List.{List, ◌∷◌}
+use mathlib.Core.Path.{◌≡◌, sym, ap, ◌∙◌}
+use mathlib.Core.List.{List, [], ◌∷◌, append-nil}
 use Rattle.refusals.specs.Numbers.{number_of}
 use Rattle.refusals.proofs.Numbers.{numbered}
 use Rattle.refusals.specs.Grounds.{Ground, earliest_of, joined}
@@ -21,3 +21,6 @@ past {k} {gs} {parts} none (comes e) = comes (e ∙ sym (first_none gs (joined p
 pub here : {gs : List Ground} {parts : List (List Ground)} (refusal : Refusal) → number_of refusal ≡ earliest_of gs
     → ComesTo (number_of refusal) (gs ∷ parts)
 here {gs} {parts} refusal some = comes (sym (first_some gs (joined parts) (number_of refusal) (sym some) (numbered refusal)))
+
+pub last : {k : ℕ} {gs : List Ground} → k ≡ earliest_of gs → ComesTo k (gs ∷ [])
+last {k} {gs} e = comes (e ∙ ap earliest_of (sym (append-nil gs)))

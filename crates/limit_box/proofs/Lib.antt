@@ -1,3 +1,4 @@
 mod Chains
 mod HandedOn
 mod Hearing
+mod Numbers

@@ -3,7 +3,7 @@
 ghost use Rattle.std.specs.Prelude.{◌≡◌, true, false, ◌+◌, ◌*◌, ◌<◌, length, IfOk};
 ghost use Rattle.field.specs.Width.{listed};
 ghost use Rattle.lists.specs.Joined.{chained};
-ghost use Rattle.tally.specs.Tally.{is_fresh, late};
+ghost use Rattle.tally.specs.Tally.{tally_fits, is_fresh, late};
 ghost use Rattle.protocol.specs.Sizes.{count_fits};
 ghost use Rattle.refusals.specs.Grounds.{earliest_of, joined};
 ghost use Rattle.refusals.specs.Checks.{ground_of};
@@ -58,7 +58,7 @@ fn jobs_check(
     tally: &[u8],
 ) -> Result<(), Refusal>
     requires width { listed state.now.n ≡ true }
-    requires fits { (count_fits count ≡ true) × (length shares.now ≡ 2 * count) × (length tally.now ≡ state.now.tally) }
+    requires fits { (count_fits count ≡ true) × (length shares.now ≡ 2 * count) × (tally_fits (length tally.now) ≡ true) }
     ensures { ground_of result ≡ earliest_of (chained count (λ i. joined (one_parts state.now first count shares.now tapes.now tally.now i))) }
 {
     for i in 0..count as usize {
@@ -68,6 +68,7 @@ fn jobs_check(
 }
 
 // One job of a start.
+#[tactic(auto, using(rules::proofs::Sizes::most_jobs_lem, crate::proofs::Numbers::number_small))]
 fn one_check(
     state: &State,
     first: u32,
@@ -78,7 +79,7 @@ fn one_check(
     i: usize,
 ) -> Result<(), Refusal>
     requires width { listed state.now.n ≡ true }
-    requires fits { (i < count) × (count_fits count ≡ true) × (length shares.now ≡ 2 * count) × (length tally.now ≡ state.now.tally) }
+    requires fits { (i < count) × (count_fits count ≡ true) × (length shares.now ≡ 2 * count) × (tally_fits (length tally.now) ≡ true) }
     requires later { 0 < i → (is_fresh tally.now first ≡ true) × (late tally.now first ≡ false) }
     ensures { ground_of result ≡ earliest_of (joined (one_parts state.now first count shares.now tapes.now tally.now i)) }
 {

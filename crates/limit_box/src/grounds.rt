@@ -7,7 +7,7 @@ ghost use Rattle.tally.specs.Tally.{tapes_of, is_fresh, late};
 ghost use Rattle.protocol.specs.Sizes.{count_fits, most_jobs};
 ghost use Rattle.field.specs.Width.{listed};
 ghost use Rattle.tape.specs.Layout.{tape_length};
-ghost use Rattle.rules.specs.Modes.{mode_of, is_asleep, in_job};
+ghost use Rattle.rules.specs.Modes.{is_asleep};
 ghost use Rattle.rules.specs.Grounds.{message_fits, tapes_long, tape_ordered};
 ghost use Rattle.rules.specs.Grounds.{idle_grounds, job_grounds, count_grounds, list_grounds, mark_grounds, share_grounds, tape_grounds, tapes_grounds, room_grounds, word_grounds};
 
@@ -72,6 +72,7 @@ pub fn list_check(count: u32, shares: &[u32]) -> Result<(), Refusal>
 
 // Job i's tape has a mark, it is fresh, and so are those above it. Above a first number that passed this no tape is spent, so of the later ones only the
 // number is looked at, and the tally is read once.
+#[tactic(auto, using(rules::proofs::Later::later_marks))]
 pub fn mark_check(first: u32, i: usize, tally: &[u8]) -> Result<(), Refusal>
     requires job { i < most_jobs }
     requires later { 0 < i → (is_fresh tally.now first ≡ true) × (late tally.now first ≡ false) }
@@ -125,7 +126,14 @@ fn tape_ordered(state: &State, first: u32, tapes: &[u32], i: usize) -> bool
 }
 
 // The lent tapes are as long as so many, and job i's is its own and in order.
-pub fn tape_check(state: &State, first: u32, count: u32, tapes: &[u32], i: usize) -> Result<(), Refusal>
+#[tactic(auto, using(lists::proofs::Joined::within))]
+pub fn tape_check(
+    state: &State,
+    first: u32,
+    count: u32,
+    tapes: &[u32],
+    i: usize,
+) -> Result<(), Refusal>
     requires width { listed state.now.n ≡ true }
     requires job { (i < count) × (count ≤ most_jobs) × (first + i < 4294967296) }
     ensures { ground_of result ≡ earliest_of (tape_grounds state.now first count tapes.now i) }
@@ -135,8 +143,10 @@ pub fn tape_check(state: &State, first: u32, count: u32, tapes: &[u32], i: usize
 }
 
 // So is every job's.
+#[tactic(auto, using(rules::proofs::Sizes::most_jobs_lem, lists::proofs::Joined::within, lists::proofs::Every::every_fails))]
 pub fn tapes_check(state: &State, tapes: &[u32]) -> Result<(), Refusal>
-    requires { is_asleep (mode_of state.now) ≡ false × in_job (mode_of state.now) ≡ true }
+    requires width { listed state.now.n ≡ true }
+    requires jobs { (count_fits state.now.batch.count ≡ true) × (state.now.batch.first + state.now.batch.count ≤ 4294967296) }
     ensures { ground_of result ≡ earliest_of (tapes_grounds state.now tapes.now) }
 {
     if !tapes_long(state, state.batch.count, tapes) {
@@ -162,7 +172,13 @@ pub fn room_check(n: Width, count: u32, work: &[u32], fits: bool) -> Result<(), 
 }
 
 // The room of a speak or a hear: its other buffer is out or incoming.
-pub fn message_check(n: Width, count: u32, turn: Turn, work: &[u32], buffer: &[u32]) -> Result<(), Refusal>
+pub fn message_check(
+    n: Width,
+    count: u32,
+    turn: Turn,
+    work: &[u32],
+    buffer: &[u32],
+) -> Result<(), Refusal>
     ensures { ground_of result ≡ earliest_of (room_grounds n.bits count work.now (message_fits n.bits count turn (length buffer.now))) }
 {
     room_check(n, count, work, message_fits(n, count, turn, buffer.len()))

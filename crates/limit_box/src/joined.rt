@@ -51,6 +51,7 @@ impl<'a> Joined<'a> {
     }
 
     // The box in job i.
+    #[tactic(auto, using(rules::proofs::Sizes::most_jobs_lem, lists::proofs::Joined::within, tape::proofs::Sizes::small))]
     fn party(self, i: usize) -> Party<'a>
         requires { i < self.state.now.batch.count }
         ensures { given result ≡ party_of self.entry.state.now self.entry.tapes.now i }
@@ -69,6 +70,7 @@ impl<'a> Joined<'a> {
     }
 
     // Writes the round's words of every job at the front of out.
+    #[tactic(auto, using(lists::proofs::Joined::within, protocol::proofs::Lengths::words_most, rules::proofs::Sizes::bounds))]
     pub fn speak(self, round: u32, work: &[u32], out: &mut [u32])
         requires { (work_for self.state.now.n self.state.now.batch.count ≤ length work.now)
             × (round_for self.state.now.n self.state.now.batch.count round ≤ length out.old) }
@@ -85,6 +87,7 @@ impl<'a> Joined<'a> {
     }
 
     // Takes in the other box's words, each job its own. The answer shares come back after the last round.
+    #[tactic(auto, using(lists::proofs::Joined::within, protocol::proofs::Lengths::words_most, rules::proofs::Sizes::most_jobs_lem, rules::proofs::Sizes::bounds))]
     pub fn hear(self, round: u32, work: &mut [u32], incoming: &[u32]) -> Option<[u32; MOST_JOBS]>
         requires room { work_for self.state.now.n self.state.now.batch.count ≤ length work.old }
         requires words { (length incoming.now ≡ round_for self.state.now.n self.state.now.batch.count round)
@@ -102,6 +105,10 @@ impl<'a> Joined<'a> {
             let heard = &incoming[i * words..i * words + words];
             answers[i] = self.party(i).hear(round, kept, heard).unwrap_or(0);
         }
-        if round == LAST_ROUND { Some(answers) } else { None }
+        if round == LAST_ROUND {
+            Some(answers)
+        } else {
+            None
+        }
     }
 }

@@ -144,6 +144,7 @@ opened s first count shares tapes work tally z =
     record {
       awake = p.awake;
       same_length = p.same_tally;
+      two_each = p.listed;
       was_fresh = p.fresh;
       not_late = p.in_time;
       is_spent = rw z left.spent;

@@ -6,7 +6,7 @@ pub mod Passed
 pub mod Spoken
 pub mod Later
 mod Refusals
-mod Moves
+pub mod Moves
 pub mod Answering
 pub mod AsRead
 pub mod Sizes

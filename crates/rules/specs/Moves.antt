@@ -1,5 +1,5 @@
 -- How a call moves the box: what it finds, answers and leaves where it is not refused, and what a start that takes jobs does.
-use Rattle.std.specs.Prelude.{ℕ, ◌+◌, ◌<◌, ◌≤◌, ◌≡◌, true, false, List, ◌⊎◌, length, get_or}
+use Rattle.std.specs.Prelude.{ℕ, ◌+◌, ◌*◌, ◌<◌, ◌≤◌, ◌≡◌, true, false, List, ◌⊎◌, length, get_or}
 use Rattle.protocol.specs.Rounds.{last_round}
 use Rattle.protocol.specs.Sizes.{round_for}
 use Rattle.rules.specs.Answers.{Reply, fresh, started, spoke, heard, finished, dropped}
@@ -29,11 +29,12 @@ pub data Moves (n : ℕ) : Phase → Batch → Call → Reply → Phase → Batc
       → Moves n (Job (Hear last_round)) b (hear b.first last_round tapes work incoming) (finished answers) Idle no_batch
   drops : {b : Batch} {turn : Turn} → Moves n (Job turn) b drop dropped Idle no_batch
 
--- a start takes jobs: the state is awake, every job's tape is fresh and not late in a lent tally of the state's length, and the tally that is left differs
+-- a start takes jobs: the state is awake, the list has two shares for each, every job's tape is fresh and not late in a lent tally of the state's length, and the tally that is left differs
 -- in the four bytes of each of these tapes alone
 pub record Opens (s : State) (first count : ℕ) (shares lent : List ℕ) (result : Result) : Type 0 where
   pub awake : is_asleep (mode_of s) ≡ false
   pub same_length : length lent ≡ s.tally
+  pub two_each : length shares ≡ 2 * count
   pub was_fresh : (i : ℕ) → i < count → is_fresh lent (first + i) ≡ true
   pub not_late : (i : ℕ) → i < count → late lent (first + i) ≡ false
   pub is_spent : (i : ℕ) → i < count → is_fresh result.buffer (first + i) ≡ false

@@ -1,65 +1,111 @@
 use Rattle.std.proofs.Common.{rules}
 use Prim.Native.Nat.{ℕ, ◌+◌, ◌≤◌}
-use mathlib.Core.Path.{◌≡◌, refl, sym, subst, ◌∙◌}
+use mathlib.Core.Path.{◌≡◌, refl, sym, ap, subst, ◌∙◌}
+use mathlib.Core.List.{List}
 use native.Mathlib.Omega.{arith}
 use lib.ListN.{length}
+use Rattle.std.specs.Prelude.{Option, Some, Result, Ok}
+use Rattle.refusals.specs.declared.Refusal.{Refusal}
 use Rattle.protocol.specs.Products.{Party}
 use Rattle.protocol.specs.Exchange.{Both, exchanged}
-use Rattle.protocol.specs.Rounds.{earlier_rounds, last_round, round_words}
-use Rattle.rules.specs.Calls.{party_of}
-use Rattle.exchange.specs.Boxes.{works}
+use Rattle.protocol.specs.Rounds.{earlier_rounds, last_round}
+use Rattle.protocol.specs.Sizes.{round_for}
+use Rattle.rules.specs.Answers.{finished, heard_or_finished, reply_of}
+use Rattle.rules.specs.Batches.{party_of, joined_message}
+use Rattle.rules.specs.Calls.{Result as Called, outcome, heard_after}
+use Rattle.rules.specs.declared.state.State.{State}
+use Rattle.rules.proofs.Batches.{each_same}
+use Rattle.exchange.specs.Boxes.{works_of, answers1, answers2}
 use Rattle.exchange.proofs.Exchanges.{more_own, more_others, last_own, last_others}
-use Rattle.exchange.proofs.Told.{told_share}
-use Rattle.exchange.proofs.Course.{Course, course_first, course_width, course_room, course_sends, course_next, course_last}
-use Rattle.exchange.proofs.answers.Goals.{After-loop-heard, After-round-heard1, At-loop-heard}
+use Rattle.exchange.proofs.Told.{told_shares}
+use Rattle.exchange.proofs.Course.{Course, course_first, course_width, course_count, course_room, course_tells, course_next, course_last}
+use Rattle.exchange.proofs.answers.Goals.{After-loop-heard, At-loop-heard}
 use Rattle.exchange.proofs.answers.Goals as goal
 
--- room for any round, and one width
+-- room for any round, and one width and count
 record Fits (l : At-loop-heard) (round : ℕ) : Type 0 where
-  out1 : round_words l.loop-heard.s1.n round ≤ length l.loop-heard.o1
-  out2 : round_words l.loop-heard.s2.n round ≤ length l.loop-heard.o2
+  out1 : round_for l.loop-heard.s1.n l.loop-heard.s1.batch.count round ≤ length l.loop-heard.o1
+  out2 : round_for l.loop-heard.s2.n l.loop-heard.s2.batch.count round ≤ length l.loop-heard.o2
   width : l.loop-heard.s1.n ≡ l.loop-heard.s2.n
+  count : l.loop-heard.s1.batch.count ≡ l.loop-heard.s2.batch.count
 
 fits : (l : At-loop-heard) (round : ℕ) → Fits l round
 fits l round =
     let inv = l.loop-heard.invariant in
+    let same = l.requires.same in
     record {
       out1 = course_room inv.box1 round l.loop-heard.o1 (omega (arith, l.requires.box1.1, inv.same_o1));
       out2 = course_room inv.box2 round l.loop-heard.o2 (omega (arith, l.requires.box2.1, inv.same_o2));
-      width = course_width inv.box1 ∙ l.requires.width ∙ sym (course_width inv.box2);
+      width = course_width inv.box1 ∙ same.0 ∙ sym (course_width inv.box2);
+      count = course_count inv.box1 ∙ same.1 ∙ sym (course_count inv.box2);
     }
 
 -- each box on its course, where the loop ends
 module _ (a : After-loop-heard) where
-  abbrev box1 : Party
-  box1 = party_of a.args.s1.now a.args.t1.now
+  abbrev box1 : ℕ → Party
+  box1 i = party_of a.args.s1.now a.args.t1.now i
 
-  abbrev box2 : Party
-  box2 = party_of a.args.s2.now a.args.t2.now
+  abbrev box2 : ℕ → Party
+  box2 i = party_of a.args.s2.now a.args.t2.now i
 
-  abbrev both : ℕ → Both
-  both k = exchanged box1 box2 (works a.args.w1.now a.args.w2.now) k
+  abbrev first : ℕ → Both
+  first i = works_of a.args.s1.now a.args.s2.now a.args.w1.now a.args.w2.now i
+
+  abbrev both : ℕ → ℕ → Both
+  both k i = exchanged (box1 i) (box2 i) (first i) k
 
   -- all rounds but the last are heard
   all_heard : a.loop-heard.heard ≡ earlier_rounds
   all_heard = omega arith
 
-  ended1 : Course a.args.s1.now a.args.number a.args.t1.now earlier_rounds (both earlier_rounds).own a.loop-heard.s1 a.loop-heard.w1
+  ended1 : Course a.args.s1.now a.args.first a.args.t1.now earlier_rounds (λ i. (both earlier_rounds i).own) a.loop-heard.s1 a.loop-heard.w1
   ended1 =
-      subst (λ (k : ℕ). Course a.args.s1.now a.args.number a.args.t1.now k (both k).own a.loop-heard.s1 a.loop-heard.w1) all_heard
+      subst (λ (k : ℕ). Course a.args.s1.now a.args.first a.args.t1.now k (λ i. (both k i).own) a.loop-heard.s1 a.loop-heard.w1) all_heard
       a.loop-heard.invariant.box1
 
-  ended2 : Course a.args.s2.now a.args.number a.args.t2.now earlier_rounds (both earlier_rounds).others a.loop-heard.s2 a.loop-heard.w2
+  ended2 : Course a.args.s2.now a.args.first a.args.t2.now earlier_rounds (λ i. (both earlier_rounds i).others) a.loop-heard.s2 a.loop-heard.w2
   ended2 =
-      subst (λ (k : ℕ). Course a.args.s2.now a.args.number a.args.t2.now k (both k).others a.loop-heard.s2 a.loop-heard.w2) all_heard
+      subst (λ (k : ℕ). Course a.args.s2.now a.args.first a.args.t2.now k (λ i. (both k i).others) a.loop-heard.s2 a.loop-heard.w2) all_heard
       a.loop-heard.invariant.box2
+
+  -- the messages of the last round
+  abbrev last1 : List ℕ
+  last1 = joined_message a.loop-heard.s1 a.args.t1.now a.loop-heard.w1 last_round
+
+  abbrev last2 : List ℕ
+  last2 = joined_message a.loop-heard.s2 a.args.t2.now a.loop-heard.w2 last_round
+
+  -- whose hears give the answer shares
+  module _ (r : Result (Option (List ℕ)) Refusal) (s : State) (w : List ℕ) where
+    abbrev gave : Called
+    gave = outcome (reply_of heard_or_finished r) s w
+
+    gives1 : gave ≡ heard_after a.loop-heard.s1 a.args.t1.now a.loop-heard.w1 last_round last2
+        → r ≡ Ok (Some (answers1 a.args.s1.now a.args.s2.now a.args.t1.now a.args.t2.now a.args.w1.now a.args.w2.now))
+    gives1 e =
+        let n = a.args.s1.now.n in
+        let count = a.args.s1.now.batch.count in
+        let told = course_tells ended2 n count a.requires.same.0 a.requires.same.1 last_round in
+        told_shares r _
+        (course_last ended1 _ _ told _ s w refl e
+        ∙ ap finished (each_same count _ _ (λ i less. sym (last_own (box1 i) (box2 i) (first i)))))
+
+    gives2 : gave ≡ heard_after a.loop-heard.s2 a.args.t2.now a.loop-heard.w2 last_round last1
+        → r ≡ Ok (Some (answers2 a.args.s1.now a.args.s2.now a.args.t1.now a.args.t2.now a.args.w1.now a.args.w2.now))
+    gives2 e =
+        let n = a.args.s2.now.n in
+        let count = a.args.s2.now.batch.count in
+        let told = course_tells ended1 n count (sym a.requires.same.0) (sym a.requires.same.1) last_round in
+        told_shares r _
+        (course_last ended2 _ _ told _ s w refl e
+        ∙ ap finished (each_same count _ _ (λ i less. sym (last_others (box1 i) (box2 i) (first i)))))
 
 pub loop-heard-init : goal.loop-heard-init
 unfolding exchanged
 loop-heard-init c =
     let v = c.args in record {
-      box1 = course_first v.s1.now v.number v.t1.now v.w1.now c.requires.box1.0;
-      box2 = course_first v.s2.now v.number v.t2.now v.w2.now c.requires.box2.0;
+      box1 = course_first v.s1.now v.first v.t1.now v.w1.now c.requires.box1.0;
+      box2 = course_first v.s2.now v.first v.t2.now v.w2.now c.requires.box2.0;
       same_w1 = refl;
       same_w2 = refl;
       same_o1 = refl;
@@ -69,19 +115,25 @@ loop-heard-init c =
 pub round-requires : goal.round-requires
 round-requires c =
     let f = fits (goal.at.round-requires c).At-loop-heard (c.loop-heard.heard + 1) in
-    record { box1 = (c.loop-heard.invariant.box1.due, f.out1); box2 = (c.loop-heard.invariant.box2.due, f.out2); width = f.width }
+    let inv = c.loop-heard.invariant in
+    record { box1 = (inv.box1.due, f.out1); box2 = (inv.box2.due, f.out2); same = (f.width, f.count) }
 
 pub loop-heard-preserved : goal.loop-heard-preserved
 loop-heard-preserved c =
     let v = c.args in
-    let box1 = party_of v.s1.now v.t1.now in
-    let box2 = party_of v.s2.now v.t2.now in
-    let first = works v.w1.now v.w2.now in
+    let s1 = v.s1.now in
+    let s2 = v.s2.now in
+    let same = c.requires.same in
     let less = c.loop-heard-test.true in
     let inv = c.loop-heard.invariant in
-    let k = c.loop-heard.heard in record {
-      box1 = course_next inv.box1 _ _ (course_sends inv.box2 (k + 1)) _ c.round.new.s1 _ less c.round.ensures.box1.1 _ (more_own box1 box2 first k);
-      box2 = course_next inv.box2 _ _ (course_sends inv.box1 (k + 1)) _ c.round.new.s2 _ less c.round.ensures.box2.1 _ (more_others box1 box2 first k);
+    let k = c.loop-heard.heard in
+    let told1 = course_tells inv.box2 s1.n s1.batch.count same.0 same.1 (k + 1) in
+    let told2 = course_tells inv.box1 s2.n s2.batch.count (sym same.0) (sym same.1) (k + 1) in
+    let more1 = λ (i : ℕ). more_own (party_of s1 v.t1.now i) (party_of s2 v.t2.now i) (works_of s1 s2 v.w1.now v.w2.now i) k in
+    let more2 = λ (i : ℕ). more_others (party_of s1 v.t1.now i) (party_of s2 v.t2.now i) (works_of s1 s2 v.w1.now v.w2.now i) k in
+    record {
+      box1 = course_next inv.box1 _ _ told1 _ c.round.new.s1 _ less c.round.ensures.box1.1 _ more1;
+      box2 = course_next inv.box2 _ _ told2 _ c.round.new.s2 _ less c.round.ensures.box2.1 _ more2;
       same_w1 = omega (arith, c.round.auto.w1, inv.same_w1);
       same_w2 = omega (arith, c.round.auto.w2, inv.same_w2);
       same_o1 = omega (arith, c.round.auto.o1, inv.same_o1);
@@ -91,24 +143,20 @@ loop-heard-preserved c =
 pub round-heard1-requires : goal.round-heard1-requires
 round-heard1-requires c =
     let f = fits (goal.at.round-heard1-requires c).At-loop-heard last_round in
-    record { box1 = ((ended1 (goal.at.round-heard1-requires c).After-loop-heard).due, f.out1); box2 = ((ended2 (goal.at.round-heard1-requires c).After-loop-heard).due, f.out2); width = f.width }
+    let a = (goal.at.round-heard1-requires c).After-loop-heard in
+    record { box1 = ((ended1 a).due, f.out1); box2 = ((ended2 a).due, f.out2); same = (f.width, f.count) }
 
-pub share_in-requires : goal.share_in-requires
-share_in-requires c =
-    let a = (goal.at.share_in-requires c).After-loop-heard in
-    rw (told_share _ _ (course_last (ended1 a) _ _ (course_sends (ended2 a) last_round) _ c.round-heard1.new.s1 _ refl c.round-heard1.ensures.box1.1)) (search rules)
+pub shares_in-requires : goal.shares_in-requires
+shares_in-requires c =
+    rw (gives1 (goal.at.shares_in-requires c).After-loop-heard _ c.round-heard1.new.s1 _ c.round-heard1.ensures.box1.1) (search rules)
 
-pub share_in-requires-2 : goal.share_in-requires-2
-share_in-requires-2 c =
-    let a = (goal.at.share_in-requires-2 c).After-loop-heard in
-    rw (told_share _ _ (course_last (ended2 a) _ _ (course_sends (ended1 a) last_round) _ c.round-heard1.new.s2 _ refl c.round-heard1.ensures.box2.1)) (search rules)
+pub shares_in-requires-2 : goal.shares_in-requires-2
+shares_in-requires-2 c =
+    rw (gives2 (goal.at.shares_in-requires-2 c).After-loop-heard _ c.round-heard1.new.s2 _ c.round-heard1.ensures.box2.1) (search rules)
 
 pub returns : goal.returns
 returns c =
     let a = (goal.at.returns c).After-loop-heard in
-    let first = works c.args.w1.now c.args.w2.now in
-    let share1 = told_share _ _ (course_last (ended1 a) _ _ (course_sends (ended2 a) last_round) _ c.round-heard1.new.s1 _ refl c.round-heard1.ensures.box1.1) in
-    let share2 = told_share _ _ (course_last (ended2 a) _ _ (course_sends (ended1 a) last_round) _ c.round-heard1.new.s2 _ refl c.round-heard1.ensures.box2.1) in
-    let own = last_own (box1 a) (box2 a) first in
-    let others = last_others (box1 a) (box2 a) first in
+    let given1 = gives1 a _ c.round-heard1.new.s1 _ c.round-heard1.ensures.box1.1 in
+    let given2 = gives2 a _ c.round-heard1.new.s2 _ c.round-heard1.ensures.box2.1 in
     record { box1 = cc; box2 = cc }

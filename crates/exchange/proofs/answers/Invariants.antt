@@ -7,8 +7,8 @@ use Rattle.exchange.proofs.answers.Given as goal
 
 abbrev pub invariant-loop-heard : goal.invariant-loop-heard
 invariant-loop-heard l = record {
-  box1 : Course l.initial.s1 l.number l.t1 l.heard (after l.initial.s1 l.initial.s2 l.t1 l.t2 l.initial.w1 l.initial.w2 l.heard).own l.s1 l.w1;
-  box2 : Course l.initial.s2 l.number l.t2 l.heard (after l.initial.s1 l.initial.s2 l.t1 l.t2 l.initial.w1 l.initial.w2 l.heard).others l.s2 l.w2;
+  box1 : Course l.initial.s1 l.first l.t1 l.heard (λ i. (after l.initial.s1 l.initial.s2 l.t1 l.t2 l.initial.w1 l.initial.w2 i l.heard).own) l.s1 l.w1;
+  box2 : Course l.initial.s2 l.first l.t2 l.heard (λ i. (after l.initial.s1 l.initial.s2 l.t1 l.t2 l.initial.w1 l.initial.w2 i l.heard).others) l.s2 l.w2;
   same_w1 : length l.w1 ≡ length l.initial.w1;
   same_w2 : length l.w2 ≡ length l.initial.w2;
   same_o1 : length l.o1 ≡ length l.initial.o1;

@@ -8,10 +8,13 @@ returns-in_err-wake c =
     let a = c.args in
     let same : c.from_residual.result ≡ Err c.in_err-wake.field-0.0 = search rules in
     rw same
-    (begun_refused a.state.now a.n a.side a.pair a.number a.own.x a.own.y a.tape.now a.work.now a.tally.now c.in_err-wake.field-0.0 c.wake.new.state c.in_err-wake.ensures)
+    (begun_refused a.state.now a.n a.side a.pair a.first a.count a.shares.now a.tapes.now a.work.now a.tally.now
+    c.in_err-wake.field-0.0 c.wake.new.state c.in_err-wake.ensures)
 
 pub returns : goal.returns
 returns c =
     let a = c.args in
     c.start.ensures
-    ∙ sym (begun_woken a.state.now a.n a.side a.pair a.number a.own.x a.own.y a.tape.now a.work.now a.tally.now c.in_ok-wake.field-0 c.wake.new.state c.in_ok-wake.ensures)
+    ∙ sym
+    (begun_woken a.state.now a.n a.side a.pair a.first a.count a.shares.now a.tapes.now a.work.now a.tally.now
+    c.in_ok-wake.field-0 c.wake.new.state c.in_ok-wake.ensures)

@@ -1,36 +1,28 @@
--- `exchange::opened` meets its contract: an out that is too short is refused, and otherwise the two answer shares are added.
+-- `exchange::opened` meets its contract: an out that is too short is refused, and otherwise the answer shares are added.
 use Prim.Native.Nat.{ℕ, ◌+◌, ◌%◌, ◌<◌}
-use native.Mathlib.Nat.{le_of_lt}
-use mathlib.Core.Path.{◌≡◌, refl, sym, ap₂, subst, ◌∙◌}
+use mathlib.Core.Path.{◌≡◌, refl, sym, ap, ap₂, subst, ◌∙◌}
 use mathlib.Core.Bool.{true}
+use mathlib.Core.List.{List}
+use native.Mathlib.Omega.{arith}
 use borrow.Author.Tests.{leb-true, not-true, not-false}
 use lib.Dec.{leb}
-use lib.ListN.{length}
+use lib.ListN.{length, get_or}
+use Rattle.lists.specs.Tabulate.{tabulate}
 use Rattle.lists.proofs.Tests.{and_left, and_right}
 use Rattle.field.specs.Width.{modulus}
-use Rattle.protocol.specs.Products.{Party}
-use Rattle.protocol.specs.Rounds.{round_words}
-use Rattle.protocol.specs.Exchange.{Both, answer_own, answer_others}
-use Rattle.rules.specs.Calls.{party_of}
+use Rattle.field.proofs.Widths.{bounds}
+use Rattle.protocol.specs.Sizes.{most_jobs, round_for}
+use Rattle.rules.specs.Batches.{each_job, party_of}
 use Rattle.rules.proofs.Ranges.{ranged}
-use Rattle.exchange.specs.Boxes.{works}
+use Rattle.exchange.specs.Boxes.{works_of, answer1, answer2, answers1, answers2}
 use Rattle.exchange.specs.Jobs.{roomy}
 use Rattle.exchange.proofs.Exchanges.{own_below, others_below}
+use Rattle.exchange.proofs.Sums.{each_below, each_added}
 use Rattle.exchange.proofs.opened.Goals.{Else-not-has_room, Start}
 use Rattle.exchange.proofs.opened.Goals as goal
 
--- the two boxes, and what they held first
-abbrev box1 : Start → Party
-box1 s = party_of s.args.s1.now s.args.t1.now
-
-abbrev box2 : Start → Party
-box2 s = party_of s.args.s2.now s.args.t2.now
-
-abbrev first : Start → Both
-first s = works s.args.w1.now s.args.w2.now
-
 -- both outs have room
-room : (e : Else-not-has_room) → let v = e.args in roomy v.n.bits v.o1.now v.o2.now ≡ true
+room : (e : Else-not-has_room) → let v = e.args in roomy v.n.bits v.count v.o1.now v.o2.now ≡ true
 room e = sym e.has_room.ensures ∙ not-false _ e.if-not-has_room.false-raw
 
 pub returns-then-not-has_room : goal.returns-then-not-has_room
@@ -38,30 +30,56 @@ returns-then-not-has_room c =
     let short = sym c.has_room.ensures ∙ not-true _ c.if-not-has_room.true-raw in
     (rw short refl, rw short refl)
 
-pub answers-share1-requires : goal.answers-share1-requires
-answers-share1-requires c =
+pub answers-requires : goal.answers-requires
+answers-requires c =
     let v = c.args in
     let p = c.requires in
-    let enough1 = leb (round_words v.n.bits 1) (length v.o1.now) in
-    let enough2 = leb (round_words v.n.bits 1) (length v.o2.now) in
-    let fits1 = leb-true _ _ (and_left enough1 enough2 (room (goal.at.answers-share1-requires c).Else-not-has_room)) in
-    let fits2 = leb-true _ _ (and_right enough1 enough2 (room (goal.at.answers-share1-requires c).Else-not-has_room)) in
-    record { box1 = (p.ready.0, rw p.width.0 fits1); box2 = (p.ready.1, rw p.width.1 fits2); width = p.width.0 ∙ sym p.width.1 }
+    let words = round_for v.n.bits v.count 1 in
+    let both = room (goal.at.answers-requires c).Else-not-has_room in
+    let fits1 = leb-true words (length v.o1.now) (and_left (leb words (length v.o1.now)) (leb words (length v.o2.now)) both) in
+    let fits2 = leb-true words (length v.o2.now) (and_right (leb words (length v.o1.now)) (leb words (length v.o2.now)) both) in
+    record {
+      box1 = (p.ready.0, rw (p.width.0, p.count.0) fits1);
+      box2 = (p.ready.1, rw (p.width.1, p.count.1) fits2);
+      same = (p.width.0 ∙ sym p.width.1, p.count.0 ∙ sym p.count.1);
+    }
+
+-- the answer shares are below p
+module _ (s : Start) where
+  some : 0 < modulus s.args.n.bits
+  some = omega (arith, (bounds s.args.n.listed).seven)
+
+  below1 : (i : ℕ) → get_or (answers1 s.args.s1.now s.args.s2.now s.args.t1.now s.args.t2.now s.args.w1.now s.args.w2.now) i 0 < modulus s.args.n.bits
+  below1 =
+      let v = s.args in
+      let width = (ranged v.s1.now s.requires.ready.0.ranged).width in
+      each_below v.s1.now.batch.count _ some
+      (λ i.
+      subst (λ (n : ℕ). answer1 v.s1.now v.s2.now v.t1.now v.t2.now v.w1.now v.w2.now i < modulus n) s.requires.width.0
+      (own_below (party_of v.s1.now v.t1.now i) (party_of v.s2.now v.t2.now i) (works_of v.s1.now v.s2.now v.w1.now v.w2.now i) width))
+
+  below2 : (i : ℕ) → get_or (answers2 s.args.s1.now s.args.s2.now s.args.t1.now s.args.t2.now s.args.w1.now s.args.w2.now) i 0 < modulus s.args.n.bits
+  below2 =
+      let v = s.args in
+      let width = (ranged v.s2.now s.requires.ready.1.ranged).width in
+      each_below v.s2.now.batch.count _ some
+      (λ i.
+      subst (λ (n : ℕ). answer2 v.s1.now v.s2.now v.t1.now v.t2.now v.w1.now v.w2.now i < modulus n) s.requires.width.1
+      (others_below (party_of v.s1.now v.t1.now i) (party_of v.s2.now v.t2.now i) (works_of v.s1.now v.s2.now v.w1.now v.w2.now i) width))
+
+pub added-requires : goal.added-requires
+added-requires c = λ i.
+    let s = (goal.at.added-requires c).Start in
+    (rw c.answers.ensures.box1 (below1 s i), rw c.answers.ensures.box2 (below2 s i))
 
 pub returns : goal.returns
 returns c =
+    let v = c.args in
     let enough = room (goal.at.returns c).Else-not-has_room in
-    let n = c.args.n.bits in
-    (rw enough refl, rw enough (c.add.ensures.value ∙ ap₂ (λ (x y : ℕ). (x + y) % modulus n) c.answers-share1.ensures.box1 c.answers-share1.ensures.box2))
-
-pub add-requires : goal.add-requires
-add-requires c =
-    let s = (goal.at.add-requires c).Start in
-    let v = s.args in
-    let width1 = s.requires.width.0 in
-    let width2 = s.requires.width.1 in
-    let listed1 = (ranged v.s1.now s.requires.ready.0.ranged).width in
-    let listed2 = (ranged v.s2.now s.requires.ready.1.ranged).width in (
-      rw c.answers-share1.ensures.box1 (subst (λ (n : ℕ). answer_own (box1 s) (box2 s) (first s) < modulus n) width1 (own_below (box1 s) (box2 s) (first s) listed1)),
-      le_of_lt (rw c.answers-share1.ensures.box2 (subst (λ (n : ℕ). answer_others (box1 s) (box2 s) (first s) < modulus n) width2 (others_below (box1 s) (box2 s) (first s) listed2))),
-    )
+    let p = modulus v.n.bits in
+    let shares1 = answer1 v.s1.now v.s2.now v.t1.now v.t2.now v.w1.now v.w2.now in
+    let shares2 = answer2 v.s1.now v.s2.now v.t1.now v.t2.now v.w1.now v.w2.now in
+    let list1 = c.answers.ensures.box1 ∙ ap (λ (k : ℕ). each_job k shares1) c.requires.count.0 in
+    let list2 = c.answers.ensures.box2 ∙ ap (λ (k : ℕ). each_job k shares2) c.requires.count.1 in
+    let sums = ap₂ (λ (x y : List ℕ). tabulate most_jobs (λ i. (get_or x i 0 + get_or y i 0) % p)) list1 list2 in
+    (rw enough refl, rw enough (c.added.ensures ∙ sums ∙ each_added p v.count shares1 shares2))

@@ -1,0 +1,32 @@
+-- `limit_box::joined::Joined::speak` meets its contract: each job's message goes to its part of out.
+use Rattle.std.proofs.Common.{◌≡◌, ◌*◌, ◌+◌, ◌≤◌, ℕ, sym, ap, ◌∙◌, arith}
+use lib.ListN.{length}
+use lib.Seq.{sets}
+use Rattle.lists.specs.Joined.{chained}
+use Rattle.lists.proofs.Joined.{within}
+use Rattle.protocol.specs.Work.{work_length}
+use Rattle.protocol.specs.Rounds.{round_words}
+use Rattle.rules.specs.Batches.{joined_message}
+use Rattle.limit_box.proofs.Hearing.{message_at, speak_part, speak_turn}
+use Rattle.limit_box.proofs.joined.Joined.speak.Goals as goal
+
+pub loop-i-preserved : goal.loop-i-preserved
+loop-i-preserved c =
+    let s = c.args.self.state.now in
+    let tapes = c.args.self.tapes.now in
+    let words : c.words_of-words.result ≡ round_words s.n c.args.round =
+    c.words_of-words.ensures ∙ ap (λ (n : ℕ). round_words n c.args.round) c.width-n.ensures in
+    let room : c.work_words-room.result ≡ work_length s.n = c.work_words-room.ensures ∙ ap (λ (n : ℕ). work_length n) c.width-n.ensures in
+    let fits : c.loop-i.i * round_words s.n c.args.round + round_words s.n c.args.round ≤ length c.loop-i.out =
+    omega (arith, within s.batch.count (round_words s.n c.args.round) c.loop-i.i c.loop-i-test.true, c.requires.1, c.loop-i.auto.out) in
+    let own = c.speak.ensures ∙ speak_part s tapes c.args.work.now c.args.round _ _ _ c.loop-i.out c.loop-i.i words room c.party.ensures fits in
+    rw words
+    (speak_turn s tapes c.args.work.now c.args.round c.args.out.now c.loop-i.out c.speak.new.out c.loop-i.i c.loop-i-test.true c.requires.1 c.loop-i.invariant own)
+
+pub returns : goal.returns
+unfolding joined_message
+returns c =
+    let a = c.args in
+    let s = a.self.state.now in
+    let all : c.loop-i.i ≡ s.batch.count = omega arith in
+    c.loop-i.invariant ∙ ap (λ (k : ℕ). sets a.out.now 0 (chained k (message_at s a.self.tapes.now a.work.now a.round))) all
