@@ -25,6 +25,7 @@ use rules::state;
 use rules::state::{MOST_JOBS, State};
 
 pub mod memory;
+pub mod rooms;
 
 // A box's shares of x and y.
 #[derive(Clone, Copy, Debug, PartialEq, Eq)]
@@ -134,7 +135,7 @@ pub fn both_hear(
 
 // How many words so many jobs send in a round.
 #[tactic(auto, using(protocol::proofs::Lengths::words_most))]
-fn words_for(n: Width, count: u32, round: u32) -> usize
+pub fn words_for(n: Width, count: u32, round: u32) -> usize
     ensures { result ≡ round_for n.bits count round }
 {
     count as usize * compare::words::words_of(n, round)

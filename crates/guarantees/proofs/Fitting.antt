@@ -10,6 +10,7 @@ use lib.Pow.{pow_mono}
 use Rattle.lists.proofs.Every.{every_intro, every_at}
 use Rattle.field.specs.Width.{modulus}
 use Rattle.shares.specs.Reading.{legible}
+use Rattle.rules.specs.Answers.{spoken_words}
 use Rattle.rules.specs.Grounds.{words_fit, speak_ground}
 use Rattle.rules.specs.Batches.{joined_message}
 use Rattle.rules.specs.Calls.{speak_rule}
@@ -19,7 +20,7 @@ use Rattle.rules.proofs.Passed.{speak_passed}
 use Rattle.rules.proofs.Spoken.{spoken_front, message_fits_lem}
 use Rattle.guarantees.specs.Boxes.{Box, box1, box2}
 use Rattle.guarantees.specs.Entries.{Step, wake, start, speak, hear, drop, cut, cut_start}
-use Rattle.guarantees.specs.Run.{Setting, Memory, replied, Event, World, memory_of, after, event_at, tape_words, spoken_words, stepped}
+use Rattle.guarantees.specs.Run.{Setting, Memory, replied, Event, World, memory_of, after, event_at, tape_words, stepped}
 use Rattle.guarantees.specs.Outcomes.{kind_of}
 use Rattle.guarantees.proofs.Outcomes.{is_message}
 

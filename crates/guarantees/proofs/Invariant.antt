@@ -19,7 +19,7 @@ use Rattle.protocol.specs.Work.{work_length}
 use Rattle.protocol.specs.Rounds.{earlier_rounds, last_round, answer_share}
 use Rattle.protocol.specs.Sizes.{count_fits, work_for}
 use Rattle.protocol.proofs.Live.{Live, message_live, after_live, answer_live}
-use Rattle.rules.specs.Answers.{heard, finished}
+use Rattle.rules.specs.Answers.{heard, finished, spoken_words}
 use Rattle.rules.specs.Modes.{round_of, in_range, mode_of, is_asleep, in_phase}
 use Rattle.rules.specs.Batches.{x_in, y_in, no_batch, tape_part, work_part, words_part, party_of, joined_message, joined_after, answer_shares}
 use Rattle.rules.specs.Grounds.{wake_ground, start_ground, speak_ground, hear_ground, drop_ground}
@@ -33,7 +33,7 @@ use Rattle.guarantees.specs.Boxes.{Box, box1, box2, side_of, other_box}
 use Rattle.guarantees.specs.Keys.{Key, job_key, key_at}
 use Rattle.guarantees.specs.Outcomes.{Kind, opening, message, answer, plain, kind_of}
 use Rattle.guarantees.specs.Entries.{Lent, dealt, Incoming, Step, wake, start, speak, hear, drop, cut, cut_start}
-use Rattle.guarantees.specs.Run.{Lending, Setting, Memory, Said, replied, Event, World, memory_of, after, after_start, after_cut, cut_said, event_at, tape_words, line_words, incoming_words, spoken_words, stepped}
+use Rattle.guarantees.specs.Run.{Lending, Setting, Memory, Said, replied, Event, World, memory_of, after, after_start, after_cut, cut_said, event_at, tape_words, line_words, incoming_words, stepped}
 use Rattle.guarantees.specs.Premises.{TrueMessage, Keeps}
 use Rattle.guarantees.specs.Jobs.{party_at, sent_in, answer_in, sent_by, answers_by}
 use Rattle.guarantees.proofs.Outcomes.{cut_plain}

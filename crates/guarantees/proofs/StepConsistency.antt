@@ -10,7 +10,7 @@ use lib.Seq.{length-sets}
 use borrow.Author.Tests.{le-leb, eqb-true, eqb-false}
 use Rattle.lists.proofs.Tabulate.{length_tabulate}
 use Rattle.protocol.specs.Rounds.{last_round}
-use Rattle.rules.specs.Answers.{refused}
+use Rattle.rules.specs.Answers.{refused, spoken_words}
 use Rattle.rules.specs.Modes.{round_of, round_fits, in_range, mode_of, is_asleep, in_phase}
 use Rattle.rules.specs.Batches.{no_batch, batch_of, joined_after}
 use Rattle.rules.specs.Grounds.{wake_ground, start_ground, speak_ground, hear_ground}
@@ -28,7 +28,7 @@ use Rattle.rules.proofs.Moves.{started_job}
 use Rattle.guarantees.specs.Boxes.{Box, box1, box2}
 use Rattle.guarantees.specs.Keys.{job_key, key_at, key_of, open_key}
 use Rattle.guarantees.specs.Entries.{Step, wake, start, speak, hear, drop, cut, cut_start}
-use Rattle.guarantees.specs.Run.{Setting, Memory, nothing, lost, replied, Event, World, memory_of, after, tape_words, incoming_words, spoken_words, cut_said, after_cut, stepped}
+use Rattle.guarantees.specs.Run.{Setting, Memory, nothing, lost, replied, Event, World, memory_of, after, tape_words, incoming_words, cut_said, after_cut, stepped}
 use Rattle.guarantees.specs.View.{covered}
 use Rattle.guarantees.proofs.LowEquivalence.{LowState, LowMemory, LowEvent, LowEquivalent}
 use Rattle.guarantees.proofs.LowModes.{mode_same, job_same}

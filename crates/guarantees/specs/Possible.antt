@@ -27,14 +27,18 @@ pair_number = 5
 abbrev pub Counts : Type 0
 Counts = ℕ → ℕ
 
--- modulo 7 x = 5 + 5 is 3 and y = 1 + 3 is 4 in the first job of a start, x = 4 + 2 and y = 6 + 0 are 6 in the second
+-- the shares for a start of two jobs, or of one
+abbrev pub by_count : ℕ → Lending → Lending → Lending
+by_count count two one = cond (eqb count 2) two one
+
+-- modulo 7 x = 5 + 5 is 3 and y = 1 + 3 is 4 in a start's only job and in the second of two; in the first of two x = 4 + 2 and y = 6 + 0 are 6
 abbrev pub shares_of : Counts → Box → ℕ → Lending
-shares_of counts box1 place = take (2 * counts place) (5 ∷ 1 ∷ 4 ∷ 6 ∷ [])
-shares_of counts box2 place = take (2 * counts place) (5 ∷ 3 ∷ 2 ∷ 0 ∷ [])
+shares_of counts box1 place = by_count (counts place) (4 ∷ 6 ∷ 5 ∷ 1 ∷ []) (5 ∷ 1 ∷ [])
+shares_of counts box2 place = by_count (counts place) (2 ∷ 0 ∷ 5 ∷ 3 ∷ []) (5 ∷ 3 ∷ [])
 
 -- the second shares of the box that is to stay hidden
 abbrev pub shares_anew : Counts → ℕ → Lending
-shares_anew counts place = take (2 * counts place) (0 ∷ 6 ∷ 3 ∷ 3 ∷ [])
+shares_anew counts place = by_count (counts place) (3 ∷ 3 ∷ 0 ∷ 6 ∷ []) (0 ∷ 6 ∷ [])
 
 abbrev pub plain_set : Box → TapeSet
 plain_set b number n = plain_tape n pair_number (side_of b) number
@@ -163,7 +167,7 @@ joined =
       respells = false;
       opened = 2;
       key = job_key 0 2 3;
-      answers1 = two_answers 1 0;
+      answers1 = two_answers 0 1;
       answers2 = two_answers 0 0;
     }
 

@@ -1,10 +1,10 @@
 -- A run threads state, work and tally of each box through the list, by the very rules that the contracts of the five calls cite.
-use Rattle.std.specs.Prelude.{ℕ, zero, suc, ◌+◌, Bool, ◌&&◌, cond, List, [], ◌∷◌, ◌++◌, eqb, ltb, take}
+use Rattle.std.specs.Prelude.{ℕ, zero, suc, ◌+◌, Bool, ◌&&◌, cond, List, [], ◌∷◌, ◌++◌, eqb, ltb}
 use Rattle.lists.specs.Tabulate.{tabulate}
 use Rattle.lists.specs.Joined.{chained}
 use Rattle.field.specs.Width.{listed}
 use Rattle.shares.specs.Reading.{delivered}
-use Rattle.rules.specs.Answers.{Reply, fresh, started, spoke, heard, finished, dropped, refused}
+use Rattle.rules.specs.Answers.{Reply, spoken_words}
 use Rattle.tally.specs.Tally.{cut_marks}
 use Rattle.rules.specs.Modes.{mode_of, in_job, asleep_state}
 use Rattle.rules.specs.Grounds.{start_ground}
@@ -84,16 +84,6 @@ line_words log (other words) = words
 -- width
 abbrev pub incoming_words : Setting → ℕ → State → List Event → Incoming → List ℕ
 incoming_words g place s log incoming = delivered s.n (g.board place) (line_words log incoming)
-
--- the words at the front of out, as many as the answer says
-abbrev pub spoken_words : Reply → List ℕ → List ℕ
-spoken_words (fresh k) out = []
-spoken_words started out = []
-spoken_words (spoke k) out = take k out
-spoken_words heard out = []
-spoken_words (finished vs) out = []
-spoken_words dropped out = []
-spoken_words (refused k) out = []
 
 -- a cut says nothing; where a job was open it is lost
 abbrev pub cut_said : State → Said

@@ -68,7 +68,7 @@ fn jobs_check(
 }
 
 // One job of a start.
-#[tactic(auto, using(rules::proofs::Sizes::most_jobs_lem, crate::proofs::Numbers::number_small))]
+#[tactic(auto, using(rules::proofs::Batches::count_most, crate::proofs::Numbers::number_small))]
 fn one_check(
     state: &State,
     first: u32,

@@ -143,7 +143,7 @@ pub fn tape_check(
 }
 
 // So is every job's.
-#[tactic(auto, using(rules::proofs::Sizes::most_jobs_lem, lists::proofs::Joined::within, lists::proofs::Every::every_fails))]
+#[tactic(auto, using(rules::proofs::Batches::count_most, lists::proofs::Joined::within, lists::proofs::Every::every_fails))]
 pub fn tapes_check(state: &State, tapes: &[u32]) -> Result<(), Refusal>
     requires width { listed state.now.n ≡ true }
     requires jobs { (count_fits state.now.batch.count ≡ true) × (state.now.batch.first + state.now.batch.count ≤ 4294967296) }

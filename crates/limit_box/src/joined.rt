@@ -51,7 +51,7 @@ impl<'a> Joined<'a> {
     }
 
     // The box in job i.
-    #[tactic(auto, using(rules::proofs::Sizes::most_jobs_lem, lists::proofs::Joined::within, tape::proofs::Sizes::small))]
+    #[tactic(auto, using(rules::proofs::Batches::count_most, lists::proofs::Joined::within, tape::proofs::Sizes::small))]
     fn party(self, i: usize) -> Party<'a>
         requires { i < self.state.now.batch.count }
         ensures { given result ≡ party_of self.entry.state.now self.entry.tapes.now i }
@@ -87,7 +87,7 @@ impl<'a> Joined<'a> {
     }
 
     // Takes in the other box's words, each job its own. The answer shares come back after the last round.
-    #[tactic(auto, using(lists::proofs::Joined::within, protocol::proofs::Lengths::words_most, rules::proofs::Sizes::most_jobs_lem, rules::proofs::Sizes::bounds))]
+    #[tactic(auto, using(lists::proofs::Joined::within, protocol::proofs::Lengths::words_most, rules::proofs::Batches::count_most, rules::proofs::Sizes::bounds))]
     pub fn hear(self, round: u32, work: &mut [u32], incoming: &[u32]) -> Option<[u32; MOST_JOBS]>
         requires room { work_for self.state.now.n self.state.now.batch.count ≤ length work.old }
         requires words { (length incoming.now ≡ round_for self.state.now.n self.state.now.batch.count round)

@@ -34,7 +34,7 @@ fn job_fits(n: Width, tally: u32, batch: &Batch, i: usize) -> bool
         && n.contains(batch.y[i])
 }
 
-#[tactic(auto, using(rules::proofs::Sizes::most_jobs_lem, lists::proofs::Every::every_fails))]
+#[tactic(auto, using(rules::proofs::Batches::count_most, lists::proofs::Every::every_fails))]
 fn batch_fits(n: Width, tally: u32, batch: &Batch) -> bool
     ensures { result ≡ batch_fits n.bits tally batch.now }
 {

@@ -1,34 +1,45 @@
 -- The figures are those of a run: where no ground before that of room holds, only that one is left, and for a hear that of its words.
-use Prim.Native.Nat.{ℕ, ◌*◌}
-use mathlib.Core.Path.{◌≡◌, refl, sym, ◌∙◌}
+use Prim.Native.Nat.{ℕ, ◌+◌, ◌*◌, ◌<◌}
+use mathlib.Core.Path.{◌≡◌, refl, sym, ap, ◌∙◌}
 use mathlib.Core.Bool.{Bool, true, false, not, ◌||◌, cond}
-use mathlib.Core.List.{List, [], ◌++◌}
+use mathlib.Core.List.{List, [], ◌∷◌, ◌++◌}
 use native.Mathlib.Nat.{one-mul}
-use Rattle.std.proofs.Math.Bool.{or-false}
 use native.Mathlib.Omega.{arith}
-use borrow.Author.Tests.{leb-true, leb-false, lt-ltb, le-ltb}
+use Rattle.std.proofs.Math.Bool.{or-false, or-true}
+use borrow.Author.Tests.{leb-true, leb-false, lt-ltb, le-ltb, eq-eqb, not-false}
 use lib.Dec.{leb, ltb}
 use lib.ListN.{length}
+use Rattle.lists.specs.Joined.{chained}
+use Rattle.lists.proofs.Joined.{length_chained, part_chained}
 use Rattle.field.specs.Width.{listed}
+use Rattle.shares.specs.Side.{is_side}
 use Rattle.tape.specs.Layout.{tape_length}
+use Rattle.tape.specs.Order.{in_order}
+use Rattle.tape.specs.Plain.{plain_tape}
 use Rattle.tape.proofs.Orders.{readable}
 use Rattle.tape.proofs.Plains.{plain_order}
-use Rattle.protocol.specs.Work.{work_length}
 use Rattle.protocol.specs.Rounds.{at_round, word_table, round_words}
-use Rattle.protocol.specs.Sizes.{count_fits, round_for, rounds_for}
+use Rattle.protocol.specs.Sizes.{count_fits, tape_for, round_for, rounds_for, work_for}
 use Rattle.protocol.proofs.ByRound.{at_both}
-use Rattle.refusals.specs.Grounds.{Ground, earliest_of}
-use Rattle.refusals.proofs.Chains.{none, first_none}
-use Rattle.rules.specs.Grounds.{room_grounds, message_fits, word_grounds, start_ground, speak_ground, hear_ground}
+use Rattle.refusals.specs.Numbers.{number_of}
+use Rattle.refusals.specs.Grounds.{Ground, ◌when◌, earliest_of, joined}
+use Rattle.refusals.specs.declared.Refusal.TheVariants.{Room}
+use Rattle.refusals.proofs.Chains.{none, first_none, both_none}
+use Rattle.rules.specs.Answers.{spoke}
+use Rattle.rules.specs.Modes.{mode_of}
+use Rattle.rules.specs.Batches.{tape_part}
+use Rattle.rules.specs.Grounds.{idle_grounds, count_grounds, tally_grounds, list_grounds, one_parts, job_grounds, due_grounds, tapes_grounds, room_grounds, message_fits, word_grounds, start_ground, speak_ground, hear_ground}
 use Rattle.rules.specs.Calls.{speak_rule}
-use Rattle.rules.specs.AnyCall.{start, speak, hear, grounds_of}
+use Rattle.rules.specs.AnyCall.{start, ground_of}
+use Rattle.rules.specs.declared.state.State.{State}
+use Rattle.rules.specs.declared.state.Turn.{Turn}
 use Rattle.rules.specs.declared.state.Turn.TheVariants.{Speak, Hear}
 use Rattle.rules.proofs.Ranges.{awake_listed}
-use Rattle.rules.proofs.Passed.{speak_passed}
-use Rattle.needs.specs.Figures.{needs_ground, needs_rule}
-use Rattle.needs.specs.AsRun.{before, tape_needed, round_needed, work_needed, AsRun}
+use Rattle.rules.proofs.Passed.{TurnPassed, start_passed, speak_passed, hear_passed, turn_due}
+use Rattle.needs.specs.Figures.{Figures, figures_for, needs_ground, needs_rule}
+use Rattle.needs.specs.AsRun.{has_number, before, Reached, tape_needed, round_needed, work_needed, plain_tapes, AsRun}
 
--- ---- what one job needs
+-- ---- what so many jobs need
 
 -- a round's figure stands at its number
 rounds_at : (n count round : ℕ) → at_round round (rounds_for n count) 0 ≡ round_for n count round
@@ -37,18 +48,34 @@ rounds_at n count round =
     at_both (λ (v w : ℕ). v ≡ count * w) (rounds_for n count) (word_table n) 0 0
     (refl, (refl, (refl, (refl, (refl, tt))))) (omega arith) round
 
-module _ (n : ℕ) (width : listed n ≡ true) where
-  work_is : work_needed n ≡ work_length n
-  unfolding count_fits needs_ground needs_rule
-  work_is = rw (work_needed, width) (omega arith)
+module _ (n count : ℕ) (width : listed n ≡ true) (fits : count_fits count ≡ true) where
+  figures_are : needs_rule n count ≡ figures_for n count
+  unfolding needs_ground needs_rule
+  figures_are = rw (width, fits) refl
 
-  tape_is : tape_needed n ≡ tape_length n
-  unfolding count_fits needs_ground needs_rule
-  tape_is = rw (tape_needed, width) (omega arith)
+  tape_is : tape_needed n count ≡ tape_for n count
+  tape_is = ap (λ (f : Figures). f.tape) figures_are
 
-  round_is : (round : ℕ) → round_needed n round ≡ round_words n round
-  unfolding count_fits needs_ground needs_rule
-  round_is round = rw width (rounds_at n 1 round ∙ omega arith)
+  round_is : (round : ℕ) → round_needed n count round ≡ round_for n count round
+  round_is round = ap (λ (f : Figures). at_round round f.rounds 0) figures_are ∙ rounds_at n count round
+
+  work_is : work_needed n count ≡ work_for n count
+  work_is = ap (λ (f : Figures). f.work) figures_are
+
+-- ---- the plain tapes of so many numbers
+
+module _ (n pair side first : ℕ) (width : listed n ≡ true) (box : is_side side ≡ true) where
+  ordered : (i : ℕ) → in_order n pair side (first + i) (plain_tape n pair side (first + i)) ≡ true
+  ordered i = plain_order n pair side (first + i) width box
+
+  long : (i : ℕ) → length (plain_tape n pair side (first + i)) ≡ tape_length n
+  long i = (readable n pair side (first + i) _ (ordered i)).long
+
+  plain_long : (count : ℕ) → length (plain_tapes n pair side first count) ≡ tape_for n count
+  plain_long count = length_chained count (tape_length n) _ (λ i less. long i)
+
+  plain_fit : (count i : ℕ) → i < count → in_order n pair side (first + i) (tape_part n (plain_tapes n pair side first count) i) ≡ true
+  plain_fit count i less = rw (part_chained count (tape_length n) _ i less (λ k l. long k)) (ordered i)
 
 -- ---- the ground of room
 
@@ -60,10 +87,66 @@ not_leb a b = go (leb a b) refl
     go false e = sym (lt-ltb b a (leb-false a b e))
 
 -- what is left of a call that comes to it: that ground, then what comes later
-room : (n : ℕ) (work : List ℕ) (fits : Bool) (first later : List Ground) → listed n ≡ true → earliest_of first ≡ 0
-    → earliest_of (first ++ (room_grounds n work fits ++ later)) ≡ cond (ltb (length work) (work_needed n) || not fits) 12 (earliest_of later)
-room n work fits first later width reached =
-    first_none first (room_grounds n work fits ++ later) reached ∙ rw (not_leb (work_length n) (length work), work_is n width) refl
+room : (n count : ℕ) (work : List ℕ) (fits : Bool) (first later : List Ground) → listed n ≡ true → count_fits count ≡ true → earliest_of first ≡ 0
+    → earliest_of (first ++ (room_grounds n count work fits ++ later))
+    ≡ cond (ltb (length work) (work_needed n count) || not fits) 12 (earliest_of later)
+room n count work fits first later width few reached =
+    first_none first (room_grounds n count work fits ++ later) reached
+    ∙ rw (not_leb (work_for n count) (length work), work_is n count width few) refl
+
+-- a ground is in a list of which it is the last, and before it are the others
+module _ (g : Ground) where
+  has_last : (gs : List Ground) → has_number (number_of g.refusal) (gs ++ (g ∷ [])) ≡ true
+  has_last [] = rw (eq-eqb (number_of g.refusal) (number_of g.refusal) refl) refl
+  has_last (h ∷ gs) = rw (has_last gs) (or-true _)
+
+  before_last : (gs : List Ground) → before (number_of g.refusal) (gs ++ (g ∷ [])) ≡ gs
+  before_last [] = refl
+  before_last (h ∷ gs) = rw (has_last gs, before_last gs) refl
+
+-- ---- a start
+
+module _ (s : State) (first count : ℕ) (shares tapes work tally : List ℕ) where
+  -- the grounds before its last
+  abbrev earlier : List Ground
+  earlier =
+      idle_grounds (mode_of s)
+      ++ (count_grounds count
+      ++ (tally_grounds s tally ++ (list_grounds count shares ++ chained count (λ i. joined (one_parts s first count shares tapes tally i)))))
+
+  start_left : Reached 12 s (start first count shares tapes work tally)
+      → ground_of s (start first count shares tapes work tally) ≡ cond (ltb (length work) (work_needed s.n count)) 12 0
+  unfolding start_ground
+  start_left reached =
+      let last : Ground = Room when not (leb (work_for s.n count) (length work)) || not true in
+      let come : earliest_of earlier ≡ 0 = sym (ap earliest_of (before_last last earlier)) ∙ reached in
+      let c = none earlier come in
+      room s.n count work true earlier [] (awake_listed s c.0) (not-false (count_fits count) c.1.1.0) come
+      ∙ rw (or-false (ltb (length work) (work_needed s.n count))) refl
+
+-- ---- a speak and a hear
+
+module _ (s : State) (first : ℕ) (turn : Turn) (tapes : List ℕ) where
+  abbrev before_room : List Ground
+  before_room = job_grounds (mode_of s) ++ (due_grounds s first turn ++ tapes_grounds s tapes)
+
+  turn_come : earliest_of before_room ≡ 0 → TurnPassed s first turn tapes
+  turn_come e =
+      let job = both_none (job_grounds (mode_of s)) (due_grounds s first turn ++ tapes_grounds s tapes) e in
+      let due = both_none (due_grounds s first turn) (tapes_grounds s tapes) job.1 in
+      turn_due s first turn tapes job.0 due.0 due.1
+
+  turn_left : (work buffer : List ℕ) (later : List Ground) → earliest_of before_room ≡ 0
+      → earliest_of (before_room ++ (room_grounds s.n s.batch.count work (message_fits s.n s.batch.count turn (length buffer)) ++ later))
+      ≡ cond (ltb (length work) (work_needed s.n s.batch.count) || not (message_fits s.n s.batch.count turn (length buffer))) 12 (earliest_of later)
+  turn_left work buffer later e =
+      let t = turn_come e in
+      room s.n s.batch.count work (message_fits s.n s.batch.count turn (length buffer)) before_room later t.sound.width t.range.counted e
+
+  turn_round : (round : ℕ) → earliest_of before_room ≡ 0 → round_needed s.n s.batch.count round ≡ round_for s.n s.batch.count round
+  turn_round round e =
+      let t = turn_come e in
+      round_is s.n s.batch.count t.sound.width t.range.counted round
 
 -- ---- the statement
 
@@ -71,25 +154,27 @@ pub as_run : AsRun
 unfolding start_ground speak_ground hear_ground speak_rule count_fits needs_ground needs_rule
 as_run =
     record {
-      tape_words = λ n pair side number tape order.
-          let r = readable n pair side number tape order in
-          r.long ∙ sym (tape_is n r.width);
-      tape_fits = plain_order;
-      spoken = λ s number round tape work out e.
-          rw (e, round_is s.n (awake_listed s (speak_passed s number round tape work out e).turn.awake) round) refl;
-      start_room = λ s number x y tape work tally reached.
-          let first = before 12 (grounds_of s (start number x y tape work tally)) in
-          room s.n work true first [] (awake_listed s (none first reached).0) reached ∙ rw (or-false (ltb (length work) (work_needed s.n))) refl;
-      speak_room = λ s number round tape work out reached.
-          let first = before 12 (grounds_of s (speak number round tape work out)) in
-          let width = awake_listed s (none first reached).0 in
-          room s.n work (message_fits s.n (Speak round) (length out)) first [] width reached
-          ∙ rw (not_leb (round_words s.n round) (length out), round_is s.n width round) refl;
-      hear_room = λ s number round tape work incoming reached.
-          let first = before 12 (grounds_of s (hear number round tape work incoming)) in
-          let width = awake_listed s (none first reached).0 in
-          room s.n work (message_fits s.n (Hear round) (length incoming)) first (word_grounds s.n incoming) width reached
-          ∙ rw (round_is s.n width round) refl;
+      start_tapes = λ s first count shares tapes work tally e.
+          let p = start_passed s first count shares tapes work tally e in
+          p.long ∙ sym (tape_is s.n count (awake_listed s p.awake) p.counted);
+      speak_tapes = λ s first round tapes work out e.
+          let t = (speak_passed s first round tapes work out e).turn in
+          t.long ∙ sym (tape_is s.n s.batch.count t.sound.width t.range.counted);
+      hear_tapes = λ s first round tapes work incoming e.
+          let t = (hear_passed s first round tapes work incoming e).turn in
+          t.long ∙ sym (tape_is s.n s.batch.count t.sound.width t.range.counted);
+      tapes_fit = λ n pair side first count width box fits.
+          (plain_long n pair side first width box count ∙ sym (tape_is n count width fits), plain_fit n pair side first width box count);
+      spoken = λ s first round tapes work out e.
+          let t = (speak_passed s first round tapes work out e).turn in
+          rw e (ap spoke (sym (round_is s.n s.batch.count t.sound.width t.range.counted round)));
+      start_room = start_left;
+      speak_room = λ s first round tapes work out reached.
+          turn_left s first (Speak round) tapes work out [] reached
+          ∙ rw (not_leb (round_for s.n s.batch.count round) (length out), turn_round s first (Speak round) tapes round reached) refl;
+      hear_room = λ s first round tapes work incoming reached.
+          turn_left s first (Hear round) tapes work incoming (word_grounds s.n incoming) reached
+          ∙ rw (turn_round s first (Hear round) tapes round reached) refl;
       several = λ n count width fits. rw (width, fits) (simp one-mul);
       order = λ n count. refl;
     }

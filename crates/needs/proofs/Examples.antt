@@ -1,8 +1,10 @@
--- The premises of AsRun are met: at width 3, on document 01's plain tape, each call comes to its ground 12, and with the figures' words it is taken.
+-- The premises of AsRun are met: at width 3, on document 01's plain tapes, each call of one job and of two comes to its last ground 12. With the figures'
+-- words of that count it is taken, and with those of one job a call of two is refused.
 use Prim.Native.Nat.{ℕ}
 use mathlib.Core.Path.{◌≡◌, refl}
 use mathlib.Core.List.{List, [], ◌∷◌}
-use Rattle.lists.specs.Tabulate.{tabulate}
+use lib.ListN.{replicate}
+use Rattle.lists.specs.Joined.{chained}
 use Rattle.tape.specs.Order.{trailer_fits, body_in_range, in_order}
 use Rattle.tape.specs.Plain.{plain_tape}
 use Rattle.field.specs.Width.{listed, modulus}
@@ -12,48 +14,64 @@ use Rattle.tally.specs.Tally.{tally_fits, tapes_of, is_fresh, late}
 use Rattle.protocol.specs.Rounds.{round_words}
 use Rattle.protocol.specs.Sizes.{count_fits}
 use Rattle.rules.specs.Modes.{in_range, mode_of}
+use Rattle.rules.specs.Batches.{no_batch, batch_of}
 use Rattle.rules.specs.Grounds.{start_ground, speak_ground, hear_ground}
 use Rattle.rules.specs.AnyCall.{Call, start, speak, hear, ground_of}
 use Rattle.rules.specs.declared.state.Turn.{Turn}
 use Rattle.rules.specs.declared.state.Turn.TheVariants.{Speak, Hear}
 use Rattle.rules.specs.declared.state.Phase.{Phase}
 use Rattle.rules.specs.declared.state.Phase.TheVariants.{Idle, Job}
+use Rattle.rules.specs.declared.state.Batch.{Batch}
 use Rattle.rules.specs.declared.state.State.{State}
 use Rattle.needs.specs.Figures.{needs_ground, needs_rule}
-use Rattle.needs.specs.AsRun.{Reached, round_needed, work_needed}
+use Rattle.needs.specs.AsRun.{Reached, round_needed, work_needed, plain_tapes}
 
--- box 1 of pair 1, with a tally of one tape, idle or in a job on that tape
-abbrev box : Phase → State
-box phase = record { n = 3; side = 1; pair = 1; tally = 4; phase = phase }
+-- box 1 of pair 1, with a tally of two tapes
+abbrev box : Phase → Batch → State
+box phase batch = record { n = 3; side = 1; pair = 1; tally = 8; phase = phase; batch = batch }
 
-abbrev in_job : Turn → State
-in_job turn = box (Job turn 0 5 1)
+-- idle, and lent so many words of work for a start of so many jobs
+abbrev idle : State
+idle = box Idle no_batch
 
-abbrev tape : List ℕ
-tape = plain_tape 3 1 1 0
+abbrev shares : ℕ → List ℕ
+shares count = chained count (λ i. 5 ∷ 1 ∷ [])
 
-abbrev zeros : ℕ → List ℕ
-zeros count = tabulate count (λ i. 0)
+abbrev tapes : ℕ → List ℕ
+tapes count = plain_tapes 3 1 1 0 count
 
--- the calls by how many words they are lent
-abbrev start_with : ℕ → Call
-start_with work = start 0 5 1 tape (zeros work) (255 ∷ 255 ∷ 255 ∷ 255 ∷ [])
+abbrev start_with : ℕ → ℕ → Call
+start_with count work = start 0 count (shares count) (tapes count) (replicate work 0) (replicate 8 255)
 
-abbrev speak_with : ℕ → ℕ → Call
-speak_with work out = speak 0 1 tape (zeros work) (zeros out)
+-- in so many jobs, and lent so many words for a speak and a hear
+abbrev in_jobs : ℕ → Turn → State
+in_jobs count turn = box (Job turn) (batch_of 0 count (shares count))
 
-abbrev hear_with : ℕ → ℕ → Call
-hear_with work incoming = hear 0 1 tape (zeros work) (zeros incoming)
+abbrev speak_with : ℕ → ℕ → ℕ → Call
+speak_with count work out = speak 0 1 (tapes count) (replicate work 0) (replicate out 0)
 
--- each comes to its ground 12
-come : (Reached 12 (box Idle) (start_with 0)) × ((Reached 12 (in_job (Speak 1)) (speak_with 0 0)) × (Reached 12 (in_job (Hear 1)) (hear_with 0 0)))
-unfolding listed modulus is_side tally_fits tapes_of is_fresh late trailer_fits body_in_range in_order plain_tape in_range mode_of
-come = (refl, (refl, refl))
+abbrev hear_with : ℕ → ℕ → ℕ → Call
+hear_with count work incoming = hear 0 1 (tapes count) (replicate work 0) (replicate incoming 0)
 
--- with the figures' words none is refused
-enough : (ground_of (box Idle) (start_with (work_needed 3)) ≡ 0)
-    × ((ground_of (in_job (Speak 1)) (speak_with (work_needed 3) (round_needed 3 1)) ≡ 0)
-    × (ground_of (in_job (Hear 1)) (hear_with (work_needed 3) (round_needed 3 1)) ≡ 0))
+-- each comes to its last ground 12
+abbrev Come : ℕ → Type 0
+Come count =
+    Reached 12 idle (start_with count 0)
+    × (Reached 12 (in_jobs count (Speak 1)) (speak_with count 0 0) × Reached 12 (in_jobs count (Hear 1)) (hear_with count 0 0))
+
+come : Come 1 × Come 2
+unfolding listed modulus is_side tally_fits tapes_of is_fresh late trailer_fits body_in_range in_order plain_tape in_range mode_of count_fits
+come = ((refl, (refl, refl)), (refl, (refl, refl)))
+
+-- the calls of so many jobs, lent the figures' words of `paid`, have that ground
+abbrev Grounds : ℕ → ℕ → ℕ → Type 0
+Grounds count paid cause =
+    (ground_of idle (start_with count (work_needed 3 paid)) ≡ cause)
+    × ((ground_of (in_jobs count (Speak 1)) (speak_with count (work_needed 3 paid) (round_needed 3 paid 1)) ≡ cause)
+    × (ground_of (in_jobs count (Hear 1)) (hear_with count (work_needed 3 paid) (round_needed 3 paid 1)) ≡ cause))
+
+-- with the figures of their own count none is refused, and with those of one job two are
+enough : Grounds 1 1 0 × (Grounds 2 2 0 × Grounds 2 1 12)
 unfolding count_fits needs_ground needs_rule legible round_words listed modulus is_side tally_fits tapes_of is_fresh late trailer_fits body_in_range in_order plain_tape in_range mode_of
     start_ground speak_ground hear_ground
-enough = (refl, (refl, refl))
+enough = ((refl, (refl, refl)), ((refl, (refl, refl)), (refl, (refl, refl))))

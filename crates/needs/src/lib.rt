@@ -2,14 +2,12 @@
 #![tactic(auto)]
 
 ghost use Rattle.std.specs.Prelude.{◌≡◌, ◌≤◌};
-ghost use Rattle.protocol.specs.Sizes.{most_jobs, count_fits, round_for};
+ghost use Rattle.protocol.specs.Sizes.{most_jobs, round_for};
 ghost use Rattle.needs.specs.Figures.{figures_for, needs_rule, figures_of, told};
 
 use field::Width;
 use refusals::Refusal;
-
-// At most so many jobs are taken together.
-pub const MOST_JOBS: u32 = 8;
+use rules::state;
 
 // The words of the tapes, of each round, the first one first, and of work.
 #[derive(Clone, Copy, Debug, PartialEq, Eq)]
@@ -19,16 +17,8 @@ pub struct Needs {
     pub work: u32,
 }
 
-// Whether a count of jobs is 1 to 8.
-#[tactic(auto, unfolding(protocol::specs::Sizes::count_fits))]
-fn count_fits(count: u32) -> bool
-    ensures { result ≡ count_fits count }
-{
-    (1..=MOST_JOBS).contains(&count)
-}
-
 // A round's words, times the count.
-#[tactic(auto, using(crate::proofs::Bounds::bounds, protocol::proofs::Lengths::words_most))]
+#[tactic(auto, using(rules::proofs::Sizes::bounds, protocol::proofs::Lengths::words_most))]
 fn round_of(n: Width, count: u32, round: u32) -> u32
     requires { count ≤ most_jobs }
     ensures { result ≡ round_for n.bits count round }
@@ -37,7 +27,7 @@ fn round_of(n: Width, count: u32, round: u32) -> u32
 }
 
 // The figures of so many jobs.
-#[tactic(auto, using(crate::proofs::Bounds::bounds))]
+#[tactic(auto, using(rules::proofs::Sizes::bounds))]
 fn figures(n: Width, count: u32) -> Needs
     requires { count ≤ most_jobs }
     ensures { figures_of result ≡ figures_for n.bits count }
@@ -57,12 +47,12 @@ pub fn one_job(n: Width) -> Needs
 }
 
 // The figures of a width and a count of jobs, or refused: the grounds are 2, 16.
-#[tactic(auto, using(refusals::proofs::Numbers::numbered, crate::proofs::Bounds::most_jobs_lem), unfolding(crate::specs::Figures::needs_ground, crate::specs::Figures::needs_rule))]
+#[tactic(auto, using(refusals::proofs::Numbers::numbered, rules::proofs::Batches::count_most), unfolding(crate::specs::Figures::needs_ground, crate::specs::Figures::needs_rule))]
 pub fn words_for(n: u32, count: u32) -> Result<Needs, Refusal>
     ensures { told result ≡ needs_rule n count }
 {
     let n = Width::new(n).ok_or(Refusal::Width)?;
-    if !count_fits(count) {
+    if !state::count_fits(count) {
         return Err(Refusal::Count);
     }
     Ok(figures(n, count))

@@ -64,3 +64,8 @@ pub answer_at : (s : State) (tapes work incoming : List ℕ) (i : ℕ) → count
 unfolding answer_shares
 answer_at s tapes work incoming i fits less =
     each_at s.batch.count (λ k. answer_share (party_of s tapes k) (work_part s.n work k) (words_part s.n last_round incoming k)) i fits less
+
+pub answer_past : (s : State) (tapes work incoming : List ℕ) (i : ℕ) → s.batch.count ≤ i → get_or (answer_shares s tapes work incoming) i 0 ≡ 0
+unfolding answer_shares
+answer_past s tapes work incoming i past =
+    each_past s.batch.count (λ k. answer_share (party_of s tapes k) (work_part s.n work k) (words_part s.n last_round incoming k)) i past

@@ -1,6 +1,6 @@
 -- The grounds of several jobs, one job after the other: the first job that has one decides.
 use Prim.Native.Nat.{ℕ, zero, suc, ◌<◌, ◌≤◌}
-use mathlib.Core.Path.{◌≡◌, refl}
+use mathlib.Core.Path.{◌≡◌, refl, ◌∙◌}
 use mathlib.Core.List.{List}
 use mathlib.Core.Logic.{⊎_elim}
 use native.Mathlib.Nat.{not-suc-le-zero, le_of_suc-le-suc, eq-or-lt_of_le}
@@ -16,6 +16,11 @@ chained_none zero f e i less = absurd (not-suc-le-zero less)
 chained_none (suc k) f e i less =
     let both = both_none (chained k f) (f k) e in
     ⊎_elim (λ same. rw same both.1) (λ before. chained_none k f both.0 i before) (eq-or-lt_of_le (le_of_suc-le-suc less))
+
+-- and the other way round
+pub none_chained : (count : ℕ) (f : ℕ → List Ground) → ((i : ℕ) → i < count → earliest_of (f i) ≡ 0) → earliest_of (chained count f) ≡ 0
+none_chained zero f h = refl
+none_chained (suc k) f h = first_none (chained k f) (f k) (none_chained k f (λ i less. h i (omega arith))) ∙ h k (omega arith)
 
 -- after jobs that have none the next one's counts
 pub chained_next : (k : ℕ) (f : ℕ → List Ground) → earliest_of (chained k f) ≡ 0 → earliest_of (chained (suc k) f) ≡ earliest_of (f k)

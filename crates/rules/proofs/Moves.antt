@@ -37,7 +37,7 @@ is_asleep_lem Asleep e = refl
 is_asleep_lem Idle e = absurd (false≢true e)
 is_asleep_lem (Job turn) e = absurd (false≢true e)
 
-is_idle : (p : Phase) → is_asleep p ≡ false → in_job p ≡ false → p ≡ Idle
+pub is_idle : (p : Phase) → is_asleep p ≡ false → in_job p ≡ false → p ≡ Idle
 is_idle Asleep awake free = absurd (true≢false awake)
 is_idle Idle awake free = refl
 is_idle (Job turn) awake free = absurd (true≢false free)

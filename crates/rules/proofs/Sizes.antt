@@ -4,19 +4,12 @@ use mathlib.Core.Path.{◌≡◌}
 use mathlib.Core.Bool.{true}
 use native.Mathlib.Nat.{mul-le-mul}
 use native.Mathlib.Omega.{arith}
-use borrow.Author.Tests.{leb-true}
-use lib.Dec.{leb}
-use Rattle.lists.proofs.Tests.{and_right}
 use Rattle.field.specs.Width.{listed}
 use Rattle.tape.specs.Layout.{tape_length}
 use Rattle.tape.proofs.Sizes.{small, tape_is}
 use Rattle.protocol.specs.Work.{work_length}
-use Rattle.protocol.specs.Sizes.{most_jobs, count_fits, tape_for, round_for, work_for}
+use Rattle.protocol.specs.Sizes.{most_jobs, tape_for, round_for, work_for}
 use Rattle.protocol.proofs.Lengths.{words_most}
-
-pub most_jobs_lem : (count : ℕ) → count_fits count ≡ true → count ≤ most_jobs
-unfolding count_fits
-most_jobs_lem count fits = leb-true count most_jobs (and_right (leb 1 count) (leb count most_jobs) fits)
 
 pub one_tape : (n : ℕ) → listed n ≡ true → tape_length n ≤ 9053
 one_tape n width = omega (arith, tape_is n, small width)

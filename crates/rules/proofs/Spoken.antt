@@ -15,6 +15,7 @@ use Rattle.lists.proofs.Joined.{within, length_chained, length_part, part_sets, 
 use Rattle.field.specs.Width.{listed}
 use Rattle.shares.specs.Reading.{legible}
 use Rattle.protocol.specs.Work.{work_length}
+use Rattle.protocol.specs.Products.{Party}
 use Rattle.protocol.specs.Rounds.{round_words, message, after_hearing}
 use Rattle.protocol.specs.Sizes.{round_for, work_for}
 use Rattle.protocol.proofs.Lengths.{message_length, after_length}
@@ -28,7 +29,7 @@ use Rattle.rules.specs.declared.state.State.{State}
 pub joined_length : (s : State) (tapes work : List ℕ) (round : ℕ) → length (joined_message s tapes work round) ≡ round_for s.n s.batch.count round
 unfolding joined_message
 joined_length s tapes work round =
-    length_chained s.batch.count (round_words s.n round) _ (λ i less. message_length (party_of s tapes i) (work_part s.n work i) round)
+    length_chained s.batch.count (round_words s.n round) _ (λ i less. message_length _ _ round)
 
 pub spoken_front : (s : State) (tapes work out : List ℕ) (round : ℕ) → round_for s.n s.batch.count round ≤ length out
     → take (round_for s.n s.batch.count round) (sets out 0 (joined_message s tapes work round)) ≡ joined_message s tapes work round
@@ -39,13 +40,15 @@ spoken_front s tapes work out round room =
     ∙ take_at words _ (round_for s.n s.batch.count round) long
 
 -- the words are below p, so a box of that width can read them
+one_fits : (q : Party) (work : List ℕ) (round : ℕ) → listed q.n ≡ true → words_fit q.n (message q work round) ≡ true
+unfolding legible
+one_fits q work round l =
+    every_intro (length (message q work round)) _ (λ j inside. le-leb _ _ (le_of_lt ((message_below q l work round).at j)))
+
 pub message_fits_lem : (s : State) (tapes work : List ℕ) (round : ℕ) → listed s.n ≡ true → words_fit s.n (joined_message s tapes work round) ≡ true
-unfolding legible joined_message
+unfolding joined_message
 message_fits_lem s tapes work round l =
-    all_chained (legible s.n) s.batch.count (round_words s.n round) _
-    (λ i less.
-    every_intro (length (message (party_of s tapes i) (work_part s.n work i) round)) _
-    (λ j inside. le-leb _ _ (le_of_lt ((message_below (party_of s tapes i) l (work_part s.n work i) round).at j))))
+    all_chained (legible s.n) s.batch.count (round_words s.n round) _ (λ i less. one_fits _ _ round l)
 
 -- ---- what it holds after hearing
 

@@ -1,5 +1,5 @@
 -- What a call answers, and what each call's own answer says.
-use Rattle.std.specs.Prelude.{ℕ, List, Option, Some, None, Result, Ok, Err}
+use Rattle.std.specs.Prelude.{ℕ, List, [], Option, Some, None, Result, Ok, Err, take}
 use Rattle.refusals.specs.Numbers.{number_of}
 use Rattle.refusals.specs.declared.Refusal.{Refusal}
 
@@ -15,6 +15,16 @@ pub data Reply : Type 0 where
   dropped : Reply
   -- a refusal and its number
   refused : ℕ → Reply
+
+-- the words at the front of out, as many as a speak's answer says
+abbrev pub spoken_words : Reply → List ℕ → List ℕ
+spoken_words (fresh k) out = []
+spoken_words started out = []
+spoken_words (spoke k) out = take k out
+spoken_words heard out = []
+spoken_words (finished vs) out = []
+spoken_words dropped out = []
+spoken_words (refused k) out = []
 
 -- what a hear answers: the shares after the last round, and nothing before
 abbrev pub heard_or_finished : Option (List ℕ) → Reply

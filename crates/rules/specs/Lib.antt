@@ -8,3 +8,5 @@ pub mod AnyCall
 pub mod Moves
 pub mod Answering
 pub mod AsRead
+pub mod OneByOne
+pub mod AnyCount

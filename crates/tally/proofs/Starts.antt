@@ -118,6 +118,14 @@ later_fresh tally first (suc i) within fresh in_time = above_fresh tally first (
 pub later_in_time : (tally : List ℕ) (first i : ℕ) → late tally first ≡ false → late tally (first + i) ≡ false
 later_in_time tally first i in_time = not_late tally (first + i) (λ k above within. above_fresh tally first k in_time (omega arith) within)
 
+-- nor does a start's mark make a later number late, so the same jobs can be started one by one
+pub first_in_time : (tally : List ℕ) (first k number : ℕ) → first + k ≤ number → late tally number ≡ false
+    → late (first_marks tally first k) number ≡ false
+first_in_time tally first k number past in_time =
+    not_late _ number
+    (λ m above within.
+    first_others tally first k m (inr (omega arith)) ∙ above_fresh tally number m in_time above (rw (first_length tally first k) at within))
+
 -- ---- all of it
 
 marks_leave : (tally : List ℕ) (first count : ℕ) → first + count ≤ tapes_of (length tally) → MarksLeave tally first count

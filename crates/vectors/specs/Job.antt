@@ -1,93 +1,132 @@
 -- What a text must say of a job: its numbers are the job's, then all that both boxes send, then their answer shares.
-use Rattle.std.specs.Prelude.{ℕ, zero, suc, ◌+◌, ◌/◌, ◌%◌, Bool, ◌&&◌, List, [], ◌∷◌, ◌++◌, eqb, get_or, replicate, Option, None, Result, Ok, Err}
-use Rattle.std.specs.Option.{is_some}
+use Rattle.std.specs.Prelude.{ℕ, zero, suc, ◌+◌, ◌*◌, ◌/◌, ◌%◌, Bool, ◌&&◌, cond, List, [], ◌∷◌, ◌++◌, eqb, get_or, replicate, take, Option, None, Result, Ok, Err}
+use Rattle.std.specs.Option.{is_some, option_and_then, unwrap_or}
+use Rattle.std.proofs.lemmas.List.Edits.{sets}
+use Rattle.lists.specs.Joined.{chained}
+use Rattle.lists.specs.Tabulate.{tabulate}
 use Rattle.field.specs.Width.{listed}
 use Rattle.refusals.specs.declared.Refusal.{Refusal}
-use Rattle.tape.specs.Layout.{tape_length}
 use Rattle.protocol.specs.Products.{Party, party}
 use Rattle.protocol.specs.Rounds.{last_round, message}
 use Rattle.protocol.specs.Exchange.{Both, exchanged, answer_own, answer_others}
+use Rattle.protocol.specs.Sizes.{count_fits, tape_for}
 use Rattle.tally.specs.Tally.{longest_tally}
-use Rattle.exchange.specs.declared.Shares.{Shares}
+use Rattle.rules.specs.Batches.{x_in, y_in, tape_part, work_part}
 use Rattle.exchange.specs.Opening.{first_state, refusal_of, begun}
 use Rattle.exchange.specs.Boxes.{works}
-use Rattle.exchange.specs.Memory.{blank_work}
-use Rattle.exchange.specs.declared.Job.{Job}
+use Rattle.exchange.specs.Rooms.{blank_works}
+use Rattle.vectors.specs.declared.job.Form.{Form}
+use Rattle.vectors.specs.declared.job.Form.TheVariants.{Single, Joined}
+use Rattle.vectors.specs.declared.job.Job.{Job}
 use Rattle.vectors.specs.Numbers.{numbers_from, read_to, rest_after, spelled}
 
+-- ---- what the boxes of a job say, by what each has of every comparison, and by both works of every one
+
 -- both messages of a round, box 1's first
-abbrev pub messages : Party → Party → Both → ℕ → List ℕ
-messages box1 box2 w round = message box1 w.own round ++ message box2 w.others round
+abbrev pub messages : ℕ → (ℕ → Party) → (ℕ → Party) → (ℕ → Both) → ℕ → List ℕ
+messages count box1 box2 w round =
+    chained count (λ i. message (box1 i) (w i).own round) ++ chained count (λ i. message (box2 i) (w i).others round)
 
 -- those of the first so many rounds
-unfoldable pub messages_to : Party → Party → Both → ℕ → List ℕ
-messages_to box1 box2 w zero = []
-messages_to box1 box2 w (suc r) = messages_to box1 box2 w r ++ messages box1 box2 (exchanged box1 box2 w r) (suc r)
+unfoldable pub messages_to : ℕ → (ℕ → Party) → (ℕ → Party) → (ℕ → Both) → ℕ → List ℕ
+messages_to count box1 box2 w zero = []
+messages_to count box1 box2 w (suc r) =
+    messages_to count box1 box2 w r ++ messages count box1 box2 (λ i. exchanged (box1 i) (box2 i) (w i) r) (suc r)
 
--- every round, then both answer shares
-abbrev pub transcript : Party → Party → Both → List ℕ
-transcript box1 box2 w = messages_to box1 box2 w last_round ++ (answer_own box1 box2 w ∷ answer_others box1 box2 w ∷ [])
+-- box 1's answer shares, then box 2's
+abbrev pub answers : ℕ → (ℕ → Party) → (ℕ → Party) → (ℕ → Both) → List ℕ
+answers count box1 box2 w =
+    tabulate count (λ i. answer_own (box1 i) (box2 i) (w i)) ++ tabulate count (λ i. answer_others (box1 i) (box2 i) (w i))
 
--- the answer share that a hear gave, if any
-abbrev pub share_in : Result (Option ℕ) Refusal → Option ℕ
-share_in (Ok share) = share
-share_in (Err refusal) = None
+-- every round, then the answer shares
+abbrev pub transcript : ℕ → (ℕ → Party) → (ℕ → Party) → (ℕ → Both) → List ℕ
+transcript count box1 box2 w = messages_to count box1 box2 w last_round ++ answers count box1 box2 w
+
+-- the answer shares that a hear gave, if any
+abbrev pub shares_in : Result (Option (List ℕ)) Refusal → Option (List ℕ)
+shares_in (Ok shares) = shares
+shares_in (Err refusal) = None
+
+-- ---- a job
 
 -- a tally of which no tape is used
 unfoldable pub unused_tally : List ℕ
 unused_tally = replicate longest_tally 255
 
--- a box comes to the job and is not refused
-abbrev pub comes : Job → ℕ → Shares → List ℕ → Bool
-comes job side own tape =
-    eqb (refusal_of (begun first_state job.n side job.pair job.number own.x own.y tape blank_work unused_tally).reply) 0
+-- a box comes to the job and is not refused; of its list the shares of so many comparisons are lent
+abbrev pub comes : Job → ℕ → List ℕ → List ℕ → Bool
+comes job side list tapes =
+    let shares = take (2 * job.count) list in
+    eqb (refusal_of (begun first_state job.n side job.pair job.first job.count shares tapes blank_works unused_tally).reply) 0
 
--- what each box has of a job
-abbrev pub box1_of : Job → List ℕ → Party
-box1_of job tape = party job.n 1 job.box1.x job.box1.y tape
+-- what each box has of comparison i
+abbrev pub box1_of : Job → List ℕ → ℕ → Party
+box1_of job tapes i = party job.n 1 (x_in job.box1 i) (y_in job.box1 i) (tape_part job.n tapes i)
 
-abbrev pub box2_of : Job → List ℕ → Party
-box2_of job tape = party job.n 2 job.box2.x job.box2.y tape
+abbrev pub box2_of : Job → List ℕ → ℕ → Party
+box2_of job tapes i = party job.n 2 (x_in job.box2 i) (y_in job.box2 i) (tape_part job.n tapes i)
+
+abbrev pub blanks_of : Job → ℕ → Both
+blanks_of job i = works (work_part job.n blank_works i) (work_part job.n blank_works i)
 
 -- both come to it, and the text goes on with what they send and answer
 unfoldable pub job_told : List ℕ → Job → List ℕ → List ℕ → Bool
 job_told text job t1 t2 =
     comes job 1 job.box1 t1
     && comes job 2 job.box2 t2
-    && is_some (spelled text (transcript (box1_of job t1) (box2_of job t2) (works blank_work blank_work)))
+    && is_some (spelled text (transcript job.count (box1_of job t1) (box2_of job t2) (blanks_of job)))
 
--- the text goes on with box 1's tape, box 2's tape, and the job on them
+-- the text goes on with box 1's tapes, box 2's tapes, and the job on them
 unfoldable pub tapes_told : List ℕ → Job → Bool
 tapes_told text job =
-    let words = tape_length job.n in
+    let words = tape_for job.n job.count in
     let rest = rest_after words text in
     listed job.n
     && is_some (read_to words text)
     && is_some (read_to words rest)
     && job_told (rest_after words rest) job (numbers_from words text) (numbers_from words rest)
 
--- n, pair and tape number, the shares x1 y1 x2 y2, in that order
-abbrev pub job_of : List ℕ → Job
-job_of h =
+-- ---- a text
+
+-- how many numbers stand before the shares: n, pair, first tape number and, of several comparisons, the count
+abbrev pub head_words : Form → ℕ
+head_words Single = 3
+head_words Joined = 4
+
+-- these numbers; of a single comparison the count is 1
+abbrev pub head_in : Form → List ℕ → List ℕ
+head_in form text = sets (0 ∷ 0 ∷ 0 ∷ 1 ∷ []) 0 (numbers_from (head_words form) text)
+
+-- two numbers for each comparison, and 0 past them
+abbrev pub list_in : ℕ → List ℕ → List ℕ
+list_in count text = sets (replicate 16 0) 0 (numbers_from (2 * count) text)
+
+-- the job at a text's front: box 1's shares x and y of each comparison, then box 2's
+abbrev pub job_in : Form → List ℕ → Job
+job_in form text =
+    let h = head_in form text in
+    let count = get_or h 3 0 in
+    let rest = rest_after (head_words form) text in
     record {
       n = get_or h 0 0;
       pair = get_or h 1 0;
-      number = get_or h 2 0;
-      box1 = record { x = get_or h 3 0; y = get_or h 4 0 };
-      box2 = record { x = get_or h 5 0; y = get_or h 6 0 };
+      first = get_or h 2 0;
+      count = count;
+      box1 = list_in count rest;
+      box2 = list_in count (rest_after (2 * count) rest);
     }
 
--- the job at a text's front
-abbrev pub job_in : List ℕ → Job
-job_in text = job_of (numbers_from 7 text)
+-- the text after it, where all these numbers are there and the count is 1 to 8
+unfoldable pub past_job : Form → List ℕ → Option (List ℕ)
+past_job form text =
+    let count = (job_in form text).count in
+    option_and_then
+    (λ rest. cond (count_fits count) (option_and_then (λ others. read_to (2 * count) others) (read_to (2 * count) rest)) None)
+    (read_to (head_words form) text)
 
--- a text of width w has those seven numbers, both tapes, both messages of each round, both answer shares
-unfoldable pub agreed : ℕ → List ℕ → Bool
-agreed w text = is_some (read_to 7 text) && eqb (job_in text).n w && tapes_told (rest_after 7 text) (job_in text)
-
--- the tape number that a text names
-abbrev pub tape_number : List ℕ → ℕ
-tape_number text = (job_in text).number
+-- a text has its job, both boxes' tapes, both messages of each round, both boxes' answer shares
+unfoldable pub agreed : Form → List ℕ → Bool
+agreed form text = is_some (past_job form text) && tapes_told (unwrap_or (past_job form text) []) (job_in form text)
 
 -- the bytes of job-WW-K.txt, where WW is w in two digits
 abbrev pub name_of : ℕ → ℕ → List ℕ

@@ -1,15 +1,16 @@
 -- What the boxes of a text's job send, and how many of its zeros were respelled on the way.
-use Rattle.std.specs.Prelude.{ℕ, ◌≡◌, Bool, true, false, cond, List}
+use Rattle.std.specs.Prelude.{ℕ, ◌≡◌, Bool, true, false, cond, List, []}
+use Rattle.std.specs.Option.{unwrap_or}
 use Rattle.board.specs.Zeros.{zeros_in}
-use Rattle.tape.specs.Layout.{tape_length}
 use Rattle.protocol.specs.Rounds.{last_round}
-use Rattle.exchange.specs.Boxes.{works}
-use Rattle.exchange.specs.Memory.{blank_work}
-use Rattle.exchange.specs.declared.Job.{Job}
+use Rattle.protocol.specs.Sizes.{tape_for}
+use Rattle.vectors.specs.declared.job.Agreement.{Agreement}
+use Rattle.vectors.specs.declared.job.Form.{Form}
+use Rattle.vectors.specs.declared.job.Job.{Job}
 use Rattle.vectors.specs.declared.spelling.Spelling.{Spelling}
 use Rattle.vectors.specs.declared.spelling.Spelling.TheVariants.{AsSent, Respelled}
 use Rattle.vectors.specs.Numbers.{numbers_from, rest_after}
-use Rattle.vectors.specs.Job.{messages_to, box1_of, box2_of, job_in, agreed, tape_number}
+use Rattle.vectors.specs.Job.{messages_to, box1_of, box2_of, blanks_of, job_in, past_job, agreed}
 
 -- whether a zero comes to the other box as p
 abbrev pub respells : Spelling → Bool
@@ -22,21 +23,27 @@ respelled_in spelling words = cond (respells spelling) (zeros_in words) 0
 
 -- both boxes' messages of a whole job, on these tapes
 unfoldable pub job_sent : Job → List ℕ → List ℕ → List ℕ
-job_sent job t1 t2 = messages_to (box1_of job t1) (box2_of job t2) (works blank_work blank_work) last_round
+job_sent job t1 t2 = messages_to job.count (box1_of job t1) (box2_of job t2) (blanks_of job) last_round
 
--- on the two tapes that the text has next
+-- on the two boxes' tapes that the text has next
 unfoldable pub tapes_sent : List ℕ → Job → List ℕ
 tapes_sent text job =
-    let words = tape_length job.n in
+    let words = tape_for job.n job.count in
     job_sent job (numbers_from words text) (numbers_from words (rest_after words text))
 
 -- all that is sent in the job of a text
-unfoldable pub sent : List ℕ → List ℕ
-sent text = tapes_sent (rest_after 7 text) (job_in text)
+unfoldable pub sent : Form → List ℕ → List ℕ
+sent form text = tapes_sent (unwrap_or (past_job form text) []) (job_in form text)
 
--- there is a text of width w and that tape number that agrees, and so many zeros were respelled: of what both boxes send in all rounds of its job
-pub record Agreeing (w : ℕ) (spelling : Spelling) (number zeros : ℕ) : Type 0 where
+-- a text names this width, first tape and count
+pub record Named (form : Form) (text : List ℕ) (told : Agreement) : Type 0 where
+  pub width : told.n ≡ (job_in form text).n
+  pub first : told.first ≡ (job_in form text).first
+  pub count : told.count ≡ (job_in form text).count
+
+-- there is a text of such a job that agrees, and so many zeros were respelled: of what both boxes send in all its rounds
+pub record Agreeing (form : Form) (spelling : Spelling) (told : Agreement) : Type 0 where
   pub text : List ℕ
-  pub names : number ≡ tape_number text
-  pub agrees : agreed w text ≡ true
-  pub respelled : zeros ≡ respelled_in spelling (sent text)
+  pub names : Named form text told
+  pub agrees : agreed form text ≡ true
+  pub respelled : told.zeros ≡ respelled_in spelling (sent form text)

@@ -1,96 +1,146 @@
 // Jobs of both boxes against the words of their files.
-ghost use Rattle.std.specs.Prelude.{◌≡◌, [], ◌∷◌, length, IfSome};
+ghost use Rattle.std.specs.Prelude.{ℕ, ◌≡◌, true, ◌<◌, ◌*◌, ◌++◌, length, take, IfSome};
 ghost use Rattle.std.specs.Option.{is_some, option_map, option_and_then};
-ghost use Rattle.protocol.specs.Rounds.{last_round, message};
-ghost use Rattle.rules.specs.Answers.{heard_or_share, reply_of};
-ghost use Rattle.tally.specs.Tally.{longest_tally};
-ghost use Rattle.rules.specs.Calls.{outcome, party_of, heard_after};
 ghost use Rattle.protocol.specs.Products.{party};
+ghost use Rattle.protocol.specs.Rounds.{last_round};
+ghost use Rattle.protocol.specs.Sizes.{count_fits};
+ghost use Rattle.rules.specs.Answers.{heard_or_finished, reply_of};
+ghost use Rattle.rules.specs.Batches.{party_of, joined_message, x_in, y_in, tape_part};
+ghost use Rattle.rules.specs.Calls.{outcome, heard_after};
 ghost use Rattle.rules.specs.declared.state.Turn.TheVariants.{Speak};
-ghost use Rattle.exchange.specs.Boxes.{Ready, works};
-ghost use Rattle.exchange.specs.Memory.{blank_work};
-ghost use Rattle.vectors.specs.Numbers.{spelled};
+ghost use Rattle.tally.specs.Tally.{longest_tally};
+ghost use Rattle.exchange.specs.Boxes.{Ready, works_of};
+ghost use Rattle.exchange.specs.Rooms.{blank_works};
+ghost use Rattle.vectors.specs.Numbers.{spelled, read_to, numbers_from};
 ghost use Rattle.vectors.specs.Due.{Due};
-ghost use Rattle.vectors.specs.Job.{messages, messages_to, transcript, unused_tally, share_in, comes, job_told, tapes_told, agreed, tape_number, name_of};
-ghost use Rattle.vectors.specs.Sent.{respelled_in, job_sent, tapes_sent, sent, Agreeing};
+ghost use Rattle.vectors.specs.Job.{messages_to, transcript, shares_in, unused_tally, comes, job_told, tapes_told, head_words, list_in, job_in, past_job, agreed};
+ghost use Rattle.vectors.specs.Sent.{respelled_in, job_sent, tapes_sent, sent, Named, Agreeing};
 
 use crate::numbers::Reader;
 use crate::spelling::{Spelling, carry};
 use compare::words::LAST_ROUND;
-use exchange::{Heard, Job, Shares};
+use exchange::Heard;
 use field::Width;
 use rules::state;
-use rules::state::State;
+use rules::state::{MOST_JOBS, State};
 use std::rt::Files;
 
-// The file of a width's job: job-WW-K.txt.
-fn name_of(w: u32, k: u8) -> [u8; 12]
-    ensures { (length result ≡ 12) × (result ≡ name_of w k) }
-{
-    let mut name = *b"job-00-0.txt";
-    name[4] += (w / 10 % 10) as u8;
-    name[5] += (w % 10) as u8;
-    name[7] += k % 10;
-    name
+// How a text names its job: one of a single comparison does not say how many they are.
+#[derive(Clone, Copy, Debug, PartialEq, Eq)]
+pub enum Form {
+    Single,
+    Joined,
 }
 
-// A file's job, both of whose boxes agree with it: the tape number that its text names, and how many zeros of its messages were respelled.
+impl Form {
+    // How many numbers stand before the shares.
+    fn head_words(self) -> usize
+        ensures { result ≡ head_words self }
+    {
+        match self {
+            Form::Single => 3,
+            Form::Joined => 4,
+        }
+    }
+}
+
+// A box's list has two shares for each comparison.
+const MOST_SHARES: usize = 2 * MOST_JOBS;
+
+// What a text names before the tapes: a box's list has its shares x and y of the first comparison, then of the next, and 0 past the count.
+#[derive(Clone, Copy, Debug, PartialEq, Eq)]
+pub struct Job {
+    pub n: u32,
+    pub pair: u32,
+    pub first: u32,
+    pub count: u32,
+    pub box1: [u32; MOST_SHARES],
+    pub box2: [u32; MOST_SHARES],
+}
+
+// A file's job, both of whose boxes agree with it: what its text names, and how many zeros of its messages were respelled.
 #[derive(Clone, Copy, Debug, PartialEq, Eq)]
 pub struct Agreement {
-    pub number: u32,
+    pub n: u32,
+    pub first: u32,
+    pub count: u32,
     pub zeros: usize,
 }
 
-// Of a width's file that is there and has every word of its job as the boxes give it. Which text was read cannot be said, only that one that agrees
-// has that tape number and so many zeros: both are printed, so that a file read in another's place shows, and a zero that was left as it is.
-pub fn compared_with(rt: &impl Files, w: u32, k: u8, spelling: Spelling) -> Option<Agreement>
-    ensures { IfSome result (λ told. Agreeing w spelling told.number told.zeros) }
+// Of a file that is there and has every word of its job as the boxes give it. Which text was read cannot be said, only that one that agrees names this
+// width, first tape and count, and so many zeros: they are printed, so that a file read in another's place shows, and a zero that was left as it is.
+pub fn compared_with(
+    rt: &impl Files,
+    name: &[u8],
+    form: Form,
+    spelling: Spelling,
+) -> Option<Agreement>
+    ensures { IfSome result (Agreeing form spelling) }
 {
-    let name = name_of(w, k);
-    let mut room = [0u8; 262144];
-    run(crate::data::read(rt, &name, &mut room)?, w, spelling)
+    let mut room = [0u8; 524288];
+    run(crate::data::read(rt, name, &mut room)?, form, spelling)
 }
 
-// A text has n, which is the width asked for, pair and tape number, the shares x1 y1 x2 y2, both tapes, both messages of each
-// round, both answer shares.
-#[tactic(auto, unfolding(crate::specs::Job::agreed))]
-fn run(text: &[u8], w: u32, spelling: Spelling) -> Option<Agreement>
-    ensures agrees { is_some result ≡ agreed w text.now }
-    ensures number { IfSome result (λ told. told.number ≡ tape_number text.now) }
-    ensures zeros { IfSome result (λ told. told.zeros ≡ respelled_in spelling (sent text.now)) }
+// A text has its job, both tapes, both messages of each round, both answer shares.
+fn run(text: &[u8], form: Form, spelling: Spelling) -> Option<Agreement>
+    ensures agrees { is_some result ≡ agreed form text.now }
+    ensures names { IfSome result (Named form text.now) }
+    ensures zeros { IfSome result (λ told. told.zeros ≡ respelled_in spelling (sent form text.now)) }
 {
     let mut text = Reader { text };
-    let mut head = [0u32; 7];
-    text.fill(&mut head)?;
-    let [n, pair, number, x1, y1, x2, y2] = head;
-    if n != w {
-        return None;
-    }
-    let job = Job {
-        n,
-        pair,
-        number,
-        box1: Shares { x: x1, y: y1 },
-        box2: Shares { x: x2, y: y2 },
-    };
+    let job = job_at(&mut text, form)?;
     let zeros = on_tapes(&mut text, job, spelling)?;
     Some(Agreement {
-        number: job.number,
+        n: job.n,
+        first: job.first,
+        count: job.count,
         zeros,
     })
 }
 
+// A job has n, pair, first tape number and, of several comparisons, the count, then box 1's shares and box 2's.
+fn job_at(text: &mut Reader, form: Form) -> Option<Job>
+    ensures past { option_map (λ _. text.new.text.now) result ≡ past_job form text.old.text.now }
+    ensures job { IfSome result (λ job. (job ≡ job_in form text.old.text.now) × (count_fits job.count ≡ true)) }
+{
+    let mut head = [0, 0, 0, 1];
+    text.fill(&mut head[..form.head_words()])?;
+    let [n, pair, first, count] = head;
+    if !state::count_fits(count) {
+        return None;
+    }
+    Some(Job {
+        n,
+        pair,
+        first,
+        count,
+        box1: shares_at(&mut *text, count)?,
+        box2: shares_at(&mut *text, count)?,
+    })
+}
+
+// The next numbers, two for each comparison.
+fn shares_at(text: &mut Reader, count: u32) -> Option<[u32; MOST_SHARES]>
+    requires { count_fits count ≡ true }
+    ensures past { option_map (λ _. text.new.text.now) result ≡ read_to (2 * count) text.old.text.now }
+    ensures list { IfSome result (λ list. list ≡ list_in count text.old.text.now) }
+{
+    let mut list = [0; MOST_SHARES];
+    text.fill(&mut list[..2 * count as usize])?;
+    Some(list)
+}
+
 // How many zeros of a job's messages were respelled, if the job agrees.
-#[tactic(auto, using(crate::proofs::Readings::filled), unfolding(crate::specs::Job::tapes_told, crate::specs::Sent::tapes_sent))]
 fn on_tapes(text: &mut Reader, job: Job, spelling: Spelling) -> Option<usize>
+    requires { count_fits job.count ≡ true }
     ensures agrees { is_some result ≡ tapes_told text.old.text.now job }
     ensures zeros { IfSome result (λ zeros. zeros ≡ respelled_in spelling (tapes_sent text.old.text.now job)) }
 {
     let width = Width::new(job.n)?;
-    let mut t1 = exchange::memory::blank_tape();
-    let mut t2 = exchange::memory::blank_tape();
-    let t1 = exchange::memory::tape_room(width, &mut t1);
-    let t2 = exchange::memory::tape_room(width, &mut t2);
+    let mut t1 = exchange::rooms::blank_tapes();
+    let mut t2 = exchange::rooms::blank_tapes();
+    let t1 = exchange::rooms::tapes_room(width, job.count, &mut t1);
+    let t2 = exchange::rooms::tapes_room(width, job.count, &mut t2);
     text.fill(&mut *t1)?;
     text.fill(&mut *t2)?;
     opened(text, job, &*t1, &*t2, spelling)
@@ -105,48 +155,56 @@ fn unused_tally() -> [u8; tally::LONGEST_TALLY]
 }
 
 // A box comes to the job, if it isn't refused.
-#[tactic(auto, using(crate::proofs::Jobs::begun_comes))]
-fn begun(job: Job, side: u32, own: Shares, tape: &[u32], work: &[u32]) -> Option<State>
-    requires { work.now ≡ blank_work }
-    ensures comes { is_some result ≡ comes job side own tape.now }
-    ensures ready { IfSome result (λ s. Ready s job.number (Speak 1) tape.now work.now) }
-    ensures party { IfSome result (λ s. party_of s tape.now ≡ party job.n side own.x own.y tape.now) }
+fn begun(
+    job: Job,
+    side: u32,
+    list: [u32; MOST_SHARES],
+    tapes: &[u32],
+    work: &[u32],
+) -> Option<State>
+    requires { (count_fits job.count ≡ true) × (work.now ≡ blank_works) }
+    ensures comes { is_some result ≡ comes job side list tapes.now }
+    ensures ready { IfSome result (λ s. Ready s job.first (Speak 1) tapes.now work.now) }
+    ensures same { IfSome result (λ s. (s.n ≡ job.n) × (s.batch.count ≡ job.count)) }
+    ensures parties { IfSome result (λ s. (i : ℕ) → i < job.count
+        → party_of s tapes.now i ≡ party job.n side (x_in list i) (y_in list i) (tape_part job.n tapes.now i)) }
 {
     let mut state = state::FIRST;
     let mut tally = unused_tally();
     let Job {
         n,
         pair,
-        number,
+        first,
+        count,
         ..
     } = job;
+    let shares = &list[..2 * count as usize];
     exchange::begin(
-        &mut state, n, side, pair, number, own, tape, work, &mut tally,
+        &mut state, n, side, pair, first, count, shares, tapes, work, &mut tally,
     )
     .ok()?;
     Some(state)
 }
 
 // Both boxes come to the job, and the rounds follow.
-#[tactic(auto, unfolding(crate::specs::Job::job_told, crate::specs::Sent::job_sent))]
 fn opened(text: &mut Reader, job: Job, t1: &[u32], t2: &[u32], spelling: Spelling) -> Option<usize>
+    requires { count_fits job.count ≡ true }
     ensures agrees { is_some result ≡ job_told text.old.text.now job t1.now t2.now }
     ensures zeros { IfSome result (λ zeros. zeros ≡ respelled_in spelling (job_sent job t1.now t2.now)) }
 {
-    let mut w1 = exchange::memory::blank_work();
-    let mut w2 = exchange::memory::blank_work();
+    let mut w1 = exchange::rooms::blank_works();
+    let mut w2 = exchange::rooms::blank_works();
     let mut s1 = begun(job, 1, job.box1, t1, &w1)?;
     let mut s2 = begun(job, 2, job.box2, t2, &w2)?;
     exchanged(
-        text, job.number, &mut s1, &mut s2, t1, t2, &mut w1, &mut w2, spelling,
+        text, job.first, &mut s1, &mut s2, t1, t2, &mut w1, &mut w2, spelling,
     )
 }
 
 // Every round, each message against the text, then the answer shares, which the last round gives.
-#[tactic(auto, using(crate::proofs::Rounds::told_due, crate::proofs::Rounds::told_none))]
 fn exchanged(
     text: &mut Reader,
-    number: u32,
+    first: u32,
     s1: &mut State,
     s2: &mut State,
     t1: &[u32],
@@ -155,19 +213,19 @@ fn exchanged(
     w2: &mut [u32],
     spelling: Spelling,
 ) -> Option<usize>
-    requires { Due number 1 s1.old s2.old t1.now t2.now w1.old w2.old }
+    requires { Due first 1 s1.old s2.old t1.now t2.now w1.old w2.old }
     ensures agrees { is_some result
         ≡ is_some (spelled text.old.text.now
-        (transcript (party_of s1.old t1.now) (party_of s2.old t2.now) (works w1.old w2.old))) }
+        (transcript s1.old.batch.count (party_of s1.old t1.now) (party_of s2.old t2.now) (works_of s1.old s2.old w1.old w2.old))) }
     ensures zeros { IfSome result (λ zeros. zeros ≡ respelled_in spelling
-        (messages_to (party_of s1.old t1.now) (party_of s2.old t2.now)
-        (works w1.old w2.old) last_round)) }
+        (messages_to s1.old.batch.count (party_of s1.old t1.now) (party_of s2.old t2.now) (works_of s1.old s2.old w1.old w2.old) last_round)) }
 {
+    let count = s1.batch.count;
     let mut zeros = 0;
     for heard in 0..exchange::EARLIER_ROUNDS {
         let round = compared(
             &mut *text,
-            number,
+            first,
             heard + 1,
             &mut *s1,
             &mut *s2,
@@ -180,9 +238,9 @@ fn exchanged(
         zeros += round.zeros;
     }
     let last = compared(
-        &mut *text, number, LAST_ROUND, s1, s2, t1, t2, w1, w2, spelling,
+        &mut *text, first, LAST_ROUND, s1, s2, t1, t2, w1, w2, spelling,
     )?;
-    answers_same(text, last.heard)?;
+    answers_same(text, count, last.heard)?;
     Some(zeros + last.zeros)
 }
 
@@ -195,10 +253,9 @@ struct Round {
 
 // One round, both messages against the text as they are sent; then each goes to the other box. After the last no turn is due. In two steps and not
 // by exchange's round: the words are looked at before they are heard, and their zeros may be respelled on the way.
-#[tactic(auto, using(crate::proofs::Carried::room))]
 fn compared(
     text: &mut Reader,
-    number: u32,
+    first: u32,
     round: u32,
     s1: &mut State,
     s2: &mut State,
@@ -208,24 +265,22 @@ fn compared(
     w2: &mut [u32],
     spelling: Spelling,
 ) -> Option<Round>
-    requires { Due number round s1.old s2.old t1.now t2.now w1.old w2.old }
+    requires { Due first round s1.old s2.old t1.now t2.now w1.old w2.old }
     ensures read { option_map (λ _. text.new.text.now) result
-        ≡ spelled text.old.text.now
-        (messages (party_of s1.old t1.now) (party_of s2.old t2.now) (works w1.old w2.old) round) }
-    ensures box1 { IfSome result (λ told. outcome (reply_of heard_or_share told.heard.0) s1.new w1.new
-        ≡ heard_after s1.old t1.now w1.old round (message (party_of s2.old t2.now) w2.old round)) }
-    ensures box2 { IfSome result (λ told. outcome (reply_of heard_or_share told.heard.1) s2.new w2.new
-        ≡ heard_after s2.old t2.now w2.old round (message (party_of s1.old t1.now) w1.old round)) }
+        ≡ spelled text.old.text.now (joined_message s1.old t1.now w1.old round ++ joined_message s2.old t2.now w2.old round) }
+    ensures box1 { IfSome result (λ told. outcome (reply_of heard_or_finished told.heard.0) s1.new w1.new
+        ≡ heard_after s1.old t1.now w1.old round (joined_message s2.old t2.now w2.old round)) }
+    ensures box2 { IfSome result (λ told. outcome (reply_of heard_or_finished told.heard.1) s2.new w2.new
+        ≡ heard_after s2.old t2.now w2.old round (joined_message s1.old t1.now w1.old round)) }
     ensures zeros { IfSome result (λ told. told.zeros
-        ≡ respelled_in spelling
-        (messages (party_of s1.old t1.now) (party_of s2.old t2.now) (works w1.old w2.old) round)) }
+        ≡ respelled_in spelling (joined_message s1.old t1.now w1.old round ++ joined_message s2.old t2.now w2.old round)) }
 {
-    let mut o1 = exchange::memory::blank_words();
-    let mut o2 = exchange::memory::blank_words();
+    let mut o1 = exchange::rooms::blank_messages();
+    let mut o2 = exchange::rooms::blank_messages();
     let n = Width { bits: s1.n };
-    let words = compare::words::words_of(n, round);
+    let words = exchange::words_for(n, s1.batch.count, round);
     exchange::both_speak(
-        number, round, &mut *s1, &mut *s2, t1, t2, &*w1, &*w2, &mut o1, &mut o2,
+        first, round, &mut *s1, &mut *s2, t1, t2, &*w1, &*w2, &mut o1, &mut o2,
     );
     // the room is the longest message's: a shorter one has its first words
     let o1 = &mut o1[..words];
@@ -233,20 +288,23 @@ fn compared(
     text.both_same(&*o1, &*o2)?;
     let zeros1 = carry(n, &mut *o1, spelling);
     let zeros2 = carry(n, &mut *o2, spelling);
-    let heard = exchange::both_hear(number, round, s1, s2, t1, t2, w1, w2, &*o2, &*o1);
+    let heard = exchange::both_hear(first, round, s1, s2, t1, t2, w1, w2, &*o2, &*o1);
     Some(Round {
         heard,
         zeros: zeros1 + zeros2,
     })
 }
 
-// Passes the next numbers, if they are the shares of what both boxes answered. A hear that gave none doesn't agree.
-fn answers_same(text: &mut Reader, heard: Heard) -> Option<()>
+// Passes the next numbers, if they are the shares of what both boxes answered, one for each comparison. A hear that gave none doesn't agree.
+fn answers_same(text: &mut Reader, count: u32, heard: Heard) -> Option<()>
+    requires { count_fits count ≡ true }
     ensures { is_some result
-        ≡ is_some (option_and_then (λ own. option_and_then (λ others. spelled text.old.text.now (own ∷ others ∷ []))
-        (share_in heard.1)) (share_in heard.0)) }
+        ≡ is_some (option_and_then (λ own. option_and_then (λ others. spelled text.old.text.now (take count own ++ take count others))
+        (shares_in heard.1)) (shares_in heard.0)) }
 {
     let (heard1, heard2) = heard;
-    let answers = [heard1.ok().flatten()?, heard2.ok().flatten()?];
-    text.same(&answers)
+    let answers1 = heard1.ok().flatten()?;
+    let answers2 = heard2.ok().flatten()?;
+    let count = count as usize;
+    text.both_same(&answers1[..count], &answers2[..count])
 }

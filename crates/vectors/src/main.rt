@@ -9,8 +9,10 @@ mod data;
 mod deal;
 mod job;
 mod numbers;
+mod single;
 mod spelling;
 
+use crate::job::{Agreement, Form};
 use crate::spelling::Spelling;
 use field::Width;
 use std::io;
@@ -45,8 +47,8 @@ fn run_width(rt: &(impl Files + Print), n: Width, count: u8, spelling: Spelling)
     let mut agreed: u64 = 0;
     let mut zeros: u64 = 0;
     for k in 0..count {
-        if let Some(told) = job::compared_with(rt, n.bits, k + 1, spelling) {
-            print!(rt; " {}", told.number)?;
+        if let Some(told) = single::compared_with(rt, n.bits, k + 1, spelling) {
+            print!(rt; " {}", told.first)?;
             agreed += 1;
             zeros += told.zeros as u64;
         }
@@ -58,6 +60,45 @@ fn run_width(rt: &(impl Files + Print), n: Width, count: u8, spelling: Spelling)
 fn run_widths(rt: &(impl Files + Print), spelling: Spelling) -> io::Result<()> {
     for (n, count) in Width::all().into_iter().zip([5, 4, 3, 2, 2, 2, 2]) {
         run_width(rt, n, count, spelling)?;
+    }
+    Ok(())
+}
+
+// Says that the boxes of a joined job agree with its file, and what that names: only of one that does.
+fn tell_joined(rt: &impl Print, told: Agreement, spelling: Spelling) -> io::Result<()> {
+    let Agreement {
+        n,
+        first,
+        count,
+        zeros,
+    } = told;
+    print!(rt; ": width {n}, tapes from {first}, count {count}: agrees")?;
+    if spelling == Spelling::Respelled {
+        print!(rt; ", zeros respelled: {zeros}")?;
+    }
+    println!(rt)
+}
+
+fn run_joined(rt: &(impl Files + Print), name: &str, spelling: Spelling) -> io::Result<()> {
+    print!(rt; "{name}")?;
+    match job::compared_with(rt, name.as_bytes(), Form::Joined, spelling) {
+        Some(told) => tell_joined(rt, told, spelling),
+        None => println!(rt; ": does not agree"),
+    }
+}
+
+const JOINED: [&str; 6] = [
+    "joined-03-1.txt",
+    "joined-03-8.txt",
+    "joined-05-3.txt",
+    "joined-07-4.txt",
+    "joined-13-2.txt",
+    "joined-31-2.txt",
+];
+
+fn run_all_joined(rt: &(impl Files + Print), spelling: Spelling) -> io::Result<()> {
+    for name in JOINED {
+        run_joined(rt, name, spelling)?;
     }
     Ok(())
 }
@@ -83,6 +124,8 @@ fn run_deal(rt: &(impl Files + Print), name: &str) -> io::Result<()> {
 fn main(rt: HostRuntime) -> io::Result<()> {
     run_widths(&rt, Spelling::AsSent)?;
     run_widths(&rt, Spelling::Respelled)?;
+    run_all_joined(&rt, Spelling::AsSent)?;
+    run_all_joined(&rt, Spelling::Respelled)?;
     run_deal(&rt, "deal-03-1.txt")?;
     run_deal(&rt, "deal-03-4294967295.txt")?;
     run_deal(&rt, "deal-05-2463534242.txt")?;

@@ -13,7 +13,7 @@ use Rattle.protocol.specs.Products.{Party}
 use Rattle.protocol.specs.Rounds.{last_round, round_words, after_hearing, share_after}
 use Rattle.protocol.specs.Sizes.{most_jobs}
 use Rattle.rules.specs.Batches.{each_job, party_of, work_part, words_part, joined_after}
-use Rattle.rules.proofs.Sizes.{most_jobs_lem}
+use Rattle.rules.proofs.Batches.{count_most}
 use Rattle.limit_box.proofs.Hearing.{lent_part, after_at, told_at, untouched, hear_turn, part_from_line, each_more, last_told}
 use Rattle.limit_box.proofs.joined.Joined.hear.Goals.{In-loop-i, After-loop-i}
 use Rattle.limit_box.proofs.joined.Joined.hear.Goals as goal
@@ -57,7 +57,7 @@ loop-i-preserved c =
     c.unwrap_or.ensures ∙ ap (λ (v : Option ℕ). unwrap_or v 0) share in (
       rw (room_is k)
           (hear_turn s tapes a.work.now a.round a.incoming.now c.loop-i.work c.hear.new.work i c.loop-i-test.true c.requires.room c.loop-i.invariant.0 heard),
-      rw (c.loop-i.invariant.1, told) (each_more i (told_at s tapes a.work.now a.round a.incoming.now) (omega (arith, c.loop-i-test.true, most_jobs_lem s.batch.count a.self.given.counted))),
+      rw (c.loop-i.invariant.1, told) (each_more i (told_at s tapes a.work.now a.round a.incoming.now) (omega (arith, c.loop-i-test.true, (count_most s.batch.count a.self.given.counted).1))),
     )
 
 -- all jobs are passed
