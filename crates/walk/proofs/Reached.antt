@@ -1,8 +1,9 @@
 -- Where the first calls of the walk lead, by the rules, and what box 1's tally is along them.
-use Prim.Native.Nat.{ℕ, zero, suc, ◌+◌}
+use Prim.Native.Nat.{ℕ, zero, suc, ◌+◌, ◌/◌, ◌%◌}
 use mathlib.Core.Path.{◌≡◌, refl, ◌∙◌}
 use mathlib.Core.Bool.{Bool, true, false, cond}
 use native.Mathlib.Omega.{arith}
+use lib.Dec.{eqb}
 use Rattle.lists.specs.Tabulate.{tabulate}
 use Rattle.field.specs.Width.{listed, modulus}
 use Rattle.shares.specs.Side.{is_side}
@@ -19,6 +20,7 @@ use Rattle.exchange.specs.Opening.{first_state}
 use Rattle.walk.specs.declared.job_steps.Step.TheVariants.{Speak, Hear}
 use Rattle.walk.specs.declared.progress.Pair.{Pair}
 use Rattle.walk.specs.Walk.{idle_state, job_state, one_start, box_tape, fresh_tally, tally_after}
+use Rattle.walk.specs.JobSteps.{step_at}
 use Rattle.walk.specs.Courses.{Asked, plain_job, Woken, Stepped, Course, none, next}
 
 -- ---- box 1 wakes, starts its job on tape 0 and speaks
@@ -50,8 +52,20 @@ kept : (j : Asked) (even : Bool) (r s : ℕ) (b a : Pair) → Stepped j (cond ev
 kept j true r s b a h = grind (arith, h)
 kept j false r s b a h = grind (arith, h)
 
+-- before the first step
+at_start : {j : Asked} {from p : Pair} {steps : ℕ} → Course j from steps p → steps ≡ 0 → p ≡ from
+at_start none e = refl
+at_start (next c h) e = absurd (omega (arith, e))
+
 -- the start marks tape 0, and no later step changes the tally
 pub tally_is : {from p : Pair} {steps : ℕ} → Woken from → Course plain_job from steps p → p.box1.tally ≡ tally_after steps
 tally_is w none = grind (arith, w, woken_tally)
-tally_is {from} w (next {steps = zero} {a = a} none h) = grind (arith, h, w, woken_four, marked_four)
-tally_is w (next {steps = suc k} {b = b} {a = a} c h) = kept plain_job _ _ _ b a h ∙ tally_is w c
+tally_is {from} w (next {steps = zero} {b = b} c h) =
+    let here : b ≡ from = at_start c refl in
+    let state : from.box1.state ≡ idle_state 16 = w.0.0.state ∙ woken_four in
+    let tally : from.box1.tally ≡ fresh_tally = w.0.0.left ∙ woken_tally in
+    h.0.0.left ∙ rw (here, state, tally, w.0.1) marked_four
+tally_is w (next {steps = suc k} {b = b} {a = a} c h) =
+    let later : step_at (suc k + 1) ≡ cond (eqb ((suc k + 1) % 2) 0) (Speak ((suc k + 1) / 2)) (Hear ((suc k + 1) / 2)) = grind arith in
+    let same : tally_after (suc k) ≡ tally_after (suc k + 1) = grind arith in
+    kept plain_job _ _ _ b a (rw later at h) ∙ tally_is w c ∙ same

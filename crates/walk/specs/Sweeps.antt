@@ -24,7 +24,7 @@ RightAt Bytes place = refusal_of (one_start (idle_state 16) 0 5 1 (box_tape 1 0)
 RightAt Above place = refusal_of (one_start (idle_state 16) 0 5 1 (box_tape 1 0) (tabulate 100 (λ k. 0)) (set fresh_tally (4 + place / 255) (place % 255))).reply ≡ 15
 RightAt Body place = refusal_of (one_start (idle_state 16) 0 5 1 (set (box_tape 1 0) place 7) (tabulate 100 (λ k. 0)) fresh_tally).reply ≡ 10
 RightAt Words place = refusal_of (hear_rule (job_state 16 (Hear 1)) 0 1 (box_tape 1 0) (filler 100) (set (tabulate 33 (λ k. 0)) place 8)).reply ≡ 13
-RightAt Zeros place = HeardAsZeros (with_side (job_state 16 (Hear 1)) 2) 2 1 (tabulate 100 (λ k. 6)) (set (tabulate 33 (λ k. 0)) place 7)
+RightAt Zeros place = HeardAsZeros (with_side (job_state 16 (Hear 1)) 2) 2 1 (tabulate 300 (λ k. 6)) (set (tabulate 33 (λ k. 0)) place 7)
 
 -- of the first so many places, P holds at so many
 pub data Counted (P : ℕ → Type 0) : ℕ → ℕ → Type 0 where

@@ -6,9 +6,12 @@ use Rattle.deals.specs.Deals.{dealt_tape}
 use Rattle.walk.specs.Courses.{Asked, asked, Woken, Course, CourseFrom}
 use Rattle.walk.specs.declared.progress.Pair.{Pair}
 
--- a box's tapes, each of the seed that is its number
+-- a box's tape of comparison i, dealt from the seed that is the tape's number, and all three
+abbrev pub dealt_at : ℕ → ℕ → List ℕ
+dealt_at side i = dealt_tape (i + 1) 3 5 side (i + 1)
+
 abbrev pub dealt_tapes : ℕ → List ℕ
-dealt_tapes side = chained 3 (λ i. dealt_tape (i + 1) 3 5 side (i + 1))
+dealt_tapes side = chained 3 (dealt_at side)
 
 -- so many of the comparisons from this one on, as a job
 abbrev pub three_of : ℕ → ℕ → Asked

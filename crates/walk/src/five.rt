@@ -49,29 +49,28 @@ pub struct Box1<const N: usize> {
 
 impl<const N: usize> Box1<N> {
     // The power is cut: the box is asleep.
-    pub fn cut(self) -> Box1<N>
-        ensures { (result.state ≡ asleep_state self.state) × (result.tally ≡ self.tally) }
+    pub fn cut(&self) -> Box1<N>
+        ensures { (result.state ≡ asleep_state self.now.state) × (result.tally ≡ self.now.tally) }
     {
         let state = State {
             phase: Phase::Asleep,
             batch: NO_BATCH,
             ..self.state
         };
-        Box1 { state, ..self }
+        Box1 { state, ..*self }
     }
 
     // A start on a tape that is lent with it.
-    #[tactic(auto, unfolding(rules::specs::Calls::start_rule, rules::specs::Grounds::start_ground))]
-    pub fn start_on(self, number: u32) -> Tried
-        ensures { Answered result self.state self.tally (one_start self.state number 5 1 (box_tape 1 number) (tabulate 100 (λ k. 0)) self.tally) }
+    pub fn start_on(&self, number: u32) -> Tried
+        ensures { Answered result self.now.state self.now.tally (one_start self.now.state number 5 1 (box_tape 1 number) (tabulate 100 (λ k. 0)) self.now.tally) }
     {
-        let Box1 { state, tally } = self;
+        let Box1 { state, tally } = *self;
         let tape = plain(1, number);
         start_one(state, number, 5, 1, &tape, &[0; 100], tally)
     }
 
     // What each of the five answers: a start on tape 1, this speak and this hear.
-    pub fn with(self, rt: &impl Print, speak: Tried, hear: Tried) -> io::Result<()> {
+    pub fn with(&self, rt: &impl Print, speak: Tried, hear: Tried) -> io::Result<()> {
         short(rt, calls::wake(self.state, 3, 1, &self.tally))?;
         short(rt, self.start_on(1))?;
         short(rt, speak)?;
@@ -80,7 +79,7 @@ impl<const N: usize> Box1<N> {
     }
 
     // The speak and the hear are on tape 0.
-    pub fn all(self, rt: &impl Print, round: u32) -> io::Result<()> {
+    pub fn all(&self, rt: &impl Print, round: u32) -> io::Result<()> {
         let speak = speak_on(self.state, 0, round);
         let hear = hear_on(self.state, 0, round);
         self.with(rt, speak, hear)

@@ -30,7 +30,7 @@ fn line(rt: &impl Print, marks: usize, left: [u8; 4]) -> io::Result<()>
         marks + 1
     )?;
     bytes(rt, &left)?;
-    awake_again(rt, after_cut(marks, left), 10)
+    awake_again(rt, &after_cut(marks, left), 10)
 }
 
 pub fn lines(rt: &impl Print) -> io::Result<()> {

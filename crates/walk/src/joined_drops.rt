@@ -5,24 +5,21 @@ use crate::cuts::{after, starts};
 use crate::five::Box1;
 use crate::job_steps::{LAST, Step};
 use crate::joined_job::together;
+use crate::memory::BoxMemory;
 use crate::say::{batch, short};
 use std::io;
 
 fn line(rt: &impl Print, step: u32) -> io::Result<()> {
-    let box1 = together(step).box1;
+    let BoxMemory { state, tally, .. } = together(step).box1;
     print!(rt; "after {}:", Step::at(step))?;
-    batch(rt, box1.state.batch)?;
-    let dropped = calls::drop(box1.state);
+    batch(rt, state.batch)?;
+    let dropped = calls::drop(state);
     print!(rt; "; drop")?;
     short(rt, dropped)?;
     print!(rt; ";")?;
     batch(rt, dropped.state.batch)?;
     print!(rt; "; a start on each tape")?;
-    let before = Box1 {
-        state: box1.state,
-        tally: box1.tally,
-    };
-    starts(rt, after(before, dropped), 4)
+    starts(rt, &after(&Box1 { state, tally }, dropped), 4)
 }
 
 pub fn lines(rt: &impl Print) -> io::Result<()> {

@@ -35,7 +35,8 @@ fn dealt() -> ([u32; 447], [u32; 447])
 
 // So many of them from this one on, as a job.
 fn job<'a>(tapes1: &'a [u32], tapes2: &'a [u32], from: usize, count: usize) -> Job<'a>
-    requires { (from + count ≤ 3) × (tapes1.now ≡ dealt_tapes 1) × (tapes2.now ≡ dealt_tapes 2) }
+    requires within { (from + count ≤ 3) × (length tapes1.now ≡ 447) × (length tapes2.now ≡ 447) }
+    requires dealt { (tapes1.now ≡ dealt_tapes 1) × (tapes2.now ≡ dealt_tapes 2) }
     ensures { (result.count ≡ count) × (asked_of result ≡ three_of from count) }
 {
     let to = from + count;
@@ -60,6 +61,7 @@ pub fn together(steps: u32) -> Pair
 }
 
 // And one by one: after so many of them, and so many steps of the next.
+#[tactic(auto, using(crate::specs::Three::none, crate::specs::Three::next))]
 fn one_by_one(done: usize, steps: u32) -> Pair
     requires { done < 3 }
     ensures { OneByOne done steps result }

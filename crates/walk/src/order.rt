@@ -23,7 +23,6 @@ fn wakes(rt: &impl Print) -> io::Result<()> {
 }
 
 // A start with shares, tape and work that are refused, where tapes 0 and 2 are spent: 0 and 1 are late.
-#[tactic(auto, unfolding(rules::specs::Calls::start_rule, rules::specs::Grounds::start_ground))]
 fn wrong_start(state: State, number: u32) -> Tried
     ensures { Answered result state spent_tally (one_start state number 7 7 (box_tape 2 0) (tabulate 99 (λ k. 0)) spent_tally) }
 {

@@ -1,5 +1,4 @@
 // Start's grounds: 1, 5, 4, 7, 8, 15, 9, 10, 12.
-#![tactic(auto, unfolding(rules::specs::Calls::start_rule, rules::specs::Grounds::start_ground))]
 
 ghost use Rattle.std.specs.Prelude.{◌≡◌, ◌<◌, set};
 ghost use Rattle.lists.specs.Tabulate.{tabulate};

@@ -75,14 +75,23 @@ pub fn long() -> [u32; 150]
     of_word(0, 1)
 }
 
-// Plain tapes joined, one for each of these sides, on consecutive tape numbers.
+// Writes plain tapes one after the other, one for each of these sides, on consecutive tape numbers.
+fn join(tapes: &mut [u32], sides: &[u32], first: u32)
+    requires { (length tapes.old ≡ 149 * length sides.now) × (first + length sides.now ≤ 4294967296) }
+    ensures { tapes.new ≡ joined_tapes sides.now first }
+{
+    for i in 0..sides.len() {
+        let from = 149 * i;
+        tapes[from..from + 149].copy_from_slice(&plain(sides[i], first + i as u32));
+    }
+}
+
+// Such tapes joined.
 pub fn joined<const N: usize>(sides: &[u32], first: u32) -> [u32; N]
     requires { (149 * length sides.now ≡ N) × (first + length sides.now ≤ 4294967296) }
     ensures { (length result ≡ N) × (result ≡ joined_tapes sides.now first) }
 {
     let mut tapes = [0u32; N];
-    for (i, &side) in sides.iter().enumerate() {
-        tapes[149 * i..149 * i + 149].copy_from_slice(&plain(side, first + i as u32));
-    }
+    join(&mut tapes, sides, first);
     tapes
 }
