@@ -11,6 +11,15 @@ mod five;
 mod hears;
 mod job;
 mod job_steps;
+mod joined_cuts;
+mod joined_drops;
+mod joined_grounds;
+mod joined_job;
+mod joined_order;
+mod joined_outside;
+mod joined_starts;
+mod joined_turns;
+mod memory;
 mod order;
 mod outside;
 mod progress;
@@ -37,5 +46,13 @@ fn main(rt: HostRuntime) -> io::Result<()> {
     cuts::lines(&rt)?;
     job::lines(&rt)?;
     zeros::lines(&rt)?;
+    joined_starts::lines(&rt)?;
+    joined_grounds::lines(&rt)?;
+    joined_turns::lines(&rt)?;
+    joined_order::lines(&rt)?;
+    joined_outside::lines(&rt)?;
+    joined_cuts::lines(&rt)?;
+    joined_drops::lines(&rt)?;
+    joined_job::lines(&rt)?;
     dealing::lines(&rt)
 }

@@ -1,0 +1,52 @@
+-- The three comparisons on dealt tapes 1 to 3: as one job, and one by one.
+use Rattle.std.specs.Prelude.{ℕ, ◌+◌, ◌*◌, ◌≡◌, List, [], ◌∷◌, Option, Some, None, take, drop, get_or}
+use Rattle.lists.specs.Joined.{chained, part}
+use Rattle.protocol.specs.Rounds.{last_round, round_words}
+use Rattle.deals.specs.Deals.{dealt_tape}
+use Rattle.walk.specs.Courses.{Asked, asked, Woken, Course, CourseFrom}
+use Rattle.walk.specs.declared.progress.Pair.{Pair}
+
+-- a box's tape of comparison i, dealt from the seed that is the tape's number, and all three
+abbrev pub dealt_at : ℕ → ℕ → List ℕ
+dealt_at side i = dealt_tape (i + 1) 3 5 side (i + 1)
+
+abbrev pub dealt_tapes : ℕ → List ℕ
+dealt_tapes side = chained 3 (dealt_at side)
+
+-- so many of the comparisons from this one on, as a job
+abbrev pub three_of : ℕ → ℕ → Asked
+three_of from count =
+    asked (1 + from) count
+    (take (2 * count) (drop (2 * from) (5 ∷ 1 ∷ 6 ∷ 2 ∷ 3 ∷ 4 ∷ [])))
+    (take (2 * count) (drop (2 * from) (5 ∷ 3 ∷ 5 ∷ 1 ∷ 2 ∷ 1 ∷ [])))
+    (take (149 * count) (drop (149 * from) (dealt_tapes 1)))
+    (take (149 * count) (drop (149 * from) (dealt_tapes 2)))
+
+-- the last step of a job, its last hear
+abbrev pub last_step : ℕ
+last_step = 2 * last_round + 1
+
+-- all as one job, after so many steps
+abbrev pub Together : ℕ → Pair → Type 0
+Together steps p = CourseFrom Woken (three_of 0 3) steps p
+
+-- so many of them one by one, each to its end
+pub data Done : ℕ → Pair → Type 0 where
+  none : {p : Pair} → Woken p → Done 0 p
+  next : {done : ℕ} {b a : Pair} → Done done b → Course (three_of done 1) b last_step a → Done (done + 1) a
+
+-- and so many steps of the one after them
+abbrev pub OneByOne : ℕ → ℕ → Pair → Type 0
+OneByOne done steps p = CourseFrom (Done done) (three_of done 1) steps p
+
+-- part i of both boxes' joined messages of a round is what the job alone says in it
+abbrev pub SameWords : ℕ → ℕ → Pair → Pair → Type 0
+SameWords round i joined alone =
+    (part (round_words 3 round) joined.box1.out i ≡ take (round_words 3 round) alone.box1.out)
+    × (part (round_words 3 round) joined.box2.out i ≡ take (round_words 3 round) alone.box2.out)
+
+-- both finished, and answer share i is the job's alone
+abbrev pub SameShare : ℕ → Option (List ℕ) → Option (List ℕ) → Type 0
+SameShare i None one = ⊥
+SameShare i (Some all) None = ⊥
+SameShare i (Some all) (Some one) = get_or all i 0 ≡ get_or one 0 0
