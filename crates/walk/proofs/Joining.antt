@@ -6,7 +6,7 @@ use native.Mathlib.Nat.{mul_comm}
 use native.Mathlib.Numerals.{add-one}
 use native.Mathlib.Omega.{arith}
 use borrow.Rule.Slice.PartMut.{mid_of, put_mid}
-use lib.ListN.{length, take, drop}
+use lib.ListN.{length, drop}
 use lib.Seq.{sets, length-sets}
 use Rattle.std.proofs.lemmas.List.{length-take-le, length-drop}
 use Rattle.lists.specs.Joined.{chained}
@@ -14,7 +14,7 @@ use Rattle.lists.proofs.Joined.{length_chained, sets_chained}
 use Rattle.lists.proofs.Parts.{put_whole}
 use Rattle.lists.proofs.Sets.{sets_whole}
 use Rattle.tape.specs.Plain.{plain_tape}
-use Rattle.deals.specs.Deals.{dealt_tape, kind_word}
+use Rattle.deals.specs.Deals.{dealt_tape}
 use Rattle.walk.specs.Walk.{box_tape}
 use Rattle.walk.specs.Three.{dealt_at}
 

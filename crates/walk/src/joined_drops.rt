@@ -1,7 +1,7 @@
-// A drop at every point of a job of three on tapes 1 to 3: what the state holds of it before and after, and a start on each tape. After the last hear the
-// job is closed already.
+// A drop at every point of a job of three on tapes 1 to 3: what the state holds of it before and after, and a start on each tape. After the last
+// hear the job is closed already.
 use crate::calls;
-use crate::cuts::{after, starts};
+use crate::cuts::starts;
 use crate::five::Box1;
 use crate::job_steps::{LAST, Step};
 use crate::joined_job::together;
@@ -19,7 +19,11 @@ fn line(rt: &impl Print, step: u32) -> io::Result<()> {
     print!(rt; ";")?;
     batch(rt, dropped.state.batch)?;
     print!(rt; "; a start on each tape")?;
-    starts(rt, &after(&Box1 { state, tally }, dropped), 4)
+    let left = Box1 {
+        state: dropped.state,
+        tally,
+    };
+    starts(rt, &left, 4)
 }
 
 pub fn lines(rt: &impl Print) -> io::Result<()> {

@@ -1,12 +1,8 @@
 // Three comparisons of both boxes on dealt tapes 1 to 3: together as one job, and one by one.
-ghost use Rattle.std.specs.Prelude.{◌≡◌, true, ◌+◌, ◌<◌, ◌≤◌, length};
-ghost use Rattle.protocol.specs.Rounds.{last_round};
-ghost use Rattle.rules.specs.Answers.{reply_of};
-ghost use Rattle.walk.specs.Said.{as_reply, shares_in};
+ghost use Rattle.std.specs.Prelude.{◌≡◌, ◌+◌, ◌<◌, ◌≤◌, length};
 ghost use Rattle.walk.specs.Courses.{asked_of};
-ghost use Rattle.walk.specs.Three.{dealt_tapes, three_of, Together, OneByOne, SameWords, SameShare};
+ghost use Rattle.walk.specs.Three.{dealt_tapes, three_of, Together, OneByOne};
 
-use crate::answers::Answer;
 use crate::job::{answers, opened, shares_in};
 use crate::progress::{Job, Pair};
 use crate::{job_steps, tapes};
@@ -62,7 +58,7 @@ pub fn together(steps: u32) -> Pair
 
 // And one by one: after so many of them, and so many steps of the next.
 #[tactic(auto, using(crate::specs::Three::none, crate::specs::Three::next))]
-fn one_by_one(done: usize, steps: u32) -> Pair
+pub fn one_by_one(done: usize, steps: u32) -> Pair
     requires { done < 3 }
     ensures { OneByOne done steps result }
 {
@@ -73,68 +69,6 @@ fn one_by_one(done: usize, steps: u32) -> Pair
     }
     pair.walk(job(&tapes1, &tapes2, done, 1), steps);
     pair
-}
-
-// Whether part i of both boxes' messages of a round is what they say in that job alone.
-fn same_words(joined: Pair, alone: Pair, round: u32, i: usize) -> bool
-    requires { i < 3 }
-    ensures { (result ≡ true → SameWords round i joined alone) × (SameWords round i joined alone → result ≡ true) }
-{
-    let words = crate::five::words(round);
-    let from = i * words;
-    let part1 = &joined.box1.out[from..from + words];
-    let part2 = &joined.box2.out[from..from + words];
-    part1 == &alone.box1.out[..words] && part2 == &alone.box2.out[..words]
-}
-
-// Whether answer share i is the one of the job alone.
-fn same_share(joined: Answer, alone: Answer, i: usize) -> bool
-    requires { i < 8 }
-    ensures { (result ≡ true → SameShare i (shares_in (reply_of as_reply joined)) (shares_in (reply_of as_reply alone)))
-        × (SameShare i (shares_in (reply_of as_reply joined)) (shares_in (reply_of as_reply alone)) → result ≡ true) }
-{
-    match (shares_in(joined), shares_in(alone)) {
-        (Some(all), Some(one)) => all[i] == one[0],
-        _ => false,
-    }
-}
-
-fn same(rt: &impl Print, same: bool) -> io::Result<()> {
-    let word = if same { "same" } else { "OTHER" };
-    print!(rt; " {word}")
-}
-
-fn words(rt: &impl Print, round: u32) -> io::Result<()>
-    requires { round ≤ last_round }
-{
-    let joined = together(2 * round);
-    print!(rt; "round {round}, its words one by one:")?;
-    for i in 0..3 {
-        let alone = one_by_one(i, 2 * round);
-        same(rt, same_words(joined, alone, round, i))?;
-    }
-    println!(rt)
-}
-
-fn shares(rt: &impl Print, joined: Pair) -> io::Result<()> {
-    print!(rt; "the answer shares one by one:")?;
-    for i in 0..3 {
-        let alone = one_by_one(i, job_steps::LAST);
-        let box1 = same_share(joined.box1.answer, alone.box1.answer, i);
-        let box2 = same_share(joined.box2.answer, alone.box2.answer, i);
-        same(rt, box1 && box2)?;
-    }
-    println!(rt)
-}
-
-fn tallies(rt: &impl Print, joined: Pair) -> io::Result<()> {
-    let alone = one_by_one(2, job_steps::LAST);
-    print!(rt; "the tallies one by one:")?;
-    same(
-        rt,
-        joined.box1.tally == alone.box1.tally && joined.box2.tally == alone.box2.tally,
-    )?;
-    println!(rt)
 }
 
 // What the answer shares open.
@@ -155,11 +89,5 @@ pub fn lines(rt: &impl Print) -> io::Result<()> {
     println!(rt; "a job of three on tapes 1 to 3, x 3 4 5 and y 4 3 5")?;
     answers(rt, "box 1", |step| together(step).box1.answer)?;
     answers(rt, "box 2", |step| together(step).box2.answer)?;
-    let last = together(job_steps::LAST);
-    less(rt, last)?;
-    for round in 1..=compare::words::LAST_ROUND {
-        words(rt, round)?;
-    }
-    tallies(rt, last)?;
-    shares(rt, last)
+    less(rt, together(job_steps::LAST))
 }

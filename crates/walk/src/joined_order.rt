@@ -1,9 +1,10 @@
 // First match counts in joined jobs too: each call with all its grounds at once, then without the first of them, and so on until it is taken.
 ghost use Rattle.std.specs.Prelude.{◌≡◌, ◌≤◌, take, replicate};
-ghost use Rattle.rules.specs.Calls.{start_rule, speak_rule, hear_rule};
+ghost use Rattle.rules.specs.Calls.{start_rule, hear_rule};
 ghost use Rattle.walk.specs.Walk.{joined_tapes, filler, Answered};
 
-use crate::calls::{FILLER, Tried, hear, speak, start};
+use crate::calls::{FILLER, Tried, hear, start};
+use crate::joined_turns::speak_of;
 use crate::say::short;
 use crate::tallies::{FRESH, spent};
 use crate::{states, tapes};
@@ -78,23 +79,6 @@ fn starts(rt: &impl Print) -> io::Result<()> {
         start(states::idle(), 2, 2, &good, &tapes, &[0; 200], FRESH),
     )?;
     println!(rt)
-}
-
-// A speak with plain tapes of those sides, and so many words of work and out.
-fn speak_of(state: State, first: u32, sides: [u32; 2], work: usize, words: usize) -> Tried
-    requires { (work ≤ 200) × (words ≤ 66) }
-    ensures { Answered result state (filler words) (speak_rule state first 1 (joined_tapes sides 0) (take work (replicate 200 0)) (filler words)) }
-{
-    let tapes: [u32; 298] = tapes::joined(&sides, 0);
-    let mut out = [FILLER; 66];
-    speak(
-        state,
-        first,
-        1,
-        &tapes,
-        &[0; 200][..work],
-        &mut out[..words],
-    )
 }
 
 fn speaks(rt: &impl Print) -> io::Result<()> {

@@ -69,18 +69,18 @@ fn speak_due(first: u32, tapes: &[u32]) -> Tried
     speak_two(states::two(Turn::Speak(1)), first, tapes)
 }
 
-// A speak with so many words of work and out.
-fn speak_room(work: usize, words: usize) -> Tried
+// A speak with plain tapes of those sides, and so many words of work and out.
+pub fn speak_of(state: State, first: u32, sides: [u32; 2], work: usize, words: usize) -> Tried
     requires { (work ≤ 200) × (words ≤ 66) }
-    ensures { Answered result (two_state (Speak 1)) (filler words) (speak_rule (two_state (Speak 1)) 0 1 (joined_tapes (1 ∷ 1 ∷ []) 0)
-        (take work (replicate 200 0)) (filler words)) }
+    ensures { Answered result state (filler words) (speak_rule state first 1 (joined_tapes sides 0) (take work (replicate 200 0)) (filler words)) }
 {
+    let tapes: [u32; 298] = tapes::joined(&sides, 0);
     let mut out = [FILLER; 66];
     speak(
-        states::two(Turn::Speak(1)),
-        0,
+        state,
+        first,
         1,
-        &own(),
+        &tapes,
         &[0; 200][..work],
         &mut out[..words],
     )
@@ -120,9 +120,16 @@ fn hear_of(words: usize, place: usize, word: u32, room: usize) -> Tried
 }
 
 fn rooms(rt: &impl Print) -> io::Result<()> {
-    line(rt, "speak of two, work of 199 words: ", speak_room(199, 66))?;
-    line(rt, "speak of two, out of 65 words: ", speak_room(200, 65))?;
-    line(rt, "speak of two, out of 66 words: ", speak_room(200, 66))
+    let opened = states::two(Turn::Speak(1));
+    for (what, work, words) in [
+        ("work of 199 words", 199, 66),
+        ("out of 65 words", 200, 65),
+        ("out of 66 words", 200, 66),
+    ] {
+        print!(rt; "speak of two, {what}")?;
+        line(rt, ": ", speak_of(opened, 0, [1, 1], work, words))?;
+    }
+    Ok(())
 }
 
 fn words(rt: &impl Print) -> io::Result<()> {

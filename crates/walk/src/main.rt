@@ -1,6 +1,6 @@
 // Walks one pair of boxes of width 3 through every refusal at each call that can give it, through cuts and drops at every
-// point of a job, through a whole job, and through its hears with 7, which is p, for 0, then the test dealer through its
-// refusals, and prints what was answered.
+// point of a job, through a whole job, and through its hears with 7, which is p, for 0; then through the same of starts of
+// several jobs; then the test dealer through its refusals, and prints what was answered.
 #![tactic(auto)]
 
 mod answers;
@@ -20,6 +20,7 @@ mod joined_outside;
 mod joined_starts;
 mod joined_turns;
 mod memory;
+mod one_by_one;
 mod order;
 mod outside;
 mod progress;
@@ -54,5 +55,6 @@ fn main(rt: HostRuntime) -> io::Result<()> {
     joined_cuts::lines(&rt)?;
     joined_drops::lines(&rt)?;
     joined_job::lines(&rt)?;
+    one_by_one::lines(&rt)?;
     dealing::lines(&rt)
 }

@@ -1,7 +1,6 @@
 -- `walk::calls::compared` meets its contract: a state is equal to itself by the test, field by field.
-use Rattle.std.proofs.Common.{refl, ap, arith, rules, ◌∙◌}
+use Rattle.std.proofs.Common.{refl, arith, rules, ◌∙◌}
 use Rattle.lists.proofs.Tests.{and_both}
-use Rattle.rules.specs.declared.state.State.{State}
 use Rattle.walk.proofs.Same.{equal_word, equal_list, fields}
 use Rattle.walk.proofs.calls.compared.Goals as goal
 

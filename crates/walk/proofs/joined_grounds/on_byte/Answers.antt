@@ -2,4 +2,4 @@
 use Rattle.walk.proofs.joined_grounds.on_byte.Goals as goal
 
 pub returns : goal.returns
-returns c = rw (c.joined-tapes.ensures.1, c.idle.ensures, c.one_byte.ensures) at c.start.ensures
+returns c = rw (c.joined-tapes.ensures.1, c.idle.ensures, c.one_byte-tally.ensures) at c.start.ensures

@@ -1,5 +1,5 @@
 -- `walk::tapes::join` meets its contract: each tape goes to its part.
-use Rattle.std.proofs.Common.{ℕ, ◌+◌, ◌*◌, ◌≡◌, ap, ◌∙◌, List, arith}
+use Rattle.std.proofs.Common.{ℕ, ◌+◌, ◌≡◌, ap, ◌∙◌, List, arith}
 use lib.ListN.{length, get_or}
 use lib.Seq.{sets}
 use Rattle.lists.specs.Joined.{chained}
