@@ -2,17 +2,16 @@
 use Prim.Native.Nat.{ℕ, ◌+◌, ◌≤◌}
 use mathlib.Core.Path.{◌≡◌, refl, ap, ◌∙◌}
 use mathlib.Core.List.{List, ◌++◌}
-use native.Mathlib.Nat.{mul-le-mul}
 use native.Mathlib.Omega.{arith}
 use lib.ListN.{length, get_or}
 use Rattle.board.proofs.Zeros.{zeros_append, zeros_most}
 use Rattle.lists.proofs.Tabulate.{tabulated}
 use Rattle.protocol.specs.Sizes.{round_for}
-use Rattle.protocol.proofs.Lengths.{words_most}
 use Rattle.rules.specs.declared.state.State.{State}
 use Rattle.rules.specs.declared.state.Turn.{Turn}
 use Rattle.rules.proofs.Batches.{count_most}
 use Rattle.rules.proofs.Ranges.{ranged}
+use Rattle.rules.proofs.Sizes.{round_most as joined_most}
 use Rattle.exchange.specs.Boxes.{Ready}
 use Rattle.shares.specs.Reading.{read_words, delivered}
 use Rattle.shares.proofs.Reading.{delivered_read}
@@ -45,4 +44,4 @@ arrived n spelling sent after message front is =
 -- no round has more words than there is room for
 pub round_most : {s : State} {first : ℕ} {turn : Turn} {tapes work : List ℕ} → Ready s first turn tapes work → (round : ℕ)
     → round_for s.n s.batch.count round ≤ 23112
-round_most {s} r round = mul-le-mul (count_most s.batch.count (ready_counted r)).1 (words_most s.n round (ranged s r.ranged).width)
+round_most {s} r round = joined_most s.n s.batch.count (ranged s r.ranged).width (count_most s.batch.count (ready_counted r)).1 round

@@ -1,14 +1,14 @@
 -- The zeros of all that is sent, round after round.
 use Rattle.std.proofs.Common.{◌≡◌, ℕ, zero, suc, ◌+◌, ◌*◌, ◌≤◌, true, List, [], length, length-append, refl, sym, ap, ap₂, ◌∙◌, arith}
 use native.Mathlib.Numerals.{add-one}
-use native.Mathlib.Nat.{mul-le-mul}
 use Rattle.lists.specs.Joined.{chained}
 use Rattle.lists.proofs.Joined.{length_chained}
 use Rattle.field.specs.Width.{listed}
 use Rattle.protocol.specs.Products.{Party}
 use Rattle.protocol.specs.Rounds.{last_round, round_words, message}
 use Rattle.protocol.specs.Exchange.{Both}
-use Rattle.protocol.proofs.Lengths.{words_most, message_length}
+use Rattle.protocol.proofs.Lengths.{message_length}
+use Rattle.rules.proofs.Sizes.{round_most}
 use Rattle.vectors.specs.declared.head.Form.{Form}
 use Rattle.vectors.specs.declared.job.Agreement.{Agreement}
 use Rattle.vectors.specs.declared.spelling.Spelling.{Spelling}
@@ -41,7 +41,7 @@ module _ (spelling : Spelling) (count : ℕ) (box1 box2 : ℕ → Party) (w : �
     joined_most box own w round =
         let long = length_chained count (round_words n round) (λ i. message (box i) (w i) round)
         (λ i less. message_length (box i) (w i) round ∙ ap (λ (k : ℕ). round_words k round) (own i)) in
-        omega (arith, long, mul-le-mul few (words_most n round width))
+        omega (arith, long, round_most n count width few round)
 
     sent_most : (k : ℕ) → length (messages_to count box1 box2 w k) ≤ k * 46224
     unfolding messages_to
