@@ -1,1 +1,5 @@
 pub mod Turns
+pub mod Lists
+pub mod Going
+pub mod Marks
+pub mod Runs
