@@ -1,8 +1,7 @@
 -- A job of several comparisons goes where all that both boxes are given is as it must be: neither is refused, and their numbers are marked.
 use Prim.Native.Nat.{ℕ, ◌+◌, ◌*◌, ◌<◌, ◌≤◌}
-use mathlib.Core.Path.{◌≡◌, refl, ap, ◌∙◌}
-use mathlib.Core.Bool.{Bool, true, false, cond}
-use mathlib.Core.List.{List}
+use mathlib.Core.Path.{◌≡◌, refl, ap}
+use mathlib.Core.Bool.{true, false}
 use native.Mathlib.Omega.{arith}
 use lib.ListN.{length}
 use Rattle.field.specs.Width.{listed, modulus}
@@ -10,12 +9,10 @@ use Rattle.shares.specs.Side.{is_side}
 use Rattle.tape.specs.Order.{in_order}
 use Rattle.protocol.specs.Sizes.{count_fits, tape_for, work_for}
 use Rattle.tally.specs.Tally.{tally_fits, tapes_of, is_fresh, late, first_marks}
-use Rattle.rules.specs.Answers.{started}
 use Rattle.rules.specs.Batches.{no_batch, x_in, y_in, tape_part}
 use Rattle.rules.specs.Calls.{Result, wake_rule, start_rule}
 use Rattle.rules.specs.Grounds.{wake_ground}
 use Rattle.rules.specs.Modes.{in_range, mode_of, is_asleep, in_job}
-use Rattle.rules.specs.declared.state.Phase.{Phase}
 use Rattle.rules.specs.declared.state.Phase.TheVariants.{Idle}
 use Rattle.rules.specs.declared.state.State.{State}
 use Rattle.rules.proofs.Goes.{start_goes}

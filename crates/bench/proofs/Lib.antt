@@ -3,3 +3,5 @@ pub mod Lists
 pub mod Going
 pub mod Marks
 pub mod Runs
+pub mod Deals
+pub mod Singly

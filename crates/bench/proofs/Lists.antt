@@ -1,16 +1,13 @@
 -- The list of a box's shares: how it is stored, and that all are below 7.
-use Prim.Native.Nat.{ℕ, ◌+◌, ◌*◌, ◌%◌, ◌<◌, ◌≤◌}
-use mathlib.Core.Path.{◌≡◌, ap, ap₂, ◌∙◌}
+use Prim.Native.Nat.{ℕ, ◌+◌, ◌*◌, ◌%◌}
+use mathlib.Core.Path.{◌≡◌, ap₂, ◌∙◌}
 use mathlib.Core.List.{List}
-use mathlib.Core.Logic.{by_cases}
-use native.Mathlib.Decide.{dec_lt}
-use native.Mathlib.Nat.{zero-add, mod-lt}
 use native.Mathlib.Omega.{arith}
-use lib.ListN.{length, get_or, get_or-eq_default, replicate, set}
+use lib.ListN.{replicate, set}
 use lib.Seq.{sets}
 use Rattle.lists.specs.Tabulate.{tabulate}
 use Rattle.lists.proofs.Sets.{sets_more, sets_whole}
-use Rattle.lists.proofs.Tabulate.{length_tabulate, get_d_tabulate}
+use Rattle.lists.proofs.Tabulate.{length_tabulate}
 use Rattle.bench.specs.Eight.{list}
 
 module _ (from step : ℕ) where

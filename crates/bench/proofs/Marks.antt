@@ -1,11 +1,11 @@
 -- A tally of eight tapes of which the first so many are spent: the next is fresh and not late.
-use Prim.Native.Nat.{ℕ, zero, suc, ◌+◌, ◌*◌, ◌<◌, ◌≤◌}
+use Prim.Native.Nat.{ℕ, zero, suc, ◌+◌, ◌<◌, ◌≤◌}
 use mathlib.Core.Path.{◌≡◌, refl, ap, ◌∙◌}
 use mathlib.Core.Bool.{true, false}
 use mathlib.Core.List.{List}
 use mathlib.Core.Logic.{inr}
 use native.Mathlib.Omega.{arith}
-use lib.ListN.{length, length-replicate, replicate, get_or}
+use lib.ListN.{length, replicate, get_or}
 use Rattle.std.proofs.lemmas.List.{get_or-replicate}
 use Rattle.tally.specs.Tally.{tally_fits, tapes_of, mark_at, is_fresh, late, marked, first_marks}
 use Rattle.tally.proofs.Late.{not_late}

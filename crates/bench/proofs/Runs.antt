@@ -22,7 +22,7 @@ use Rattle.refusals.proofs.Numbers.{numbered}
 use Rattle.rules.specs.Batches.{tape_part}
 use Rattle.rules.proofs.Sizes.{round_most, work_most}
 use Rattle.exchange.specs.Jobs.{Lent, lent, Ended, ended, job_of, DealtAt, right_bit}
-use Rattle.bench.specs.Eight.{Small, Right, AllDealt, Next, marks}
+use Rattle.bench.specs.Eight.{Small, Right, Next, marks}
 use Rattle.bench.proofs.Going.{Fit, JobGone, job_goes}
 use Rattle.bench.proofs.Marks.{marks_tapes, marks_fit, marks_fresh, marks_in_time, marks_more}
 

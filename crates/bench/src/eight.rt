@@ -23,7 +23,7 @@ const SHARES: usize = 2 * MOST_JOBS;
 // A tally of eight tapes.
 const TALLY: usize = tally::MARK_BYTES * MOST_JOBS;
 
-// Whether they are started together or each by itself.
+// Whether one start takes them all, or each has its own.
 #[derive(Clone, Copy, Debug, PartialEq, Eq)]
 pub enum Way {
     Joined,
@@ -64,8 +64,9 @@ fn list(from: u32, step: u32) -> [u32; SHARES]
 
 // The ordinary comparison of what both boxes' shares of comparison i add up to.
 #[tactic(auto, using(field::proofs::Widths::bounds))]
-fn ordinary(n: Width, count: usize, shares1: &[u32], shares2: &[u32], i: usize) -> u32
-    requires { (i < count) × Small count shares1.now × Small count shares2.now }
+fn ordinary(n: Width, shares1: &[u32], shares2: &[u32], i: usize) -> u32
+    requires shares1 { (2 * i + 1 < length shares1.now) × ((k : ℕ) → get_or shares1.now k 0 < 7) }
+    requires shares2 { (2 * i + 1 < length shares2.now) × ((k : ℕ) → get_or shares2.now k 0 < 7) }
     ensures { result ≡ right_bit n.bits shares1.now shares2.now i }
 {
     let p = n.modulus();
@@ -87,7 +88,7 @@ fn all_ordinary(
     ensures { result ≡ every count (λ i. eqb (get_or bits i 0) (right_bit n.bits shares1.now shares2.now i)) }
 {
     for i in 0..count {
-        if bits[i] != ordinary(n, count, shares1, shares2, i) {
+        if bits[i] != ordinary(n, shares1, shares2, i) {
             return false;
         }
     }
@@ -144,6 +145,7 @@ fn joined(
 }
 
 // The same one by one, each on the tallies that the one before it left.
+#[tactic(auto, using(crate::proofs::Singly::none_done))]
 fn singly(
     n: Width,
     shares1: &[u32],
@@ -168,8 +170,8 @@ fn singly(
             pair: PAIR,
             first: i,
             count: 1,
-            box1: &shares1[2 * at..2 * at + 2],
-            box2: &shares2[2 * at..2 * at + 2],
+            box1: &shares1[at * 2..at * 2 + 2],
+            box2: &shares2[at * 2..at * 2 + 2],
         };
         let t1 = &t1[at * words..at * words + words];
         let t2 = &t2[at * words..at * words + words];
@@ -201,9 +203,7 @@ fn turns(way: Way, n: Width, count: u32, t1: &[u32], t2: &[u32]) -> u32
     let mut memory = blank();
     let mut right = 0;
     for turn in 0..count {
-        if turn_right(way, n, turn, t1, t2, &mut memory) {
-            right += 1;
-        }
+        right += u32::from(turn_right(way, n, turn, t1, t2, &mut memory));
     }
     right
 }

@@ -1,7 +1,7 @@
 -- `bench::eight::is_right` meets its contract: what came of the job is looked at, and on dealt tapes that the tallies have next it goes.
-use Rattle.std.proofs.Common.{◌≡◌, ◌+◌, List, Ok, Err, length, rules, sym, ap, ◌∙◌}
+use Rattle.std.proofs.Common.{◌≡◌, Ok, Err, length, rules, sym, ap, ◌∙◌}
 use Rattle.exchange.specs.Jobs.{Ended, ended}
-use Rattle.bench.specs.Eight.{Next, marks}
+use Rattle.bench.specs.Eight.{Next}
 use Rattle.bench.proofs.Runs.{job, came_right, all_right, spent_next1, spent_next2, not_refused}
 use Rattle.bench.proofs.eight.is_right.Goals.{Start}
 use Rattle.bench.proofs.eight.is_right.Goals as goal
@@ -38,10 +38,9 @@ pub returns-in-Ok-clause-dealt : goal.returns-in-Ok-clause-dealt
 returns-in-Ok-clause-dealt c = λ d.
     let s = (goal.at.returns-in-Ok-clause-dealt c).Start in
     let r = c.requires in
-    let e : ended (Ok c.in-Ok.bits) c.less.new.k1 c.less.new.k2 ≡ done s = rw (r.0, r.1) at c.in-Ok.ensures.ended in
-    (
+    let e : ended (Ok c.in-Ok.bits) c.less.new.k1 c.less.new.k2 ≡ done s = rw (r.0, r.1) at c.in-Ok.ensures.ended in (
       c.all_ordinary.ensures
-      ∙ all_right _ _ _ _ _ _ _ _ _ _ _ _ _ d r.3 r.4 (work1 s) (work2 s) (out1 s) (out2 s) c.in-Ok.bits (rw (r.0, r.1) at c.in-Ok.ensures.right),
+          ∙ all_right _ _ _ _ _ _ _ _ _ _ _ _ _ d r.3 r.4 (work1 s) (work2 s) (out1 s) (out2 s) c.in-Ok.bits (rw (r.0, r.1) at c.in-Ok.ensures.right),
       spent_next1 _ _ _ _ _ _ _ _ _ _ _ _ _ d r.3 r.4 (work1 s) (work2 s) (out1 s) (out2 s) c.less.new.k1 (ap (λ (j : Ended). j.tally1) e),
       spent_next2 _ _ _ _ _ _ _ _ _ _ _ _ _ d r.3 r.4 (work1 s) (work2 s) (out1 s) (out2 s) c.less.new.k2 (ap (λ (j : Ended). j.tally2) e),
     )
