@@ -1,7 +1,10 @@
 -- How many turns pass a test.
-use Prim.Native.Nat.{ℕ, zero, suc, ◌+◌, ◌*◌}
+use Prim.Native.Nat.{ℕ, zero, suc, ◌+◌, ◌*◌, ◌<◌, ◌≤◌}
 use mathlib.Core.Path.{◌≡◌, refl, ap, ◌∙◌}
-use mathlib.Core.Bool.{Bool, true, false, cond}
+use mathlib.Core.Bool.{Bool, true, false, cond, false≢true}
+use mathlib.Core.Logic.{⊎_elim}
+use mir.Val.{bool_byte}
+use native.Mathlib.Nat.{eq-or-lt_of_le}
 use mathlib.Core.List.{List, ◌∷◌}
 use native.Mathlib.Omega.{arith}
 use lib.ListN.{length}
@@ -32,3 +35,20 @@ turns_right test count =
 -- where each comes out alike
 pub turns_alike : (found : Bool) (count : ℕ) → length (filter (λ _. found) (range_with_len 0 count)) ≡ count * indicator found
 turns_alike found count = turns_right (λ _. found) count ∙ sum_equal count (λ _. indicator found) (indicator found) (λ i less. refl)
+
+-- ---- counted up, turn by turn
+
+-- where as many were right as there were turns each was, and so it stays
+module _ (Good : ℕ → Type 0) (Dealt : Type 0) {right turn : ℕ} (few : right ≤ turn) (all : right ≡ turn → (t : ℕ) → t < turn → Good t)
+    (dealt : Dealt → right ≡ turn) where
+  pub turn_counted : (own : Bool) → (own ≡ true → Good turn) → (Dealt → own ≡ true)
+      → (right + bool_byte own ≤ turn + 1)
+      × (right + bool_byte own ≡ turn + 1 → (t : ℕ) → t < turn + 1 → Good t)
+      × (Dealt → right + bool_byte own ≡ turn + 1)
+  turn_counted true good sure = (
+    omega (arith, few),
+    λ e t less. ⊎_elim (λ same. rw same (good refl)) (λ before. all (omega (arith, e)) t before) (eq-or-lt_of_le (omega (arith, less))),
+    λ d. omega (arith, dealt d),
+  )
+  turn_counted false good sure =
+      (omega (arith, few), λ e. absurd (omega (arith, e, few)), λ d. absurd (false≢true (sure d)))

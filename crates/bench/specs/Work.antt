@@ -4,8 +4,7 @@ use Rattle.field.specs.Width.{modulus}
 use Rattle.tape.specs.Order.{in_order}
 use Rattle.encoding.specs.Matching.{indicator}
 use Rattle.exchange.specs.declared.Shares.{Shares}
-use Rattle.exchange.specs.Jobs.{Ended}
-use Rattle.exchange.specs.Memory.{fresh_job}
+use Rattle.exchange.specs.Memory.{Compared, fresh_job}
 
 -- the shares of a turn: the last four digits of its number, written to the base 7
 abbrev pub box1_at : ℕ → Shares
@@ -19,7 +18,7 @@ abbrev pub comparison : ℕ → Shares → Shares → ℕ
 comparison p box1 box2 = indicator (ltb ((box1.x + box2.x) % p) ((box1.y + box2.y) % p))
 
 -- a job of pair 1 and tape number 0, on one fresh tape of each box
-abbrev pub job_at : ℕ → List ℕ → List ℕ → ℕ → Ended
+abbrev pub job_at : ℕ → List ℕ → List ℕ → ℕ → Compared
 job_at n t1 t2 turn = fresh_job n 1 0 (box1_at turn) (box2_at turn) t1 t2
 
 -- no box refuses it, and its answer is the comparison

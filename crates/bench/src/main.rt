@@ -1,11 +1,13 @@
-// What a job needs, at every width. Given `jobs WIDTH COUNT` or `checks WIDTH COUNT` it does so many whole jobs, or checks of a job's tapes, for
-// tools/bench.
+// What a job needs, at every width. For tools/bench it does, given `jobs WIDTH COUNT`, so many whole jobs, given `checks`, so many checks of a job's tapes,
+// and given `joined` or `singly`, so many times eight comparisons, in one go or one by one.
 #![tactic(auto)]
 
 ghost use Rattle.std.specs.Prelude.{◌≤◌, length};
 
+mod eight;
 mod work;
 
+use eight::Way;
 use field::Width;
 use std::env::{Env, FillError};
 use std::io;
@@ -22,12 +24,42 @@ fn sizes(rt: &impl Print, n: Width) -> io::Result<()> {
     )
 }
 
-// Does the work so often, and says how many turns came out right.
-fn run(rt: &impl Print, work: Work, n: Width, count: u32) -> io::Result<()> {
-    let right = work::often(work, n, count);
-    match work {
-        Work::Jobs => println!(rt; "jobs: {right} of {count} right"),
-        Work::Checks => println!(rt; "checks: {right} of {count} in order"),
+// What is done often, as argument 1 names it.
+#[derive(Clone, Copy)]
+enum Task {
+    Jobs,
+    Checks,
+    Joined,
+    Singly,
+}
+
+// Does it so often, and says how many turns came out right.
+fn run(rt: &impl Print, task: Task, n: Width, count: u32) -> io::Result<()> {
+    match task {
+        Task::Jobs => {
+            println!(rt;
+                "jobs: {} of {count} right",
+                work::often(Work::Jobs, n, count)
+            )
+        }
+        Task::Checks => {
+            println!(rt;
+                "checks: {} of {count} in order",
+                work::often(Work::Checks, n, count)
+            )
+        }
+        Task::Joined => {
+            println!(rt;
+                "joined: {} of {count} right",
+                eight::often(Way::Joined, n, count)
+            )
+        }
+        Task::Singly => {
+            println!(rt;
+                "singly: {} of {count} right",
+                eight::often(Way::Singly, n, count)
+            )
+        }
     }
 }
 
@@ -46,7 +78,7 @@ fn number_at(rt: &impl Env, place: usize) -> Option<u32> {
 }
 
 // The width and the count are arguments 2 and 3.
-fn asked(rt: &(impl Env + Print), work: Work) -> io::Result<()> {
+fn asked(rt: &(impl Env + Print), task: Task) -> io::Result<()> {
     let Some(width) = number_at(rt, 2) else {
         return println!(rt; "bench: the width is no number");
     };
@@ -54,7 +86,7 @@ fn asked(rt: &(impl Env + Print), work: Work) -> io::Result<()> {
         return println!(rt; "bench: the count is no number");
     };
     match Width::new(width) {
-        Some(n) => run(rt, work, n, count),
+        Some(n) => run(rt, task, n, count),
         None => println!(rt; "bench: the width is not listed"),
     }
 }
@@ -70,9 +102,13 @@ fn main(rt: HostRuntime) -> io::Result<()> {
         return all_sizes(&rt);
     }
     match argument(&rt, 1, &mut word) {
-        b"jobs" => asked(&rt, Work::Jobs),
-        b"checks" => asked(&rt, Work::Checks),
-        _ => println!(&rt; "bench: jobs or checks, a width and a count, or nothing"),
+        b"jobs" => asked(&rt, Task::Jobs),
+        b"checks" => asked(&rt, Task::Checks),
+        b"joined" => asked(&rt, Task::Joined),
+        b"singly" => asked(&rt, Task::Singly),
+        _ => println!(&rt;
+            "bench: jobs, checks, joined or singly, a width and a count, or nothing"
+        ),
     }
 }
 

@@ -1,7 +1,8 @@
-// How many words each round opens, and how many a job works in.
+// How many words each round opens, of one job and of several, and how many a job works in.
 ghost use Rattle.std.specs.Prelude.{◌≡◌};
 ghost use Rattle.protocol.specs.Rounds.{round_words};
 ghost use Rattle.protocol.specs.Work.{work_length};
+ghost use Rattle.protocol.specs.Sizes.{round_for};
 
 use field::Width;
 
@@ -21,6 +22,14 @@ pub fn words_of(n: Width, round: u32) -> usize
         5 => 3,
         _ => 0,
     }
+}
+
+// How many words so many jobs open in a round, where they are taken together.
+#[tactic(auto, using(protocol::proofs::Lengths::words_most))]
+pub fn words_for(n: Width, count: u32, round: u32) -> usize
+    ensures { result ≡ round_for n.bits count round }
+{
+    count as usize * words_of(n, round)
 }
 
 // How many words of work a job may use, for any number n: a Width would ask more of callers.

@@ -133,14 +133,6 @@ pub fn both_hear(
     (heard1, heard2)
 }
 
-// How many words so many jobs send in a round.
-#[tactic(auto, using(protocol::proofs::Lengths::words_most))]
-pub fn words_for(n: Width, count: u32, round: u32) -> usize
-    ensures { result ≡ round_for n.bits count round }
-{
-    count as usize * compare::words::words_of(n, round)
-}
-
 // One round: both boxes speak, then both hear the other's words. The words of each stand at the front of its out.
 fn round(
     first: u32,
@@ -164,7 +156,7 @@ fn round(
         × (outcome (reply_of heard_or_finished result.1) s2.new w2.new
         ≡ heard_after s2.old t2.now w2.old round (joined_message s1.old t1.now w1.old round)) }
 {
-    let words = words_for(Width { bits: s1.n }, s1.batch.count, round);
+    let words = compare::words::words_for(Width { bits: s1.n }, s1.batch.count, round);
     both_speak(
         first, round, &mut *s1, &mut *s2, t1, t2, &*w1, &*w2, &mut *o1, &mut *o2,
     );
@@ -268,7 +260,7 @@ pub fn less(
 fn has_room(n: Width, count: u32, o1: &[u32], o2: &[u32]) -> bool
     ensures { result ≡ roomy n.bits count o1.now o2.now }
 {
-    let words = words_for(n, count, 1);
+    let words = compare::words::words_for(n, count, 1);
     words <= o1.len() && words <= o2.len()
 }
 

@@ -10,11 +10,9 @@ use native.Mathlib.Omega.{arith}
 use borrow.Author.Tests.{eqb-true}
 use lib.Dec.{eqb}
 use lib.ListN.{length, get_or}
-use Rattle.lists.proofs.Joined.{chained_same, within, length_part, part_chained}
+use Rattle.lists.proofs.Joined.{chained_same, within, length_part}
 use Rattle.field.specs.Width.{listed, modulus}
-use Rattle.tape.specs.Layout.{tape_length}
 use Rattle.tape.proofs.Keys.{order_key}
-use Rattle.tape.proofs.Orders.{readable}
 use Rattle.protocol.specs.Work.{work_length}
 use Rattle.protocol.specs.Rounds.{earlier_rounds, last_round, answer_share}
 use Rattle.protocol.specs.Sizes.{count_fits, work_for}
@@ -38,7 +36,7 @@ use Rattle.guarantees.specs.Premises.{TrueMessage, Keeps}
 use Rattle.guarantees.specs.Jobs.{party_at, sent_in, answer_in, sent_by, answers_by}
 use Rattle.guarantees.proofs.Outcomes.{cut_plain}
 use Rattle.guarantees.proofs.Deliveries.{ground_lent, rule_lent}
-use Rattle.guarantees.proofs.Jobs.{InOrder, holding, sent_is, holding_next, answer_is, holding_room, sent_part}
+use Rattle.guarantees.proofs.Jobs.{InOrder, dealt_part, holding, sent_is, holding_next, answer_is, holding_room, sent_part}
 use Rattle.rules.proofs.Batches.{each_at, each_same}
 use Rattle.rules.proofs.Spoken.{spoken_front, joined_after_length, after_part}
 use Rattle.rules.proofs.Decide.{decide}
@@ -200,15 +198,7 @@ module _ (g : Setting) (book : Box → Key → Lending) (Known : Box → Key →
     y_fits : (i : ℕ) → i < m.state.batch.count → y_in (book b (own_key m.state)) i < modulus m.state.n
     party_is : (i : ℕ) → i < m.state.batch.count → party_of m.state tapes i ≡ party_at g.tapes book b (own_key m.state) i
 
-  -- the dealt tape of each of its jobs is where it was joined
-  part_dealt : (pair : ℕ) (orders : InOrder g pair) (lent : Lent) (b : Box) (first count n : ℕ) → listed n ≡ true → lent ≡ dealt b first count n
-      → (i : ℕ) → i < count → tape_part n (tape_words g lent) i ≡ g.tapes b (first + i) n
-  part_dealt pair orders lent b first count n l named i less =
-      ap (λ (words : List ℕ). tape_part n words i) (ap (tape_words g) named ∙ rw l refl)
-      ∙ part_chained count (tape_length n) (λ k. g.tapes b (first + k) n) i less
-      (λ k before. (readable n pair (side_of b) (first + k) (g.tapes b (first + k) n) (orders b (first + k) n l)).long)
-
-  -- such a tape is in order for no side but its box's
+  -- a dealt tape is in order for no side but its box's
   going : (pair : ℕ) (orders : InOrder g pair) (b : Box) (m : Memory) (first : ℕ) (turn : Turn) (lent : Lent) → Holds b m
       → TurnPassed m.state first turn (tape_words g lent) → lent ≡ dealt b first m.state.batch.count m.state.n
       → Going b m turn (tape_words g lent)
@@ -232,7 +222,9 @@ module _ (g : Setting) (book : Box → Key → Lending) (Known : Box → Key →
       inside = subst (Phased b s m.work) p.due.job (awake_phase b m h p.awake)
 
       tape : (i : ℕ) → i < s.batch.count → tape_part s.n (tape_words g lent) i ≡ g.tapes b (s.batch.first + i) s.n
-      tape = part_dealt pair orders lent b s.batch.first s.batch.count s.n l (named ∙ ap (λ (k : ℕ). dealt b k s.batch.count s.n) p.due.first_is)
+      tape i less =
+          ap (λ (words : List ℕ). tape_part s.n words i) (ap (tape_words g) (named ∙ ap (λ (k : ℕ). dealt b k s.batch.count s.n) p.due.first_is) ∙ rw l refl)
+          ∙ dealt_part g pair orders b s.batch.first s.n l s.batch.count i less
 
       side : (i : ℕ) → i < s.batch.count → s.side ≡ side_of b
       side i less =

@@ -1,18 +1,21 @@
 -- A job's exchanges: what the two boxes hold after each round in each of the jobs that its start took, and the laws that a run goes by.
-use Prim.Native.Nat.{ℕ, zero, suc, ◌<◌, ◌≤◌}
+use Prim.Native.Nat.{ℕ, zero, suc, ◌+◌, ◌<◌, ◌≤◌}
 use mathlib.Core.Path.{◌≡◌, refl, sym}
 use mathlib.Core.Bool.{true}
 use mathlib.Core.List.{List}
 use native.Mathlib.Nat.{le_of_eq}
 use lib.ListN.{length, length-replicate}
+use Rattle.lists.specs.Joined.{chained}
 use Rattle.lists.proofs.Joined.{part_chained}
 use Rattle.field.specs.Width.{listed}
+use Rattle.tape.specs.Layout.{tape_length}
 use Rattle.tape.specs.Order.{in_order}
+use Rattle.tape.proofs.Orders.{readable}
 use Rattle.protocol.specs.Work.{work_length}
 use Rattle.protocol.specs.Rounds.{earlier_rounds, last_round, round_words, message, after_hearing, answer_share}
 use Rattle.protocol.specs.Exchange.{Both, exchanged, sent_own, sent_others, answer_own, answer_others}
 use Rattle.protocol.proofs.Lengths.{message_length, after_length}
-use Rattle.rules.specs.Batches.{words_part}
+use Rattle.rules.specs.Batches.{tape_part, words_part}
 use Rattle.guarantees.specs.Boxes.{Box, box1, box2, side_of, other_box}
 use Rattle.guarantees.specs.Keys.{Key}
 use Rattle.guarantees.specs.Run.{Lending, Setting}
@@ -21,6 +24,17 @@ use Rattle.guarantees.specs.Jobs.{blank, party_at, sent_in, answer_in, sent_by}
 -- the dealt tapes are in order
 abbrev pub InOrder : Setting → ℕ → Type 0
 InOrder g pair = (c : Box) (number n : ℕ) → listed n ≡ true → in_order n pair (side_of c) number (g.tapes c number n) ≡ true
+
+-- so each is as long as a tape, and each part of several that are lent joined is one of them
+module _ (g : Setting) (pair : ℕ) (orders : InOrder g pair) (b : Box) (first n : ℕ) (l : listed n ≡ true) where
+  abbrev dealt_tape : ℕ → List ℕ
+  dealt_tape i = g.tapes b (first + i) n
+
+  pub dealt_long : (i : ℕ) → length (dealt_tape i) ≡ tape_length n
+  dealt_long i = (readable n pair (side_of b) (first + i) (dealt_tape i) (orders b (first + i) n l)).long
+
+  pub dealt_part : (count i : ℕ) → i < count → tape_part n (chained count dealt_tape) i ≡ dealt_tape i
+  dealt_part count i less = part_chained count (tape_length n) dealt_tape i less (λ k before. dealt_long k)
 
 -- tapes by box, number and width, and the shares that opened each job
 module _ (tapes : Box → ℕ → ℕ → List ℕ) (book : Box → Key → Lending) where

@@ -2,7 +2,7 @@
 -- is the same in both runs. The exchanges of a key that the box opened look the same. Of a key that only the other box opened no more was spoken
 -- than round 1, which shows nothing of the box.
 use Prim.Native.Nat.{ℕ, zero, suc, ◌+◌, ◌<◌}
-use mathlib.Core.Path.{◌≡◌, refl, ap, ap₂, subst, ◌∙◌}
+use mathlib.Core.Path.{◌≡◌, refl, ap, subst, ◌∙◌}
 use mathlib.Core.Bool.{true}
 use mathlib.Core.List.{List, [], ◌∷◌}
 use mathlib.Core.Logic.{◌⊎◌, inl, inr}
@@ -64,6 +64,13 @@ moves_at : (c : Common) (b : Box) (log : List Event) (shares shares' : ℕ → L
     (λ tape. shifted v v' tape (c.others number n)) (λ tape. shifted v' v tape (c.others number n))
 moves_at c b log shares shares' number n l =
     moves n c.pair number (side_of b) _ _ (c.others number n) (search reduced) _ _ _ _ (search reduced) (search reduced)
+
+-- the way back undoes it. Said of the two shares by name, so that a wrong way back is refused without a look into the shift
+undone_at : (c : Common) (b : Box) (log : List Event) (shares shares' : ℕ → Lending) (number n : ℕ) (tape : List ℕ) (v v' : Shares)
+    → tape_shares c b log shares number n ≡ v → tape_shares c b log shares' number n ≡ v'
+    → shifted v' v (shifted v v' tape (c.others number n)) (c.others number n) ≡ tape
+    → back_by c b log shares shares' number n (there_by c b log shares shares' number n tape) ≡ tape
+undone_at c b log shares shares' number n tape v v' is is' back = rw (is, is') back
 
 -- ---- both runs at first
 
@@ -227,7 +234,9 @@ module _ (c : Common) (b : Box) where
   hidden shares shares' log places =
       record {
         matching = λ number n tape m. (moves_at c b log shares shares' number n (matching_listed c b number n tape m)).dealt tape m;
-        undone = λ number n tape m. (moves_at c b log shares shares' number n (matching_listed c b number n tape m)).undone tape m;
+        undone = λ number n tape m.
+            undone_at c b log shares shares' number n tape _ _ refl refl
+            ((moves_at c b log shares shares' number n (matching_listed c b number n tape m)).undone tape m);
         meets = λ own v w w' p. meets_too shares shares' log own v w p (places own v w p) w';
         alike = λ own v w w' p. looks_same shares shares' log own v w p (places own v w p) w';
       }
@@ -281,13 +290,11 @@ module _ (c : Common) (b : Box) (shares shares' : ℕ → Lending) where
 
   same_move : (e e' : Witness c b shares shares') (number n : ℕ) (tape : List ℕ)
       → there_by c b (log_of e) shares shares' number n tape ≡ there_by c b (log_of e') shares shares' number n tape
-  same_move e e' number n tape =
-      ap₂ (λ (v v' : Shares). shifted v v' tape (c.others number n)) (same_shares e e' shares number n) (same_shares e e' shares' number n)
+  same_move e e' number n tape = rw (same_shares e e' shares number n, same_shares e e' shares' number n) refl
 
   same_move_back : (e e' : Witness c b shares shares') (number n : ℕ) (tape : List ℕ)
       → back_by c b (log_of e) shares shares' number n tape ≡ back_by c b (log_of e') shares shares' number n tape
-  same_move_back e e' number n tape =
-      ap₂ (λ (v v' : Shares). shifted v v' tape (c.others number n)) (same_shares e e' shares' number n) (same_shares e e' shares number n)
+  same_move_back e e' number n tape = rw (same_shares e e' shares number n, same_shares e e' shares' number n) refl
 
 pub secrecy : Secrecy
 unfolding paired

@@ -14,13 +14,12 @@ use Rattle.lists.specs.Every.{every}
 use Rattle.lists.specs.Joined.{chained, part}
 use Rattle.lists.proofs.Every.{every_at}
 use Rattle.lists.proofs.Tests.{or_cases}
-use Rattle.lists.proofs.Joined.{length_chained, part_chained}
+use Rattle.lists.proofs.Joined.{length_chained}
 use Rattle.field.specs.Width.{widths, listed}
 use Rattle.field.proofs.Widths.{all, each_listed}
 use Rattle.tape.specs.Layout.{tape_length}
 use Rattle.tape.specs.Order.{in_order}
 use Rattle.tape.proofs.Keys.{order_alike}
-use Rattle.tape.proofs.Orders.{readable}
 use Rattle.protocol.specs.Sizes.{most_jobs, count_fits, tape_for}
 use Rattle.rules.specs.Batches.{tape_part}
 use Rattle.rules.specs.declared.state.State.{State}
@@ -28,7 +27,7 @@ use Rattle.rules.proofs.Batches.{count_most}
 use Rattle.guarantees.specs.Boxes.{side_of}
 use Rattle.guarantees.specs.Entries.{Lent, dealt, loose}
 use Rattle.guarantees.specs.Run.{Setting, tape_words}
-use Rattle.guarantees.proofs.Jobs.{InOrder}
+use Rattle.guarantees.proofs.Jobs.{InOrder, dealt_long, dealt_part}
 use Rattle.guarantees.proofs.Refusals.{TapesAlike}
 
 -- ---- lengths
@@ -82,11 +81,8 @@ module _ (g g' : Setting) (pair : ℕ) (orders : InOrder g pair) (orders' : InOr
       go true q =
           record { long = long g orders ∙ sym (long g' orders'); ordered = λ counted due i less. same counted due i less (listed s.n) refl }
         where
-          each : (h : Setting) → InOrder h pair → (j : ℕ) → length (tape h j) ≡ tape_length width
-          each h dealt_in_order j = (readable width pair (side_of c) (from + j) (tape h j) (dealt_in_order c (from + j) width q)).long
-
           long : (h : Setting) → InOrder h pair → length (chained k (tape h)) ≡ k * tape_length width
-          long h dealt_in_order = length_chained k (tape_length width) (tape h) (λ j l. each h dealt_in_order j)
+          long h dealt_in_order = length_chained k (tape_length width) (tape h) (λ j l. dealt_long h pair dealt_in_order c from width q j)
 
           same : count_fits count ≡ true → length (chained k (tape g)) ≡ tape_for s.n count → (i : ℕ) → i < count → (t : Bool) → listed s.n ≡ t
               → in_order s.n s.pair s.side (first + i) (tape_part s.n (chained k (tape g)) i)
@@ -115,4 +111,4 @@ module _ (g g' : Setting) (pair : ℕ) (orders : InOrder g pair) (orders' : InOr
               own : (h : Setting) → InOrder h pair → tape_part s.n (chained k (tape h)) i ≡ tape h i
               own h dealt_in_order =
                   ap (λ (n : ℕ). part (tape_length n) (chained k (tape h)) i) (sym width_is)
-                  ∙ part_chained k (tape_length width) (tape h) i (rw count_is less) (λ j l. each h dealt_in_order j)
+                  ∙ dealt_part h pair dealt_in_order c from width q k i (rw count_is less)

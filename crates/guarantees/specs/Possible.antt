@@ -126,18 +126,23 @@ pub record Case : Type 0 where
 abbrev pub two_answers : ℕ → ℕ → List ℕ
 two_answers v v' = v ∷ v' ∷ replicate 6 0
 
+-- box 2's answers are 0 in all of the lists
+abbrev pub case_of : List Entry → Counts → Bool → (opened : ℕ) → Key → List ℕ → Case
+case_of entries counts respells opened key answers1 =
+    record {
+      entries = entries;
+      counts = counts;
+      respells = respells;
+      opened = opened;
+      key = key;
+      answers1 = answers1;
+      answers2 = two_answers 0 0;
+    }
+
 -- a whole job, with the zeros on the line as they were spoken, or spelled p
 abbrev pub one_job : Bool → Case
 one_job respells =
-    record {
-      entries = wakes box1 ∷ wakes box2 ∷ job_from 2 0 1;
-      counts = λ place. 1;
-      respells = respells;
-      opened = 2;
-      key = job_key 0 1 3;
-      answers1 = two_answers 1 0;
-      answers2 = two_answers 0 0;
-    }
+    case_of (wakes box1 ∷ wakes box2 ∷ job_from 2 0 1) (λ place. 1) respells 2 (job_key 0 1 3) (two_answers 1 0)
 
 unfoldable pub whole : Case
 whole = one_job false
@@ -148,41 +153,18 @@ respelled = one_job true
 -- at first the power fails in box 1's mark; the later job is on that very tape
 unfoldable pub again : Case
 again =
-    record {
-      entries = wakes box1 ∷ wakes box2 ∷ cut_unmarked 1 0 ∷ wakes box1 ∷ job_from 4 0 1;
-      counts = λ place. 1;
-      respells = false;
-      opened = 4;
-      key = job_key 0 1 3;
-      answers1 = two_answers 1 0;
-      answers2 = two_answers 0 0;
-    }
+    case_of (wakes box1 ∷ wakes box2 ∷ cut_unmarked 1 0 ∷ wakes box1 ∷ job_from 4 0 1) (λ place. 1) false 4
+    (job_key 0 1 3) (two_answers 1 0)
 
 -- one start takes two jobs
 unfoldable pub joined : Case
-joined =
-    record {
-      entries = wakes box1 ∷ wakes box2 ∷ job_from 2 0 2;
-      counts = λ place. 2;
-      respells = false;
-      opened = 2;
-      key = job_key 0 2 3;
-      answers1 = two_answers 0 1;
-      answers2 = two_answers 0 0;
-    }
+joined = case_of (wakes box1 ∷ wakes box2 ∷ job_from 2 0 2) (λ place. 2) false 2 (job_key 0 2 3) (two_answers 0 1)
 
 -- at first the power fails between the two marks of box 1's start of two jobs; the later job is on the second tape alone
 unfoldable pub between : Case
 between =
-    record {
-      entries = wakes box1 ∷ wakes box2 ∷ cut_unmarked 2 1 ∷ wakes box1 ∷ job_from 4 1 1;
-      counts = λ place. cond (eqb place 2) 2 1;
-      respells = false;
-      opened = 4;
-      key = job_key 1 1 3;
-      answers1 = two_answers 1 0;
-      answers2 = two_answers 0 0;
-    }
+    case_of (wakes box1 ∷ wakes box2 ∷ cut_unmarked 2 1 ∷ wakes box1 ∷ job_from 4 1 1) (λ place. cond (eqb place 2) 2 1) false 4
+    (job_key 1 1 3) (two_answers 1 0)
 
 -- box b being the one to stay hidden
 abbrev pub common_in : Case → Box → Common

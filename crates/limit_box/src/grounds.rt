@@ -189,8 +189,8 @@ fn message_fits(n: Width, count: u32, turn: Turn, length: usize) -> bool
     ensures { result ≡ message_fits n.bits count turn length }
 {
     match turn {
-        Turn::Speak(round) => crate::joined::words_for(n, count, round) <= length,
-        Turn::Hear(round) => length == crate::joined::words_for(n, count, round),
+        Turn::Speak(round) => compare::words::words_for(n, count, round) <= length,
+        Turn::Hear(round) => length == compare::words::words_for(n, count, round),
     }
 }
 

@@ -13,14 +13,6 @@ use compare::words::LAST_ROUND;
 use field::Width;
 use rules::state::{Batch, MOST_JOBS, State};
 
-// How many words so many jobs send in a round.
-#[tactic(auto, using(protocol::proofs::Lengths::words_most))]
-pub fn words_for(n: Width, count: u32, round: u32) -> usize
-    ensures { result ≡ round_for n.bits count round }
-{
-    count as usize * compare::words::words_of(n, round)
-}
-
 // What the state holds of the jobs that a start takes.
 pub fn batch_of(first: u32, count: u32, shares: &[u32]) -> Batch
     requires { length shares.now ≡ 2 * count }

@@ -83,7 +83,7 @@ pub fn speak(
 {
     let joined = checks::speak_check(&*state, first, round, tapes, work, &*out)?;
     joined.speak(round, work, out);
-    let words = joined::words_for(joined.width(), joined.state.batch.count, round);
+    let words = compare::words::words_for(joined.width(), joined.state.batch.count, round);
     state.phase = Phase::Job(Turn::Hear(round));
     Ok(words)
 }

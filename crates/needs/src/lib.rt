@@ -18,12 +18,12 @@ pub struct Needs {
 }
 
 // A round's words, times the count.
-#[tactic(auto, using(rules::proofs::Sizes::bounds, protocol::proofs::Lengths::words_most))]
+#[tactic(auto, using(rules::proofs::Sizes::bounds))]
 fn round_of(n: Width, count: u32, round: u32) -> u32
     requires { count ≤ most_jobs }
     ensures { result ≡ round_for n.bits count round }
 {
-    count * compare::words::words_of(n, round) as u32
+    compare::words::words_for(n, count, round) as u32
 }
 
 // The figures of so many jobs.

@@ -5,11 +5,10 @@ use mathlib.Core.List.{List, []}
 use mathlib.Core.Bool.{true}
 use native.Mathlib.Nat.{mul-le-mul_right}
 use native.Mathlib.Omega.{arith}
-use lib.ListN.{length, length-append, take}
-use lib.Seq.{sets, length-sets, take_at}
+use lib.ListN.{length, length-append}
+use lib.Seq.{length-sets}
 use Rattle.lists.specs.Tabulate.{tabulate, sum}
 use Rattle.lists.proofs.Tabulate.{length_tabulate}
-use Rattle.lists.proofs.Sets.{sets_front}
 use Rattle.field.specs.Width.{listed}
 use Rattle.field.proofs.Widths.{bounds}
 use Rattle.tape.proofs.Sizes.{small}
@@ -70,11 +69,3 @@ unfolding after_hearing
 after_length q work incoming round =
     at_each (λ (l : List ℕ). length l ≡ length work) (hearing_table q work incoming) work
     (simp length-sets, (simp length-sets, (simp length-sets, (simp length-sets, (refl, tt))))) refl round
-
--- the front of out, where a message was put, is the message
-pub message_front : (q : Party) (work out : List ℕ) (round : ℕ) → round_words q.n round ≤ length out
-    → take (round_words q.n round) (sets out 0 (message q work round)) ≡ message q work round
-message_front q work out round room =
-    let long = message_length q work round in
-    ap (λ (l : List ℕ). take (round_words q.n round) l) (sets_front out (message q work round) (omega (arith, long)))
-    ∙ take_at (message q work round) _ (round_words q.n round) long

@@ -1,6 +1,6 @@
 -- What the calls of a start's jobs give each one of them: its part of work, its words, its answer share, as the rounds have them for that job alone.
 use Prim.Native.Nat.{ℕ, zero, suc, ◌<◌, ◌≤◌}
-use mathlib.Core.Path.{◌≡◌, refl, ap, ◌∙◌}
+use mathlib.Core.Path.{◌≡◌, refl, ap, ap₂, ◌∙◌}
 use mathlib.Core.Bool.{true}
 use mathlib.Core.List.{List}
 use native.Mathlib.Omega.{arith}
@@ -88,7 +88,8 @@ module _ (l : Left) (j : Lent) where
         let due = in_jobs l j (Speak (suc r)) in
         rw (run_is l j c r less, spoken_is l j r (c.speak r less))
         (spoken_front due j.tapes (work_after l j r) (j.out (suc r)) (suc r) ((clear_fits l j c).roomy r less)
-        ∙ chained_same j.count _ _ (λ i within. rw (same_party (Speak (suc r)) i within, work_is r i within) refl))
+        ∙ chained_same j.count _ _
+        (λ i within. ap₂ (λ (q : Party) (work : List ℕ). message q work (suc r)) (same_party (Speak (suc r)) i within) (work_is r i within)))
 
     answers_is : answers l j ≡ answer_shares (in_jobs l j (Hear last_round)) j.tapes (work_after l j earlier_rounds) (j.incoming last_round)
     answers_is = ap shares_in (reply_is l j c)

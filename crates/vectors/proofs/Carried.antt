@@ -1,22 +1,24 @@
 -- A message on its way to the other box, its zeros respelled or not.
 use Prim.Native.Nat.{ℕ, ◌+◌, ◌≤◌}
 use mathlib.Core.Path.{◌≡◌, refl, ap, ◌∙◌}
-use mathlib.Core.Bool.{true}
 use mathlib.Core.List.{List, ◌++◌}
 use native.Mathlib.Omega.{arith}
 use lib.ListN.{length, get_or}
 use Rattle.board.proofs.Zeros.{zeros_append, zeros_most}
 use Rattle.lists.proofs.Tabulate.{tabulated}
-use Rattle.protocol.specs.Rounds.{round_words}
-use Rattle.protocol.proofs.Lengths.{words_most}
-use Rattle.rules.specs.Modes.{in_range}
+use Rattle.protocol.specs.Sizes.{round_for}
 use Rattle.rules.specs.declared.state.State.{State}
+use Rattle.rules.specs.declared.state.Turn.{Turn}
+use Rattle.rules.proofs.Batches.{count_most}
 use Rattle.rules.proofs.Ranges.{ranged}
+use Rattle.rules.proofs.Sizes.{round_most as joined_most}
+use Rattle.exchange.specs.Boxes.{Ready}
 use Rattle.shares.specs.Reading.{read_words, delivered}
 use Rattle.shares.proofs.Reading.{delivered_read}
 use Rattle.vectors.specs.declared.spelling.Spelling.{Spelling}
 use Rattle.vectors.specs.declared.spelling.Spelling.TheVariants.{AsSent, Respelled}
 use Rattle.vectors.specs.Sent.{respells, respelled_in}
+use Rattle.vectors.proofs.Jobs.{ready_counted}
 
 -- without a board it stays
 pub carried_as_is : (n : ℕ) (spelling : Spelling) (words : List ℕ) → spelling ≡ AsSent → words ≡ delivered n (λ i. respells spelling) words
@@ -40,5 +42,6 @@ arrived n spelling sent after message front is =
     ap (read_words n) is ∙ delivered_read n (λ i. respells spelling) sent ∙ ap (read_words n) front
 
 -- no round has more words than there is room for
-pub room : (s : State) (round : ℕ) (out : List ℕ) → in_range s ≡ true → length out ≡ 2889 → round_words s.n round ≤ length out
-room s round out range long = omega (arith, words_most s.n round (ranged s range).width, long)
+pub round_most : {s : State} {first : ℕ} {turn : Turn} {tapes work : List ℕ} → Ready s first turn tapes work → (round : ℕ)
+    → round_for s.n s.batch.count round ≤ 23112
+round_most {s} r round = joined_most s.n s.batch.count (ranged s r.ranged).width (count_most s.batch.count (ready_counted r)).1 round

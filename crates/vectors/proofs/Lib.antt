@@ -1,8 +1,10 @@
 pub mod Examples
 pub mod Readings
+pub mod Heads
 pub mod Deals
-pub mod Carried
 pub mod Transcripts
+pub mod Openings
 pub mod Jobs
+pub mod Carried
 pub mod Sent
 pub mod Rounds

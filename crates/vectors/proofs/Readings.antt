@@ -5,8 +5,8 @@ use native.Mathlib.Numerals.{add-one}
 use mathlib.Core.Bool.{false≢true}
 use borrow.Author.Tests.{eq-eqb, ne_eqb}
 use lib.ListN.{set, drop_of_length-le}
-use Rattle.std.proofs.lemmas.List.{set-get_or}
-use lib.Seq.{sets, drop-cons}
+use Rattle.std.proofs.lemmas.List.{set-get_or, length-take-le}
+use lib.Seq.{sets, length-sets, drop-cons}
 use Rattle.std.specs.Char.{is_ascii_digit}
 use Rattle.std.specs.List.{position, position_or_len}
 use Rattle.std.specs.Option.{is_some, option_and_then, option_map, option_map_or, unwrap_or}
@@ -125,6 +125,18 @@ filled text into into' rest is here =
     let vs = numbers_from (length into) text in
     let long : length vs ≡ length into = read_all (length into) text (sym (ap is_some is)) in
     here ∙ sets_front into vs (omega arith) ∙ ap (λ (l : List ℕ). vs ++ l) (drop_of_length-le into {i = length vs} (omega arith)) ∙ append-nil vs
+
+-- filled at its front, it holds them there
+pub filled_front : (text room into' rest : List ℕ) (n : ℕ) → n ≤ length room → Some rest ≡ read_to (length (take n room)) text
+    → into' ≡ sets (take n room) 0 (numbers_from (length (take n room)) text) → into' ++ drop n room ≡ sets room 0 (numbers_from n text)
+filled_front text room into' rest n fits is here =
+    let vs = numbers_from n text in
+    let count : length (take n room) ≡ n = length-take-le n room fits in
+    let front : into' ≡ vs = filled text (take n room) into' rest is here ∙ ap (λ (k : ℕ). numbers_from k text) count in
+    let long : length (numbers_from n text) ≡ n = ap length (sym front) ∙ ap length here ∙ length-sets (take n room) 0 (numbers_from (length (take n room)) text) ∙ count in
+    ap (λ (l : List ℕ). l ++ drop n room) front
+    ∙ ap (λ (k : ℕ). vs ++ drop k room) (sym long)
+    ∙ sym (sets_front room vs (omega (arith, long, fits)))
 
 -- ---- words after words
 

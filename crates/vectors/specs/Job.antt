@@ -1,7 +1,6 @@
 -- What a text must say of a job: its numbers are the job's, then all that both boxes send, then their answer shares.
-use Rattle.std.specs.Prelude.{ℕ, zero, suc, ◌+◌, ◌*◌, ◌/◌, ◌%◌, Bool, ◌&&◌, cond, List, [], ◌∷◌, ◌++◌, eqb, get_or, replicate, take, Option, None, Result, Ok, Err}
-use Rattle.std.specs.Option.{is_some, option_and_then, unwrap_or}
-use Rattle.std.proofs.lemmas.List.Edits.{sets}
+use Rattle.std.specs.Prelude.{ℕ, zero, suc, ◌+◌, ◌*◌, ◌/◌, ◌%◌, Bool, ◌&&◌, List, [], ◌∷◌, ◌++◌, eqb, replicate, take, Option, None, Result, Ok, Err}
+use Rattle.std.specs.Option.{is_some, unwrap_or}
 use Rattle.lists.specs.Joined.{chained}
 use Rattle.lists.specs.Tabulate.{tabulate}
 use Rattle.field.specs.Width.{listed}
@@ -9,16 +8,16 @@ use Rattle.refusals.specs.declared.Refusal.{Refusal}
 use Rattle.protocol.specs.Products.{Party, party}
 use Rattle.protocol.specs.Rounds.{last_round, message}
 use Rattle.protocol.specs.Exchange.{Both, exchanged, answer_own, answer_others}
-use Rattle.protocol.specs.Sizes.{count_fits, tape_for}
+use Rattle.protocol.specs.Sizes.{tape_for}
 use Rattle.tally.specs.Tally.{longest_tally}
 use Rattle.rules.specs.Batches.{x_in, y_in, tape_part, work_part}
 use Rattle.exchange.specs.Opening.{first_state, refusal_of, begun}
 use Rattle.exchange.specs.Boxes.{works}
 use Rattle.exchange.specs.Rooms.{blank_works}
-use Rattle.vectors.specs.declared.job.Form.{Form}
-use Rattle.vectors.specs.declared.job.Form.TheVariants.{Single, Joined}
-use Rattle.vectors.specs.declared.job.Job.{Job}
+use Rattle.vectors.specs.declared.head.Form.{Form}
+use Rattle.vectors.specs.declared.head.Job.{Job}
 use Rattle.vectors.specs.Numbers.{numbers_from, read_to, rest_after, spelled}
+use Rattle.vectors.specs.Head.{job_in, past_job}
 
 -- ---- what the boxes of a job say, by what each has of every comparison, and by both works of every one
 
@@ -27,11 +26,15 @@ abbrev pub messages : ℕ → (ℕ → Party) → (ℕ → Party) → (ℕ → B
 messages count box1 box2 w round =
     chained count (λ i. message (box1 i) (w i).own round) ++ chained count (λ i. message (box2 i) (w i).others round)
 
--- those of the first so many rounds
+-- both works of comparison i after so many rounds
+abbrev pub held : (ℕ → Party) → (ℕ → Party) → (ℕ → Both) → ℕ → ℕ → Both
+held box1 box2 w r i = exchanged (box1 i) (box2 i) (w i) r
+
+-- the messages of the first so many rounds
 unfoldable pub messages_to : ℕ → (ℕ → Party) → (ℕ → Party) → (ℕ → Both) → ℕ → List ℕ
 messages_to count box1 box2 w zero = []
 messages_to count box1 box2 w (suc r) =
-    messages_to count box1 box2 w r ++ messages count box1 box2 (λ i. exchanged (box1 i) (box2 i) (w i) r) (suc r)
+    messages_to count box1 box2 w r ++ messages count box1 box2 (held box1 box2 w r) (suc r)
 
 -- box 1's answer shares, then box 2's
 abbrev pub answers : ℕ → (ℕ → Party) → (ℕ → Party) → (ℕ → Both) → List ℕ
@@ -87,42 +90,6 @@ tapes_told text job =
     && job_told (rest_after words rest) job (numbers_from words text) (numbers_from words rest)
 
 -- ---- a text
-
--- how many numbers stand before the shares: n, pair, first tape number and, of several comparisons, the count
-abbrev pub head_words : Form → ℕ
-head_words Single = 3
-head_words Joined = 4
-
--- these numbers; of a single comparison the count is 1
-abbrev pub head_in : Form → List ℕ → List ℕ
-head_in form text = sets (0 ∷ 0 ∷ 0 ∷ 1 ∷ []) 0 (numbers_from (head_words form) text)
-
--- two numbers for each comparison, and 0 past them
-abbrev pub list_in : ℕ → List ℕ → List ℕ
-list_in count text = sets (replicate 16 0) 0 (numbers_from (2 * count) text)
-
--- the job at a text's front: box 1's shares x and y of each comparison, then box 2's
-abbrev pub job_in : Form → List ℕ → Job
-job_in form text =
-    let h = head_in form text in
-    let count = get_or h 3 0 in
-    let rest = rest_after (head_words form) text in
-    record {
-      n = get_or h 0 0;
-      pair = get_or h 1 0;
-      first = get_or h 2 0;
-      count = count;
-      box1 = list_in count rest;
-      box2 = list_in count (rest_after (2 * count) rest);
-    }
-
--- the text after it, where all these numbers are there and the count is 1 to 8
-unfoldable pub past_job : Form → List ℕ → Option (List ℕ)
-past_job form text =
-    let count = (job_in form text).count in
-    option_and_then
-    (λ rest. cond (count_fits count) (option_and_then (λ others. read_to (2 * count) others) (read_to (2 * count) rest)) None)
-    (read_to (head_words form) text)
 
 -- a text has its job, both boxes' tapes, both messages of each round, both boxes' answer shares
 unfoldable pub agreed : Form → List ℕ → Bool

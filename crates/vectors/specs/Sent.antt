@@ -5,12 +5,13 @@ use Rattle.board.specs.Zeros.{zeros_in}
 use Rattle.protocol.specs.Rounds.{last_round}
 use Rattle.protocol.specs.Sizes.{tape_for}
 use Rattle.vectors.specs.declared.job.Agreement.{Agreement}
-use Rattle.vectors.specs.declared.job.Form.{Form}
-use Rattle.vectors.specs.declared.job.Job.{Job}
+use Rattle.vectors.specs.declared.head.Form.{Form}
+use Rattle.vectors.specs.declared.head.Job.{Job}
 use Rattle.vectors.specs.declared.spelling.Spelling.{Spelling}
 use Rattle.vectors.specs.declared.spelling.Spelling.TheVariants.{AsSent, Respelled}
 use Rattle.vectors.specs.Numbers.{numbers_from, rest_after}
-use Rattle.vectors.specs.Job.{messages_to, box1_of, box2_of, blanks_of, job_in, past_job, agreed}
+use Rattle.vectors.specs.Head.{job_in, past_job}
+use Rattle.vectors.specs.Job.{messages_to, box1_of, box2_of, blanks_of, agreed}
 
 -- whether a zero comes to the other box as p
 abbrev pub respells : Spelling → Bool

@@ -1,9 +1,16 @@
 // The files that the program runs on.
-ghost use Rattle.std.specs.Prelude.{◌≤◌, length, IfSome};
+ghost use Rattle.std.specs.Prelude.{◌≡◌, ◌≤◌, length, IfSome};
 
 use std::io::Read;
 use std::rt::Files;
 use std::{fs, str};
+
+// Zeros for the longest file.
+pub fn blank_room() -> [u8; 524288]
+    ensures { length result ≡ 524288 }
+{
+    [0; 524288]
+}
 
 // A file's bytes, put at the start of a lent room: all of them, or as many as it has room for, or those before a read that fails. None where the
 // file cannot be opened.

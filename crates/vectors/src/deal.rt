@@ -21,7 +21,7 @@ pub struct Deal {
 pub fn compared_with(rt: &impl Files, name: &[u8]) -> Option<Deal>
     ensures { IfSome result AgreeingDeal }
 {
-    let mut room = [0u8; 262144];
+    let mut room = crate::data::blank_room();
     run(crate::data::read(rt, name, &mut room)?)
 }
 

@@ -1,9 +1,9 @@
 // Jobs of both boxes against the words of their files.
-ghost use Rattle.std.specs.Prelude.{ℕ, ◌≡◌, true, ◌<◌, ◌*◌, ◌++◌, length, take, IfSome};
+ghost use Rattle.std.specs.Prelude.{ℕ, ◌≡◌, ◌<◌, ◌≤◌, ◌++◌, length, take, IfSome};
 ghost use Rattle.std.specs.Option.{is_some, option_map, option_and_then};
 ghost use Rattle.protocol.specs.Products.{party};
 ghost use Rattle.protocol.specs.Rounds.{last_round};
-ghost use Rattle.protocol.specs.Sizes.{count_fits};
+ghost use Rattle.protocol.specs.Sizes.{most_jobs};
 ghost use Rattle.rules.specs.Answers.{heard_or_finished, reply_of};
 ghost use Rattle.rules.specs.Batches.{party_of, joined_message, x_in, y_in, tape_part};
 ghost use Rattle.rules.specs.Calls.{outcome, heard_after};
@@ -11,52 +11,20 @@ ghost use Rattle.rules.specs.declared.state.Turn.TheVariants.{Speak};
 ghost use Rattle.tally.specs.Tally.{longest_tally};
 ghost use Rattle.exchange.specs.Boxes.{Ready, works_of};
 ghost use Rattle.exchange.specs.Rooms.{blank_works};
-ghost use Rattle.vectors.specs.Numbers.{spelled, read_to, numbers_from};
+ghost use Rattle.vectors.specs.Numbers.{spelled};
 ghost use Rattle.vectors.specs.Due.{Due};
-ghost use Rattle.vectors.specs.Job.{messages_to, transcript, shares_in, unused_tally, comes, job_told, tapes_told, head_words, list_in, job_in, past_job, agreed};
+ghost use Rattle.vectors.specs.Job.{messages_to, transcript, shares_in, unused_tally, comes, job_told, tapes_told, agreed};
 ghost use Rattle.vectors.specs.Sent.{respelled_in, job_sent, tapes_sent, sent, Named, Agreeing};
 
+use crate::head::{self, Form, Job, MOST_SHARES};
 use crate::numbers::Reader;
 use crate::spelling::{Spelling, carry};
 use compare::words::LAST_ROUND;
 use exchange::Heard;
 use field::Width;
 use rules::state;
-use rules::state::{MOST_JOBS, State};
+use rules::state::State;
 use std::rt::Files;
-
-// How a text names its job: one of a single comparison does not say how many they are.
-#[derive(Clone, Copy, Debug, PartialEq, Eq)]
-pub enum Form {
-    Single,
-    Joined,
-}
-
-impl Form {
-    // How many numbers stand before the shares.
-    fn head_words(self) -> usize
-        ensures { result ≡ head_words self }
-    {
-        match self {
-            Form::Single => 3,
-            Form::Joined => 4,
-        }
-    }
-}
-
-// A box's list has two shares for each comparison.
-const MOST_SHARES: usize = 2 * MOST_JOBS;
-
-// What a text names before the tapes: a box's list has its shares x and y of the first comparison, then of the next, and 0 past the count.
-#[derive(Clone, Copy, Debug, PartialEq, Eq)]
-pub struct Job {
-    pub n: u32,
-    pub pair: u32,
-    pub first: u32,
-    pub count: u32,
-    pub box1: [u32; MOST_SHARES],
-    pub box2: [u32; MOST_SHARES],
-}
 
 // A file's job, both of whose boxes agree with it: what its text names, and how many zeros of its messages were respelled.
 #[derive(Clone, Copy, Debug, PartialEq, Eq)]
@@ -77,18 +45,19 @@ pub fn compared_with(
 ) -> Option<Agreement>
     ensures { IfSome result (Agreeing form spelling) }
 {
-    let mut room = [0u8; 524288];
+    let mut room = crate::data::blank_room();
     run(crate::data::read(rt, name, &mut room)?, form, spelling)
 }
 
 // A text has its job, both tapes, both messages of each round, both answer shares.
+#[tactic(auto, unfolding(crate::specs::Job::agreed, crate::specs::Sent::sent))]
 fn run(text: &[u8], form: Form, spelling: Spelling) -> Option<Agreement>
     ensures agrees { is_some result ≡ agreed form text.now }
     ensures names { IfSome result (Named form text.now) }
     ensures zeros { IfSome result (λ told. told.zeros ≡ respelled_in spelling (sent form text.now)) }
 {
     let mut text = Reader { text };
-    let job = job_at(&mut text, form)?;
+    let job = head::job_at(&mut text, form)?;
     let zeros = on_tapes(&mut text, job, spelling)?;
     Some(Agreement {
         n: job.n,
@@ -98,41 +67,10 @@ fn run(text: &[u8], form: Form, spelling: Spelling) -> Option<Agreement>
     })
 }
 
-// A job has n, pair, first tape number and, of several comparisons, the count, then box 1's shares and box 2's.
-fn job_at(text: &mut Reader, form: Form) -> Option<Job>
-    ensures past { option_map (λ _. text.new.text.now) result ≡ past_job form text.old.text.now }
-    ensures job { IfSome result (λ job. (job ≡ job_in form text.old.text.now) × (count_fits job.count ≡ true)) }
-{
-    let mut head = [0, 0, 0, 1];
-    text.fill(&mut head[..form.head_words()])?;
-    let [n, pair, first, count] = head;
-    if !state::count_fits(count) {
-        return None;
-    }
-    Some(Job {
-        n,
-        pair,
-        first,
-        count,
-        box1: shares_at(&mut *text, count)?,
-        box2: shares_at(&mut *text, count)?,
-    })
-}
-
-// The next numbers, two for each comparison.
-fn shares_at(text: &mut Reader, count: u32) -> Option<[u32; MOST_SHARES]>
-    requires { count_fits count ≡ true }
-    ensures past { option_map (λ _. text.new.text.now) result ≡ read_to (2 * count) text.old.text.now }
-    ensures list { IfSome result (λ list. list ≡ list_in count text.old.text.now) }
-{
-    let mut list = [0; MOST_SHARES];
-    text.fill(&mut list[..2 * count as usize])?;
-    Some(list)
-}
-
 // How many zeros of a job's messages were respelled, if the job agrees.
+#[tactic(auto, using(crate::proofs::Readings::filled), unfolding(crate::specs::Job::tapes_told, crate::specs::Sent::tapes_sent))]
 fn on_tapes(text: &mut Reader, job: Job, spelling: Spelling) -> Option<usize>
-    requires { count_fits job.count ≡ true }
+    requires { job.count ≤ most_jobs }
     ensures agrees { is_some result ≡ tapes_told text.old.text.now job }
     ensures zeros { IfSome result (λ zeros. zeros ≡ respelled_in spelling (tapes_sent text.old.text.now job)) }
 {
@@ -155,6 +93,7 @@ fn unused_tally() -> [u8; tally::LONGEST_TALLY]
 }
 
 // A box comes to the job, if it isn't refused.
+#[tactic(auto, using(crate::proofs::Jobs::begun_comes))]
 fn begun(
     job: Job,
     side: u32,
@@ -162,7 +101,7 @@ fn begun(
     tapes: &[u32],
     work: &[u32],
 ) -> Option<State>
-    requires { (count_fits job.count ≡ true) × (work.now ≡ blank_works) }
+    requires { (job.count ≤ most_jobs) × (work.now ≡ blank_works) }
     ensures comes { is_some result ≡ comes job side list tapes.now }
     ensures ready { IfSome result (λ s. Ready s job.first (Speak 1) tapes.now work.now) }
     ensures same { IfSome result (λ s. (s.n ≡ job.n) × (s.batch.count ≡ job.count)) }
@@ -187,8 +126,9 @@ fn begun(
 }
 
 // Both boxes come to the job, and the rounds follow.
+#[tactic(auto, unfolding(crate::specs::Job::job_told, crate::specs::Sent::job_sent))]
 fn opened(text: &mut Reader, job: Job, t1: &[u32], t2: &[u32], spelling: Spelling) -> Option<usize>
-    requires { count_fits job.count ≡ true }
+    requires { job.count ≤ most_jobs }
     ensures agrees { is_some result ≡ job_told text.old.text.now job t1.now t2.now }
     ensures zeros { IfSome result (λ zeros. zeros ≡ respelled_in spelling (job_sent job t1.now t2.now)) }
 {
@@ -202,6 +142,7 @@ fn opened(text: &mut Reader, job: Job, t1: &[u32], t2: &[u32], spelling: Spellin
 }
 
 // Every round, each message against the text, then the answer shares, which the last round gives.
+#[tactic(auto, using(crate::proofs::Rounds::told_due, crate::proofs::Rounds::told_none))]
 fn exchanged(
     text: &mut Reader,
     first: u32,
@@ -278,7 +219,7 @@ fn compared(
     let mut o1 = exchange::rooms::blank_messages();
     let mut o2 = exchange::rooms::blank_messages();
     let n = Width { bits: s1.n };
-    let words = exchange::words_for(n, s1.batch.count, round);
+    let words = compare::words::words_for(n, s1.batch.count, round);
     exchange::both_speak(
         first, round, &mut *s1, &mut *s2, t1, t2, &*w1, &*w2, &mut o1, &mut o2,
     );
@@ -297,7 +238,7 @@ fn compared(
 
 // Passes the next numbers, if they are the shares of what both boxes answered, one for each comparison. A hear that gave none doesn't agree.
 fn answers_same(text: &mut Reader, count: u32, heard: Heard) -> Option<()>
-    requires { count_fits count ≡ true }
+    requires { count ≤ most_jobs }
     ensures { is_some result
         ≡ is_some (option_and_then (λ own. option_and_then (λ others. spelled text.old.text.now (take count own ++ take count others))
         (shares_in heard.1)) (shares_in heard.0)) }

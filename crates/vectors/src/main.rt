@@ -1,18 +1,22 @@
-// Runs the jobs and test deals of data/, worked out by an independent model, and says which agree in every word: jobs by their tape numbers,
-// deals by the numbers that their texts name. The jobs run twice: the second time every zero of a message comes to the other box as p
-// (document 02, P3), and how many there were is said.
+// Runs the jobs and test deals of data/, worked out by an independent model, and says which agree in every word: jobs of a single comparison by their tape
+// numbers, jobs of several joined (document 02, P9) and deals by the numbers that their texts name. The jobs run twice: the second time every zero of a
+// message comes to the other box as p (P3), and how many there were is said.
 #![tactic(auto)]
 
+ghost use Rattle.vectors.specs.declared.head.Form.TheVariants.{Joined};
 ghost use Rattle.vectors.specs.Deal.{AgreeingDeal};
+ghost use Rattle.vectors.specs.Sent.{Agreeing};
 
 mod data;
 mod deal;
+mod head;
 mod job;
 mod numbers;
 mod single;
 mod spelling;
 
-use crate::job::{Agreement, Form};
+use crate::head::Form;
+use crate::job::Agreement;
 use crate::spelling::Spelling;
 use field::Width;
 use std::io;
@@ -27,15 +31,8 @@ fn tell_width(rt: &impl Print, n: Width, spelling: Spelling) -> io::Result<()> {
     print!(rt; ": tapes")
 }
 
-// How it ends: what came of it.
-fn tell_jobs(
-    rt: &impl Print,
-    agreed: u64,
-    count: u8,
-    spelling: Spelling,
-    zeros: u64,
-) -> io::Result<()> {
-    print!(rt; ", {agreed} of {count} jobs agree")?;
+// How a line ends: how many zeros were respelled, where they were to be.
+fn tell_zeros(rt: &impl Print, spelling: Spelling, zeros: u64) -> io::Result<()> {
     if spelling == Spelling::Respelled {
         print!(rt; ", zeros respelled: {zeros}")?;
     }
@@ -53,10 +50,11 @@ fn run_width(rt: &(impl Files + Print), n: Width, count: u8, spelling: Spelling)
             zeros += told.zeros as u64;
         }
     }
-    tell_jobs(rt, agreed, count, spelling, zeros)
+    print!(rt; ", {agreed} of {count} jobs agree")?;
+    tell_zeros(rt, spelling, zeros)
 }
 
-// Every job: the words go from box to box as they are, or every zero spelled p.
+// Every job of a single comparison: the words go from box to box as they are, or every zero spelled p.
 fn run_widths(rt: &(impl Files + Print), spelling: Spelling) -> io::Result<()> {
     for (n, count) in Width::all().into_iter().zip([5, 4, 3, 2, 2, 2, 2]) {
         run_width(rt, n, count, spelling)?;
@@ -64,19 +62,15 @@ fn run_widths(rt: &(impl Files + Print), spelling: Spelling) -> io::Result<()> {
     Ok(())
 }
 
-// Says that the boxes of a joined job agree with its file, and what that names: only of one that does.
-fn tell_joined(rt: &impl Print, told: Agreement, spelling: Spelling) -> io::Result<()> {
-    let Agreement {
-        n,
-        first,
-        count,
-        zeros,
-    } = told;
-    print!(rt; ": width {n}, tapes from {first}, count {count}: agrees")?;
-    if spelling == Spelling::Respelled {
-        print!(rt; ", zeros respelled: {zeros}")?;
-    }
-    println!(rt)
+// Says that a joined job agrees, and which: only of one that does.
+fn tell_joined(rt: &impl Print, told: Agreement, spelling: Spelling) -> io::Result<()>
+    requires { Agreeing Joined spelling told }
+{
+    print!(rt;
+        ": width {}, tapes from {}, count {}: every word agrees",
+        told.n, told.first, told.count
+    )?;
+    tell_zeros(rt, spelling, told.zeros as u64)
 }
 
 fn run_joined(rt: &(impl Files + Print), name: &str, spelling: Spelling) -> io::Result<()> {
@@ -87,17 +81,16 @@ fn run_joined(rt: &(impl Files + Print), name: &str, spelling: Spelling) -> io::
     }
 }
 
-const JOINED: [&str; 6] = [
-    "joined-03-1.txt",
-    "joined-03-8.txt",
-    "joined-05-3.txt",
-    "joined-07-4.txt",
-    "joined-13-2.txt",
-    "joined-31-2.txt",
-];
-
+// Every job of several comparisons joined, in the same two ways.
 fn run_all_joined(rt: &(impl Files + Print), spelling: Spelling) -> io::Result<()> {
-    for name in JOINED {
+    for name in [
+        "joined-03-1.txt",
+        "joined-03-8.txt",
+        "joined-05-3.txt",
+        "joined-07-4.txt",
+        "joined-13-2.txt",
+        "joined-31-2.txt",
+    ] {
         run_joined(rt, name, spelling)?;
     }
     Ok(())

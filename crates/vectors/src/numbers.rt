@@ -1,5 +1,5 @@
 // Decimal numbers of a text, one after another.
-ghost use Rattle.std.specs.Prelude.{◌≡◌, ◌++◌, length};
+ghost use Rattle.std.specs.Prelude.{◌≡◌, ◌≤◌, ◌++◌, length, IfSome};
 ghost use Rattle.std.specs.Option.{option_map};
 ghost use Rattle.std.proofs.lemmas.List.Edits.{sets};
 ghost use Rattle.vectors.specs.Numbers.{next_at, numbers_from, read_to, spelled};
@@ -33,6 +33,17 @@ impl<'a> Reader<'a> {
             *number = self.next()?;
         }
         Some(())
+    }
+
+    // A room whose first numbers are the next ones.
+    #[tactic(auto, using(crate::proofs::Readings::filled_front))]
+    pub fn filled<const N: usize>(&mut self, mut room: [u32; N], count: usize) -> Option<[u32; N]>
+        requires { count ≤ length room }
+        ensures rest { option_map (λ _. self.new.text.now) result ≡ read_to count self.old.text.now }
+        ensures filled { IfSome result (λ filled. filled ≡ sets room.entry 0 (numbers_from count self.old.text.now)) }
+    {
+        self.fill(&mut room[..count])?;
+        Some(room)
     }
 
     // Passes the next numbers, if they are these words.

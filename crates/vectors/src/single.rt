@@ -1,10 +1,11 @@
 // The files of jobs of a single comparison.
 ghost use Rattle.std.specs.Prelude.{◌≡◌, length, IfSome};
-ghost use Rattle.vectors.specs.declared.job.Form.TheVariants.{Single};
+ghost use Rattle.vectors.specs.declared.head.Form.TheVariants.{Single};
 ghost use Rattle.vectors.specs.Job.{name_of};
 ghost use Rattle.vectors.specs.Sent.{Agreeing};
 
-use crate::job::{self, Agreement, Form};
+use crate::head::Form;
+use crate::job::{self, Agreement};
 use crate::spelling::Spelling;
 use std::rt::Files;
 

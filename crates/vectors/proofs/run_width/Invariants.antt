@@ -3,4 +3,4 @@ use Rattle.std.proofs.Common.{◌*◌, ◌≤◌}
 use Rattle.vectors.proofs.run_width.Given as goal
 
 abbrev pub invariant-loop-k : goal.invariant-loop-k
-invariant-loop-k g l = (l.agreed ≤ l.k) × (l.zeros ≤ l.k * 28890)
+invariant-loop-k g l = (l.agreed ≤ l.k) × (l.zeros ≤ l.k * 231120)

@@ -1,5 +1,7 @@
 use Rattle.std.proofs.Common.{ℕ, ◌≡◌, ◌≤◌, subst, arith}
 use Rattle.protocol.specs.Rounds.{earlier_rounds}
+use Rattle.rules.proofs.Batches.{count_most}
+use Rattle.vectors.proofs.Jobs.{ready_counted}
 use Rattle.vectors.proofs.Rounds.{Told, told_first, told_counts, told_most, told_none, told_next, told_shares}
 use Rattle.vectors.proofs.job.exchanged.Goals.{At-loop-heard}
 use Rattle.vectors.proofs.job.exchanged.Goals as goal
@@ -9,7 +11,7 @@ module _ (l : At-loop-heard) where
   abbrev So_far : ℕ → Type 0
   So_far k =
       let v = l.args in
-      Told v.text.now.text.now v.spelling v.number v.s1.now v.s2.now v.t1.now v.t2.now v.w1.now v.w2.now
+      Told v.text.now.text.now v.spelling v.first v.s1.now v.s2.now v.t1.now v.t2.now v.w1.now v.w2.now
       k l.loop-heard.text.text.now l.loop-heard.s1 l.loop-heard.s2 l.loop-heard.w1 l.loop-heard.w2 l.loop-heard.zeros
 
   ended : earlier_rounds ≤ l.loop-heard.heard → So_far earlier_rounds
@@ -26,6 +28,9 @@ pub loop-heard-preserved : goal.loop-heard-preserved
 loop-heard-preserved c =
     let e = c.in_ok-round.ensures in
     told_next _ _ _ _ _ _ _ _ _ c.requires c.loop-heard.invariant _ _ _ e.read e.zeros e.box1 e.box2 c.loop-heard-test.true
+
+pub answers_same-requires : goal.answers_same-requires
+answers_same-requires c = (count_most c.args.s1.now.batch.count (ready_counted c.requires.box1)).1
 
 pub returns-in_err-last-clause-agrees : goal.returns-in_err-last-clause-agrees
 returns-in_err-last-clause-agrees c =
