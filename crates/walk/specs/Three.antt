@@ -57,8 +57,8 @@ SameShare i None one = ⊥
 SameShare i (Some all) None = ⊥
 SameShare i (Some all) (Some one) = get_or all i 0 ≡ get_or one 0 0
 
--- of both boxes: part i of the joined message is what the job alone says, the marks up to its own are the same, which of the last job is the whole tally, and
--- so is its answer share
+-- of both boxes: part i of the joined message is what the job alone says; the marks up to its own are the same, which of the last job is the whole
+-- tally; so is its answer share
 abbrev pub Same : Part → ℕ → Pair → Pair → Type 0
 Same (Words round) i joined alone =
     (part (round_words 3 round) joined.box1.out i ≡ take (round_words 3 round) alone.box1.out)

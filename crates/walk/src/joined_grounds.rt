@@ -35,8 +35,8 @@ const X3: [u32; 6] = [5, 1, 6, 2, 7, 4];
 
 const Y3: [u32; 6] = [5, 1, 6, 2, 3, 7];
 
-// What is wrong, and what the start answers. On tapes 0 to 2 the numbers are right, on 2 to 4 the third is not, on 3 to 5 the second is not. Side 2 is the
-// other box's tape.
+// What is wrong, and what the start answers. On tapes 0 to 2 the numbers are right, on 2 to 4 the third is not, on 3 to 5 the second is not.
+// A tape of side 2 is the other box's.
 fn told(
     rt: &impl Print,
     what: &str,
@@ -113,8 +113,8 @@ fn on_byte(place: usize, byte: u8, shares: [u32; 4]) -> Tried
     start(states::idle(), 1, 2, &shares, &tapes, &[0; 200], tally)
 }
 
-// In the group below the first number, in its own, in the second's, and in the one above both, whole or half written: what is not fresh above the first
-// number makes it late, and nothing else of the jobs is looked at.
+// In the group below the first number, in its own, in the second's, and in the one above both, 00 or half written: what is not fresh above the
+// first number makes it late, and nothing else of the jobs is looked at.
 fn marks(rt: &impl Print) -> io::Result<()> {
     for (what, place, byte, shares) in [
         ("byte 3 00", 3, 0, [5, 1, 6, 2]),

@@ -63,8 +63,8 @@ impl Pair {
         self.box2.speak(job.first, round, job.tapes2);
     }
 
-    // The messages are the first words of the boxes' outs: without a heap the room is of one size. A hear leaves out as it was, so box 2 hears what box 1
-    // spoke.
+    // The messages are the first words of the boxes' outs: without a heap the room is of one size. A hear leaves out as it was, so box 2 hears
+    // what box 1 spoke.
     fn hear(&mut self, job: Job<'_>, round: u32)
         requires { job.count ≤ 3 }
         ensures { Stepped (asked_of job.entry) (Hear round) self.old self.new }
