@@ -51,6 +51,12 @@ InRounds (Words round) = round ≤ last_round
 InRounds Marks = ⊤
 InRounds Share = ⊤
 
+-- the step after which it is there
+abbrev pub step_of : Part → ℕ
+step_of (Words round) = 2 * round
+step_of Marks = last_step
+step_of Share = last_step
+
 -- both finished, and answer share i is the one of the job alone
 abbrev pub SameShare : ℕ → Option (List ℕ) → Option (List ℕ) → Type 0
 SameShare i None one = ⊥

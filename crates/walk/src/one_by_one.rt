@@ -2,7 +2,7 @@
 ghost use Rattle.std.specs.Prelude.{◌≡◌, true, ◌<◌};
 ghost use Rattle.rules.specs.Answers.{reply_of};
 ghost use Rattle.walk.specs.Said.{as_reply, shares_in};
-ghost use Rattle.walk.specs.Three.{InRounds, SameShare, Same};
+ghost use Rattle.walk.specs.Three.{InRounds, step_of, SameShare, Same};
 ghost use Rattle.walk.specs.declared.one_by_one.Part.TheVariants.{Words, Marks};
 
 use crate::answers::Answer;
@@ -23,9 +23,10 @@ pub enum Part {
     Share,
 }
 
-// When it is there.
+// The step after which it is there.
 fn steps(part: Part) -> u32
     requires { InRounds part }
+    ensures { result ≡ step_of part }
 {
     match part {
         Part::Words(round) => 2 * round,
