@@ -1,4 +1,6 @@
 pub mod Reached
-mod Same
+pub mod Same
 pub mod Deals
 pub mod Marks
+pub mod Joining
+pub mod Fillers

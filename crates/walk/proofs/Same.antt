@@ -1,7 +1,13 @@
 -- Two answers with the same reply, and two results that agree in each part, are the same.
-use mathlib.Core.Path.{◌≡◌}
+use mathlib.Core.Path.{◌≡◌, refl}
 use mathlib.Core.Bool.{Bool, true, false}
+use mathlib.Core.List.{List}
+use Prim.Native.Nat.{ℕ}
 use native.Mathlib.Omega.{arith}
+use lib.Dec.{eqb}
+use lib.Pointwise.{pointwise}
+use Rattle.std.specs.Bool.{nat_eq}
+use Rattle.std.proofs.lemmas.Cmp.{nat_list_eq_equiv}
 use Rattle.std.specs.Prelude.{Result as Answer}
 use Rattle.std.specs.Result.{is_ok}
 use Rattle.refusals.specs.Numbers.{number_of}
@@ -10,10 +16,23 @@ use Rattle.refusals.specs.declared.Refusal.{Refusal}
 use Rattle.walk.specs.declared.answers.Said.{Said}
 use Rattle.rules.specs.Answers.{reply_of}
 use Rattle.rules.specs.Calls.{Result}
-use Rattle.walk.specs.declared.progress.BoxMemory.{BoxMemory}
+use Rattle.rules.specs.declared.state.State.{State}
+use Rattle.walk.specs.declared.memory.BoxMemory.{BoxMemory}
 use Rattle.exchange.specs.Opening.{refusal_of}
 use Rattle.walk.specs.Said.{as_reply}
 use Rattle.walk.specs.Walk.{After}
+
+-- two words that are one are equal by the test, and so are two lists of words
+pub equal_word : (x y : ℕ) → x ≡ y → eqb x y ≡ true
+equal_word x y e = grind (arith, e)
+
+pub equal_list : (xs ys : List ℕ) → xs ≡ ys → pointwise nat_eq xs ys ≡ true
+equal_list xs ys e = rw e (nat_list_eq_equiv.refl ys)
+
+pub fields : {s t : State} → s ≡ t
+    → (s.n ≡ t.n) × (s.side ≡ t.side) × (s.pair ≡ t.pair) × (s.tally ≡ t.tally) × (s.phase ≡ t.phase)
+    × (s.batch.first ≡ t.batch.first) × (s.batch.count ≡ t.batch.count) × (s.batch.x ≡ t.batch.x) × (s.batch.y ≡ t.batch.y)
+fields e = rw e (refl, refl, refl, refl, refl, refl, refl, refl, refl)
 
 same_result : (a b : Result) → a.reply ≡ b.reply → a.state ≡ b.state → a.buffer ≡ b.buffer → a ≡ b
 same_result a b reply state buffer = grind arith

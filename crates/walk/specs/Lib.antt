@@ -3,3 +3,5 @@ pub mod Walk
 pub mod Sweeps
 pub mod Deals
 pub mod JobSteps
+pub mod Courses
+pub mod Three

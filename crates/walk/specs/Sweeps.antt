@@ -2,10 +2,10 @@
 -- with a 7 among them.
 use Rattle.std.specs.Prelude.{ℕ, ◌+◌, ◌*◌, ◌/◌, ◌%◌, ◌≡◌, set}
 use Rattle.lists.specs.Tabulate.{tabulate}
-use Rattle.rules.specs.Calls.{start_rule, hear_rule}
+use Rattle.rules.specs.Calls.{hear_rule}
 use Rattle.rules.specs.declared.state.Turn.TheVariants.{Hear}
 use Rattle.exchange.specs.Opening.{refusal_of}
-use Rattle.walk.specs.Walk.{idle_state, job_state, with_side, box_tape, fresh_tally, filler, HeardAsZeros}
+use Rattle.walk.specs.Walk.{idle_state, job_state, with_side, box_tape, fresh_tally, filler, one_start, HeardAsZeros}
 use Rattle.walk.specs.declared.sweeps.Sweep.{Sweep}
 use Rattle.walk.specs.declared.sweeps.Sweep.TheVariants.{Bytes, Above, Body, Words, Zeros}
 
@@ -20,11 +20,11 @@ places_of Zeros = 33
 -- what must come of the call at a place: a start where a byte of tape 0's mark is not FF, one where a byte above it is not, a start on a tape with the word 7
 -- there, a hear of zeros with an 8 there, and box 2's with a 7 there
 abbrev pub RightAt : Sweep → ℕ → Type 0
-RightAt Bytes place = refusal_of (start_rule (idle_state 16) 0 5 1 (box_tape 1 0) (tabulate 100 (λ k. 0)) (set fresh_tally (place / 255) (place % 255))).reply ≡ 8
-RightAt Above place = refusal_of (start_rule (idle_state 16) 0 5 1 (box_tape 1 0) (tabulate 100 (λ k. 0)) (set fresh_tally (4 + place / 255) (place % 255))).reply ≡ 15
-RightAt Body place = refusal_of (start_rule (idle_state 16) 0 5 1 (set (box_tape 1 0) place 7) (tabulate 100 (λ k. 0)) fresh_tally).reply ≡ 10
+RightAt Bytes place = refusal_of (one_start (idle_state 16) 0 5 1 (box_tape 1 0) (tabulate 100 (λ k. 0)) (set fresh_tally (place / 255) (place % 255))).reply ≡ 8
+RightAt Above place = refusal_of (one_start (idle_state 16) 0 5 1 (box_tape 1 0) (tabulate 100 (λ k. 0)) (set fresh_tally (4 + place / 255) (place % 255))).reply ≡ 15
+RightAt Body place = refusal_of (one_start (idle_state 16) 0 5 1 (set (box_tape 1 0) place 7) (tabulate 100 (λ k. 0)) fresh_tally).reply ≡ 10
 RightAt Words place = refusal_of (hear_rule (job_state 16 (Hear 1)) 0 1 (box_tape 1 0) (filler 100) (set (tabulate 33 (λ k. 0)) place 8)).reply ≡ 13
-RightAt Zeros place = HeardAsZeros (with_side (job_state 16 (Hear 1)) 2) 2 1 (tabulate 100 (λ k. 6)) (set (tabulate 33 (λ k. 0)) place 7)
+RightAt Zeros place = HeardAsZeros (with_side (job_state 16 (Hear 1)) 2) 2 1 (tabulate 300 (λ k. 6)) (set (tabulate 33 (λ k. 0)) place 7)
 
 -- of the first so many places, P holds at so many
 pub data Counted (P : ℕ → Type 0) : ℕ → ℕ → Type 0 where

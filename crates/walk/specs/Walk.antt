@@ -1,42 +1,64 @@
 -- What the walk reads off an answer and a state.
-use Rattle.std.specs.Prelude.{ℕ, cond, true, List, ◌++◌, eqb, replicate, take, ◌≡◌}
+use Rattle.std.specs.Prelude.{ℕ, ◌+◌, cond, true, List, [], ◌∷◌, ◌++◌, eqb, length, get_or, replicate, take, ◌≡◌}
 use Rattle.lists.specs.Tabulate.{tabulate}
+use Rattle.lists.specs.Joined.{chained}
 use Rattle.tape.specs.Layout.{trailer}
 use Rattle.tape.specs.Plain.{plain_tape}
 use Rattle.protocol.specs.Rounds.{round_words}
 use Rattle.rules.specs.Answers.{reply_of}
-use Rattle.rules.specs.Calls.{Result, hear_rule}
+use Rattle.rules.specs.Batches.{no_batch, batch_of}
+use Rattle.rules.specs.Calls.{Result, start_rule, speak_rule, hear_rule}
 use Rattle.rules.specs.declared.state.Turn.{Turn}
+use Rattle.rules.specs.declared.state.Turn.TheVariants.{Speak, Hear}
 use Rattle.rules.specs.declared.state.Phase.TheVariants.{Idle, Job}
 use Rattle.rules.specs.declared.state.State.{State}
 use Rattle.exchange.specs.Opening.{refusal_of}
 use Rattle.walk.specs.Said.{as_reply}
 use Rattle.walk.specs.declared.calls.Tried.{Tried}
-use Rattle.walk.specs.declared.progress.BoxMemory.{BoxMemory}
+use Rattle.walk.specs.declared.memory.BoxMemory.{BoxMemory}
 
 -- box 1 awake, with a tally of that length
 abbrev pub idle_state : ℕ → State
-idle_state tally = record { n = 3; side = 1; pair = 5; tally = tally; phase = Idle }
+idle_state tally = record { n = 3; side = 1; pair = 5; tally = tally; phase = Idle; batch = no_batch }
 
 -- the same, with another length of tally
 abbrev pub with_tally : State → ℕ → State
-with_tally s tally = record { n = s.n; side = s.side; pair = s.pair; tally = tally; phase = s.phase }
+with_tally s tally = record { n = s.n; side = s.side; pair = s.pair; tally = tally; phase = s.phase; batch = s.batch }
 
 -- the same, of another side
 abbrev pub with_side : State → ℕ → State
-with_side s side = record { n = s.n; side = side; pair = s.pair; tally = s.tally; phase = s.phase }
+with_side s side = record { n = s.n; side = side; pair = s.pair; tally = s.tally; phase = s.phase; batch = s.batch }
 
 -- box 1 in a job on tape 0 with the shares 5 and 1
 abbrev pub job_state : ℕ → Turn → State
-job_state tally turn = record { n = 3; side = 1; pair = 5; tally = tally; phase = Job turn 0 5 1 }
+job_state tally turn = record { n = 3; side = 1; pair = 5; tally = tally; phase = Job turn; batch = batch_of 0 1 (5 ∷ 1 ∷ []) }
+
+-- box 1 in a job of two on tapes 0 and 1 with the shares 5 and 1, then 6 and 2
+abbrev pub two_state : Turn → State
+two_state turn = record { n = 3; side = 1; pair = 5; tally = 16; phase = Job turn; batch = batch_of 0 2 (5 ∷ 1 ∷ 6 ∷ 2 ∷ []) }
+
+-- a start of one job, with these shares
+abbrev pub one_start : State → ℕ → ℕ → ℕ → List ℕ → List ℕ → List ℕ → Result
+one_start s number x y tape work tally = start_rule s number 1 (x ∷ y ∷ []) tape work tally
 
 -- a box's plain tape of width 3 and pair 5
 abbrev pub box_tape : ℕ → ℕ → List ℕ
 box_tape side number = plain_tape 3 5 side number
 
+-- such tapes joined, one for each of these sides, on consecutive tape numbers
+abbrev pub joined_tapes : List ℕ → ℕ → List ℕ
+joined_tapes sides first = chained (length sides) (λ i. box_tape (get_or sides i 0) (first + i))
+
 -- so many words of what stands in the buffers that a call is lent to write
 abbrev pub filler : ℕ → List ℕ
 filler count = replicate count 9
+
+-- the speak and the hear that are due in the job of two, where out and work have room for three
+abbrev pub roomy_speak : Result
+roomy_speak = speak_rule (two_state (Speak 1)) 0 1 (joined_tapes (1 ∷ 1 ∷ []) 0) (tabulate 200 (λ k. 0)) (filler 99)
+
+abbrev pub roomy_hear : Result
+roomy_hear = hear_rule (two_state (Hear 1)) 0 1 (joined_tapes (1 ∷ 1 ∷ []) 0) (filler 300) (tabulate 66 (λ k. 0))
 
 -- what is told of a call in a state: the rule's reply, and the rule's state, and it's called kept just when the rule leaves the state, and the buffer, as it was
 pub record Answered (tried : Tried) (state : State) (buffer : List ℕ) (rule : Result) : Type 0 where
@@ -49,7 +71,11 @@ pub record Answered (tried : Tried) (state : State) (buffer : List ℕ) (rule : 
 abbrev pub fresh_tally : List ℕ
 fresh_tally = replicate 16 255
 
--- the same where tapes 0 and 2 are spent
+-- and of ten
+abbrev pub ten_fresh : List ℕ
+ten_fresh = replicate 40 255
+
+-- four where tapes 0 and 2 are spent
 abbrev pub spent_tally : List ℕ
 spent_tally = (replicate 4 0 ++ replicate 4 255) ++ (replicate 4 0 ++ replicate 4 255)
 

@@ -1,9 +1,10 @@
 // What a call answers: one type for all five. Each call has its own function to it, as each clause names its own reply.
 ghost use Rattle.std.specs.Prelude.{◌≡◌};
-ghost use Rattle.rules.specs.Answers.{fresh, started, spoke, heard_or_share, dropped, reply_of};
+ghost use Rattle.rules.specs.Answers.{fresh, started, spoke, heard_or_finished, dropped, reply_of};
 ghost use Rattle.walk.specs.Said.{as_reply};
 
 use refusals::Refusal;
+use rules::state::MOST_JOBS;
 use std::fmt;
 
 // What a call that is taken says.
@@ -15,8 +16,8 @@ pub enum Said {
     // speak: how many words it wrote
     Spoke(usize),
     Heard,
-    // hear of the last round: the answer share
-    Share(u32),
+    // hear of the last round: the answer shares, in job order
+    Finished([u32; MOST_JOBS]),
     Dropped,
 }
 
@@ -27,7 +28,7 @@ impl fmt::Display for Said {
             Said::Started => f.write_str("started"),
             Said::Spoke(count) => write!(f, "spoke {count}"),
             Said::Heard => f.write_str("heard"),
-            Said::Share(_) => f.write_str("share"),
+            Said::Finished(_) => f.write_str("share"),
             Said::Dropped => f.write_str("dropped"),
         }
     }
@@ -53,12 +54,12 @@ pub fn of_speak(answer: Result<usize, Refusal>) -> Answer
     answer.map(Said::Spoke)
 }
 
-pub fn of_hear(answer: Result<Option<u32>, Refusal>) -> Answer
-    ensures { reply_of as_reply result ≡ reply_of heard_or_share answer }
+pub fn of_hear(answer: Result<Option<[u32; MOST_JOBS]>, Refusal>) -> Answer
+    ensures { reply_of as_reply result ≡ reply_of heard_or_finished answer }
 {
     match answer? {
         None => Ok(Said::Heard),
-        Some(share) => Ok(Said::Share(share)),
+        Some(shares) => Ok(Said::Finished(shares)),
     }
 }
 

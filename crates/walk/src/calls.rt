@@ -5,7 +5,7 @@ ghost use Rattle.rules.specs.Answers.{reply_of};
 ghost use Rattle.exchange.specs.Opening.{refusal_of};
 ghost use Rattle.rules.specs.Calls.{wake_rule, start_rule, speak_rule, hear_rule, drop_rule};
 ghost use Rattle.walk.specs.Said.{as_reply};
-ghost use Rattle.walk.specs.Walk.{filler, Answered};
+ghost use Rattle.walk.specs.Walk.{filler, one_start, Answered};
 
 use crate::answers;
 use crate::answers::Answer;
@@ -58,54 +58,69 @@ pub fn wake(state: State, n: u32, side: u32, tally: &[u8]) -> Tried
     compared(state, after, answers::of_wake(answer), true)
 }
 
-pub fn start(
+pub fn start<const N: usize>(
+    state: State,
+    first: u32,
+    count: u32,
+    shares: &[u32],
+    tapes: &[u32],
+    work: &[u32],
+    tally: [u8; N],
+) -> Tried
+    ensures { Answered result state tally.entry (start_rule state first count shares.now tapes.now work.now tally.entry) }
+{
+    let mut after = state;
+    let mut marks = tally;
+    let answer = limit_box::start(&mut after, first, count, shares, tapes, work, &mut marks);
+    compared(state, after, answers::of_start(answer), tally == marks)
+}
+
+// Of one job.
+pub fn start_one<const N: usize>(
     state: State,
     number: u32,
     x: u32,
     y: u32,
     tape: &[u32],
     work: &[u32],
-    tally: [u8; 16],
+    tally: [u8; N],
 ) -> Tried
-    ensures { Answered result state tally (start_rule state number x y tape.now work.now tally) }
+    ensures { Answered result state tally.entry (one_start state number x y tape.now work.now tally.entry) }
 {
-    let mut after = state;
-    let mut marks = tally;
-    let answer = limit_box::start(&mut after, number, x, y, tape, work, &mut marks);
-    compared(state, after, answers::of_start(answer), tally == marks)
+    start(state, number, 1, &[x, y], tape, work, tally)
 }
 
 // `out` is lent full of filler.
 pub fn speak(
     state: State,
-    number: u32,
+    first: u32,
     round: u32,
-    tape: &[u32],
+    tapes: &[u32],
     work: &[u32],
     out: &mut [u32],
 ) -> Tried
-    ensures answered { Answered result state (filler (length out.old)) (speak_rule state number round tape.now work.now out.old) }
-    ensures left { out.new ≡ (speak_rule state number round tape.now work.now out.old).buffer }
+    ensures answered { Answered result state (filler (length out.old)) (speak_rule state first round tapes.now work.now out.old) }
+    ensures left { out.new ≡ (speak_rule state first round tapes.now work.now out.old).buffer }
 {
     let mut after = state;
-    let answer = limit_box::speak(&mut after, number, round, tape, work, &mut *out);
+    let answer = limit_box::speak(&mut after, first, round, tapes, work, &mut *out);
     compared(state, after, answers::of_speak(answer), untouched(&*out))
 }
 
 // `work` is lent full of filler.
 pub fn hear(
     state: State,
-    number: u32,
+    first: u32,
     round: u32,
-    tape: &[u32],
+    tapes: &[u32],
     work: &mut [u32],
     incoming: &[u32],
 ) -> Tried
-    ensures answered { Answered result state (filler (length work.old)) (hear_rule state number round tape.now work.old incoming.now) }
-    ensures left { work.new ≡ (hear_rule state number round tape.now work.old incoming.now).buffer }
+    ensures answered { Answered result state (filler (length work.old)) (hear_rule state first round tapes.now work.old incoming.now) }
+    ensures left { work.new ≡ (hear_rule state first round tapes.now work.old incoming.now).buffer }
 {
     let mut after = state;
-    let answer = limit_box::hear(&mut after, number, round, tape, &mut *work, incoming);
+    let answer = limit_box::hear(&mut after, first, round, tapes, &mut *work, incoming);
     compared(state, after, answers::of_hear(answer), untouched(&*work))
 }
 

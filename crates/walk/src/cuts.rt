@@ -13,17 +13,17 @@ use crate::tallies::with_mark;
 use std::io;
 
 // What a wake or a drop leaves of the box: its tally is as it was.
-fn after(box1: Box1, tried: Tried) -> Box1
-    ensures { (result.state ≡ tried.state) × (result.tally ≡ box1.tally) }
+fn after<const N: usize>(box1: &Box1<N>, tried: Tried) -> Box1<N>
+    ensures { (result.state ≡ tried.state) × (result.tally ≡ box1.now.tally) }
 {
     Box1 {
         state: tried.state,
-        ..box1
+        ..*box1
     }
 }
 
 // A start on each of so many tapes.
-fn starts(rt: &impl Print, box1: Box1, tapes: u32) -> io::Result<()> {
+pub fn starts<const N: usize>(rt: &impl Print, box1: &Box1<N>, tapes: u32) -> io::Result<()> {
     for number in 0..tapes {
         short(rt, box1.start_on(number))?;
     }
@@ -31,22 +31,22 @@ fn starts(rt: &impl Print, box1: Box1, tapes: u32) -> io::Result<()> {
 }
 
 // The box asleep: the five calls, then it wakes.
-fn asleep(rt: &impl Print, box1: Box1, round: u32) -> io::Result<()> {
+fn asleep(rt: &impl Print, box1: &Box1<16>, round: u32) -> io::Result<()> {
     print!(rt; ":")?;
     box1.all(rt, round)?;
     let woken = calls::wake(box1.state, 3, 1, &box1.tally);
     print!(rt; ";")?;
-    starts(rt, after(box1, woken), 2)
+    starts(rt, &after(box1, woken), 2)
 }
 
 fn cut(rt: &impl Print, number: u32) -> io::Result<()> {
     let step = Step::at(number);
     print!(rt; "cut after {step}")?;
-    asleep(rt, box1_after(number).cut(), step.round())
+    asleep(rt, &box1_after(number).cut(), step.round())
 }
 
 // Box 1 awake, but for what a cut in a start's write left of that tape's mark.
-fn with_left(number: usize, mark: [u8; 4]) -> Box1
+fn with_left(number: usize, mark: [u8; 4]) -> Box1<16>
     requires { number < 4 }
     ensures { result.tally ≡ cut_marked fresh_tally number (mark_of mark 0) }
 {
@@ -61,7 +61,7 @@ fn with_left(number: usize, mark: [u8; 4]) -> Box1
 fn cut_in_write(rt: &impl Print, mark: [u8; 4]) -> io::Result<()> {
     print!(rt; "cut in the start's write, bytes")?;
     bytes(rt, &mark)?;
-    asleep(rt, with_left(0, mark).cut(), 1)
+    asleep(rt, &with_left(0, mark).cut(), 1)
 }
 
 // The byte there: 00 where the number has a bit, FF, not yet written, where it has none. A number, as counting goes through all mixtures.
@@ -79,16 +79,20 @@ fn kinds(rt: &impl Print) -> io::Result<()> {
     Ok(())
 }
 
-// In a start on tape 2: the tapes below it are late, unless FF was left.
-fn cut_above(rt: &impl Print, mark: [u8; 4]) -> io::Result<()> {
-    let box1 = with_left(2, mark).cut();
-    print!(rt; "cut in the write of a start on tape 2, bytes")?;
-    bytes(rt, &mark)?;
+// The box wakes again, and a start is tried on each of so many tapes.
+pub fn awake_again<const N: usize>(rt: &impl Print, box1: &Box1<N>, tapes: u32) -> io::Result<()> {
     print!(rt; ": wake")?;
     let woken = calls::wake(box1.state, 3, 1, &box1.tally);
     short(rt, woken)?;
     print!(rt; ", a start on each tape")?;
-    starts(rt, after(box1, woken), 4)
+    starts(rt, &after(box1, woken), tapes)
+}
+
+// In a start on tape 2: the tapes below it are late, unless FF was left.
+fn cut_above(rt: &impl Print, mark: [u8; 4]) -> io::Result<()> {
+    print!(rt; "cut in the write of a start on tape 2, bytes")?;
+    bytes(rt, &mark)?;
+    awake_again(rt, &with_left(2, mark).cut(), 4)
 }
 
 fn drop(rt: &impl Print, number: u32) -> io::Result<()> {
@@ -98,10 +102,10 @@ fn drop(rt: &impl Print, number: u32) -> io::Result<()> {
     let dropped = calls::drop(before.state);
     short(rt, dropped)?;
     print!(rt; ";")?;
-    let left = after(before, dropped);
+    let left = after(&before, dropped);
     left.all(rt, step.round())?;
     print!(rt; ";")?;
-    starts(rt, left, 2)
+    starts(rt, &left, 2)
 }
 
 // Both at every point of a job.

@@ -3,15 +3,15 @@ ghost use Rattle.std.specs.Prelude.{◌≡◌, ◌≤◌, take};
 ghost use Rattle.lists.specs.Tabulate.{tabulate};
 ghost use Rattle.protocol.specs.Rounds.{round_words};
 ghost use Rattle.rules.specs.Modes.{asleep_state};
-ghost use Rattle.rules.specs.Calls.{start_rule, speak_rule, hear_rule};
-ghost use Rattle.walk.specs.Walk.{box_tape, filler, Answered};
+ghost use Rattle.rules.specs.Calls.{speak_rule, hear_rule};
+ghost use Rattle.walk.specs.Walk.{box_tape, filler, one_start, Answered};
 
 use crate::calls;
-use crate::calls::{FILLER, Tried, hear, speak, start};
+use crate::calls::{FILLER, Tried, hear, speak, start_one};
 use crate::say::short;
 use crate::tapes::plain;
 use field::Width;
-use rules::state::{Phase, State};
+use rules::state::{NO_BATCH, Phase, State};
 use std::io;
 
 // The words of a round at width 3: no more than the first has.
@@ -40,41 +40,48 @@ pub fn hear_on(state: State, number: u32, round: u32) -> Tried
     hear(state, number, round, &tape, &mut work, incoming)
 }
 
-// What is left of box 1 between its calls, with a tally of four tapes.
+// What is left of box 1 between its calls.
 #[derive(Clone, Copy)]
-pub struct Box1 {
+pub struct Box1<const N: usize> {
     pub state: State,
-    pub tally: [u8; 16],
+    pub tally: [u8; N],
 }
 
-impl Box1 {
+impl<const N: usize> Box1<N> {
     // The power is cut: the box is asleep.
-    pub fn cut(self) -> Box1
-        ensures { (result.state ≡ asleep_state self.state) × (result.tally ≡ self.tally) }
+    pub fn cut(&self) -> Box1<N>
+        ensures { (result.state ≡ asleep_state self.now.state) × (result.tally ≡ self.now.tally) }
     {
         let state = State {
             phase: Phase::Asleep,
+            batch: NO_BATCH,
             ..self.state
         };
-        Box1 { state, ..self }
+        Box1 { state, ..*self }
     }
 
     // A start on a tape that is lent with it.
-    #[tactic(auto, unfolding(rules::specs::Calls::start_rule, rules::specs::Grounds::start_ground))]
-    pub fn start_on(self, number: u32) -> Tried
-        ensures { Answered result self.state self.tally (start_rule self.state number 5 1 (box_tape 1 number) (tabulate 100 (λ k. 0)) self.tally) }
+    pub fn start_on(&self, number: u32) -> Tried
+        ensures { Answered result self.now.state self.now.tally (one_start self.now.state number 5 1 (box_tape 1 number) (tabulate 100 (λ k. 0)) self.now.tally) }
     {
-        let Box1 { state, tally } = self;
+        let Box1 { state, tally } = *self;
         let tape = plain(1, number);
-        start(state, number, 5, 1, &tape, &[0; 100], tally)
+        start_one(state, number, 5, 1, &tape, &[0; 100], tally)
     }
 
-    // What each of the five answers: a start on tape 1, a speak and a hear on tape 0.
-    pub fn all(self, rt: &impl Print, round: u32) -> io::Result<()> {
+    // What each of the five answers: a start on tape 1, this speak and this hear.
+    pub fn with(&self, rt: &impl Print, speak: Tried, hear: Tried) -> io::Result<()> {
         short(rt, calls::wake(self.state, 3, 1, &self.tally))?;
         short(rt, self.start_on(1))?;
-        short(rt, speak_on(self.state, 0, round))?;
-        short(rt, hear_on(self.state, 0, round))?;
+        short(rt, speak)?;
+        short(rt, hear)?;
         short(rt, calls::drop(self.state))
+    }
+
+    // The speak and the hear are on tape 0.
+    pub fn all(&self, rt: &impl Print, round: u32) -> io::Result<()> {
+        let speak = speak_on(self.state, 0, round);
+        let hear = hear_on(self.state, 0, round);
+        self.with(rt, speak, hear)
     }
 }

@@ -1,5 +1,4 @@
 // Hear's grounds: 1, 6, 11, 10, 12, 13.
-#![tactic(auto, unfolding(rules::specs::Calls::hear_rule, rules::specs::Calls::heard_after, rules::specs::Grounds::hear_ground))]
 
 ghost use Rattle.std.specs.Prelude.{◌≡◌, ◌<◌, length, set};
 ghost use Rattle.lists.specs.Tabulate.{tabulate};

@@ -2,27 +2,27 @@
 ghost use Rattle.std.specs.Prelude.{◌≡◌, ◌+◌, ◌%◌, ◌≤◌};
 ghost use Rattle.protocol.specs.Rounds.{last_round};
 ghost use Rattle.rules.specs.Answers.{reply_of};
-ghost use Rattle.walk.specs.Said.{as_reply, share_in};
+ghost use Rattle.walk.specs.Said.{as_reply, shares_in};
 
 use crate::answers::{Answer, Said};
-use crate::progress::Pair;
 use crate::{job_steps, progress};
+use rules::state::MOST_JOBS;
 use std::io;
 
 // What one of the boxes answers at each step.
-fn answers<F: Fn(Pair) -> Answer>(rt: &impl Print, label: &str, last_of: F) -> io::Result<()>
-    requires { F.IsAlwaysCallable last_of }
+pub fn answers<F: Fn(u32) -> Answer>(rt: &impl Print, label: &str, after: F) -> io::Result<()>
+    requires { F.IsAlwaysCallable after }
 {
     print!(rt; "{label}:")?;
     for step in 0..=job_steps::LAST {
         print!(rt; " ")?;
-        crate::say::answer(rt, last_of(progress::reached(step)))?;
+        crate::say::answer(rt, after(step))?;
     }
     println!(rt)
 }
 
 // Two shares opened.
-fn opened(share1: u32, share2: u32) -> u32
+pub fn opened(share1: u32, share2: u32) -> u32
     ensures { result ≡ (share1 + share2) % 7 }
 {
     ((share1 as u64 + share2 as u64) % 7) as u32
@@ -42,25 +42,25 @@ fn openings(rt: &impl Print, round: u32) -> io::Result<()>
     println!(rt)
 }
 
-// The answer share, if one was answered.
-fn share_in(answer: Answer) -> Option<u32>
-    ensures { result ≡ share_in (reply_of as_reply answer) }
+// The answer shares, if they were answered.
+pub fn shares_in(answer: Answer) -> Option<[u32; MOST_JOBS]>
+    ensures { result ≡ shares_in (reply_of as_reply answer) }
 {
     match answer {
-        Ok(Said::Share(share)) => Some(share),
+        Ok(Said::Finished(shares)) => Some(shares),
         _ => None,
     }
 }
 
 pub fn lines(rt: &impl Print) -> io::Result<()> {
     println!(rt; "a whole job, x 3 and y 4")?;
-    answers(rt, "box 1", |pair| pair.box1.answer)?;
-    answers(rt, "box 2", |pair| pair.box2.answer)?;
+    answers(rt, "box 1", |step| progress::reached(step).box1.answer)?;
+    answers(rt, "box 2", |step| progress::reached(step).box2.answer)?;
     openings(rt, 4)?;
     openings(rt, 5)?;
     let last = progress::reached(job_steps::LAST);
-    match (share_in(last.box1.answer), share_in(last.box2.answer)) {
-        (Some(share1), Some(share2)) => println!(rt; "less {}", opened(share1, share2)),
+    match (shares_in(last.box1.answer), shares_in(last.box2.answer)) {
+        (Some(shares1), Some(shares2)) => println!(rt; "less {}", opened(shares1[0], shares2[0])),
         _ => println!(rt; "NO answer share"),
     }
 }

@@ -1,6 +1,6 @@
 // Walks one pair of boxes of width 3 through every refusal at each call that can give it, through cuts and drops at every
-// point of a job, through a whole job, and through its hears with 7, which is p, for 0, then the test dealer through its
-// refusals, and prints what was answered.
+// point of a job, through a whole job, and through its hears with 7, which is p, for 0; then through the same of starts of
+// several jobs; then the test dealer through its refusals, and prints what was answered.
 #![tactic(auto)]
 
 mod answers;
@@ -11,6 +11,16 @@ mod five;
 mod hears;
 mod job;
 mod job_steps;
+mod joined_cuts;
+mod joined_drops;
+mod joined_grounds;
+mod joined_job;
+mod joined_order;
+mod joined_outside;
+mod joined_starts;
+mod joined_turns;
+mod memory;
+mod one_by_one;
 mod order;
 mod outside;
 mod progress;
@@ -37,5 +47,14 @@ fn main(rt: HostRuntime) -> io::Result<()> {
     cuts::lines(&rt)?;
     job::lines(&rt)?;
     zeros::lines(&rt)?;
+    joined_starts::lines(&rt)?;
+    joined_grounds::lines(&rt)?;
+    joined_turns::lines(&rt)?;
+    joined_order::lines(&rt)?;
+    joined_outside::lines(&rt)?;
+    joined_cuts::lines(&rt)?;
+    joined_drops::lines(&rt)?;
+    joined_job::lines(&rt)?;
+    one_by_one::lines(&rt)?;
     dealing::lines(&rt)
 }

@@ -1,7 +1,7 @@
 // First match counts: each call with all its grounds at once, then without the first of them, and so on until it is taken.
 ghost use Rattle.lists.specs.Tabulate.{tabulate};
-ghost use Rattle.rules.specs.Calls.{start_rule, speak_rule, hear_rule};
-ghost use Rattle.walk.specs.Walk.{box_tape, filler, spent_tally, Answered};
+ghost use Rattle.rules.specs.Calls.{speak_rule, hear_rule};
+ghost use Rattle.walk.specs.Walk.{box_tape, filler, spent_tally, one_start, Answered};
 
 use crate::calls::{FILLER, Tried};
 use crate::hears::of_words;
@@ -23,12 +23,11 @@ fn wakes(rt: &impl Print) -> io::Result<()> {
 }
 
 // A start with shares, tape and work that are refused, where tapes 0 and 2 are spent: 0 and 1 are late.
-#[tactic(auto, unfolding(rules::specs::Calls::start_rule, rules::specs::Grounds::start_ground))]
 fn wrong_start(state: State, number: u32) -> Tried
-    ensures { Answered result state spent_tally (start_rule state number 7 7 (box_tape 2 0) (tabulate 99 (λ k. 0)) spent_tally) }
+    ensures { Answered result state spent_tally (one_start state number 7 7 (box_tape 2 0) (tabulate 99 (λ k. 0)) spent_tally) }
 {
     let tape = plain(2, 0);
-    calls::start(state, number, 7, 7, &tape, &[0; 99], spent())
+    calls::start_one(state, number, 7, 7, &tape, &[0; 99], spent())
 }
 
 // On a fresh tape: without the wrong shares, then without the other box's tape, then with all of the work.
@@ -36,10 +35,10 @@ fn fresh_starts(rt: &impl Print) -> io::Result<()> {
     let idle = states::idle();
     let other = plain(2, 0);
     let own = plain(1, 0);
-    short(rt, calls::start(idle, 0, 7, 7, &other, &[0; 99], FRESH))?;
-    short(rt, calls::start(idle, 0, 5, 1, &other, &[0; 99], FRESH))?;
-    short(rt, calls::start(idle, 0, 5, 1, &own, &[0; 99], FRESH))?;
-    short(rt, calls::start(idle, 0, 5, 1, &own, &[0; 100], FRESH))
+    short(rt, calls::start_one(idle, 0, 7, 7, &other, &[0; 99], FRESH))?;
+    short(rt, calls::start_one(idle, 0, 5, 1, &other, &[0; 99], FRESH))?;
+    short(rt, calls::start_one(idle, 0, 5, 1, &own, &[0; 99], FRESH))?;
+    short(rt, calls::start_one(idle, 0, 5, 1, &own, &[0; 100], FRESH))
 }
 
 fn starts(rt: &impl Print) -> io::Result<()> {

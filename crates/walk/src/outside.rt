@@ -1,11 +1,12 @@
 // A state outside the ranges counts as asleep in every call: wake is taken, the others are refused with 1.
-ghost use Rattle.std.specs.Prelude.{◌≡◌};
+ghost use Rattle.std.specs.Prelude.{◌≡◌, [], ◌∷◌};
+ghost use Rattle.rules.specs.Batches.{batch_of};
 ghost use Rattle.rules.specs.declared.state.Phase.TheVariants.{Job};
 
 use crate::five::Box1;
 use crate::states;
 use crate::tallies::FRESH;
-use rules::state::{Phase, State, Turn};
+use rules::state::{Batch, State, Turn};
 use std::io;
 
 fn line(rt: &impl Print, label: &str, state: State) -> io::Result<()> {
@@ -46,12 +47,15 @@ fn tally_lengths(rt: &impl Print) -> io::Result<()> {
 }
 
 fn job(turn: Turn, number: u32, x: u32, y: u32) -> State
-    ensures { result ≡ record { n = 3; side = 1; pair = 5; tally = 16; phase = Job turn number x y } }
+    ensures { result ≡ record { n = 3; side = 1; pair = 5; tally = 16; phase = Job turn; batch = batch_of number 1 (x ∷ y ∷ []) } }
 {
-    State {
-        phase: Phase::Job { turn, number, x, y },
-        ..states::idle()
-    }
+    let batch = Batch {
+        first: number,
+        count: 1,
+        x: [x, 0, 0, 0, 0, 0, 0, 0],
+        y: [y, 0, 0, 0, 0, 0, 0, 0],
+    };
+    states::in_job(turn, batch)
 }
 
 // The words of a job.

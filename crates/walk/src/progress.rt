@@ -1,77 +1,33 @@
-// Both boxes step by step through a job on tape 0.
-ghost use Rattle.std.specs.Prelude.{◌≡◌, take};
-ghost use Rattle.lists.specs.Tabulate.{tabulate};
-ghost use Rattle.protocol.specs.Rounds.{round_words};
-ghost use Rattle.rules.specs.Calls.{wake_rule, start_rule, speak_rule, hear_rule};
-ghost use Rattle.exchange.specs.Opening.{first_state};
-ghost use Rattle.walk.specs.Walk.{fresh_tally, box_tape, tally_after, After};
-ghost use Rattle.walk.specs.declared.job_steps.Step.TheVariants.{Start};
+// Both boxes step by step through a job.
+ghost use Rattle.std.specs.Prelude.{◌≡◌, ◌≤◌};
+ghost use Rattle.protocol.specs.Sizes.{round_for};
+ghost use Rattle.walk.specs.Walk.{tally_after};
+ghost use Rattle.walk.specs.Courses.{asked_of, plain_job, Woken, Stepped, Course, CourseFrom};
+ghost use Rattle.walk.specs.declared.job_steps.Step.TheVariants.{Start, Speak, Hear};
 
-use crate::answers::Answer;
 use crate::five::Box1;
 use crate::job_steps::Step;
-use crate::{answers, tallies, tapes};
-use rules::state;
-use rules::state::State;
+use crate::memory::BoxMemory;
+use crate::tapes;
 
-// What a box answered last, its state, and the buffers that it is lent.
+// A job of both boxes: the numbers of its tapes, and the shares and the tapes that each box is lent.
 #[derive(Clone, Copy)]
-pub struct BoxMemory {
-    pub answer: Answer,
-    pub state: State,
-    pub work: [u32; 100],
-    pub out: [u32; 33],
-    pub tally: [u8; 16],
+pub struct Job<'a> {
+    pub first: u32,
+    pub count: u32,
+    pub shares1: &'a [u32],
+    pub shares2: &'a [u32],
+    pub tapes1: &'a [u32],
+    pub tapes2: &'a [u32],
 }
 
-impl BoxMemory {
-    // A box that has woken. The words in its buffers are of no account.
-    pub fn woken(side: u32) -> BoxMemory
-        ensures { After result result.tally (wake_rule first_state 3 side 5 fresh_tally) × (result.work ≡ tabulate 100 (λ k. 6)) × (result.out ≡ tabulate 33 (λ k. 6)) }
+impl<'a> Job<'a> {
+    // The words of its messages.
+    pub fn words(self, round: u32) -> usize
+        requires { self.count ≤ 3 }
+        ensures { (result ≤ 99) × (result ≡ round_for 3 self.entry.count round) }
     {
-        let tally = tallies::FRESH;
-        let mut state = state::FIRST;
-        let answer = limit_box::wake(&mut state, 3, side, tapes::PAIR, &tally);
-        BoxMemory {
-            answer: answers::of_wake(answer),
-            state,
-            work: [6; 100],
-            out: [6; 33],
-            tally,
-        }
-    }
-
-    pub fn start(&mut self, side: u32, x: u32, y: u32)
-        ensures { After self.new self.new.tally (start_rule self.old.state 0 x y (box_tape side 0) self.old.work self.old.tally) × (self.new.work ≡ self.old.work) × (self.new.out ≡ self.old.out) }
-    {
-        let tape = tapes::plain(side, 0);
-        let answer = limit_box::start(&mut self.state, 0, x, y, &tape, &self.work, &mut self.tally);
-        self.answer = answers::of_start(answer);
-    }
-
-    pub fn speak(&mut self, side: u32, round: u32)
-        ensures { After self.new self.new.out (speak_rule self.old.state 0 round (box_tape side 0) self.old.work self.old.out) × (self.new.tally ≡ self.old.tally) × (self.new.work ≡ self.old.work) }
-    {
-        let tape = tapes::plain(side, 0);
-        let answer = limit_box::speak(&mut self.state, 0, round, &tape, &self.work, &mut self.out);
-        self.answer = answers::of_speak(answer);
-    }
-
-    // The message is the first words of these, as in the other box's out: without a heap the room is of one size.
-    pub fn hear(&mut self, tape: &[u32], round: u32, incoming: [u32; 33])
-        ensures { After self.new self.new.work (hear_rule self.old.state 0 round tape.now self.old.work (take (round_words 3 round) incoming))
-            × (self.new.tally ≡ self.old.tally) × (self.new.out ≡ self.old.out) }
-    {
-        let count = crate::five::words(round);
-        let answer = limit_box::hear(
-            &mut self.state,
-            0,
-            round,
-            tape,
-            &mut self.work,
-            &incoming[..count],
-        );
-        self.answer = answers::of_hear(answer);
+        self.count as usize * crate::five::words(round)
     }
 }
 
@@ -82,68 +38,90 @@ pub struct Pair {
 }
 
 impl Pair {
-    fn start(&mut self)
-        ensures { After self.new.box1 self.new.box1.tally (start_rule self.old.box1.state 0 5 1 (box_tape 1 0) self.old.box1.work self.old.box1.tally)
-            × After self.new.box2 self.new.box2.tally (start_rule self.old.box2.state 0 5 3 (box_tape 2 0) self.old.box2.work self.old.box2.tally) }
+    // Both boxes have woken.
+    pub fn woken() -> Pair
+        ensures { Woken result }
     {
-        self.box1.start(1, 5, 1);
-        self.box2.start(2, 5, 3);
+        Pair {
+            box1: BoxMemory::woken(1),
+            box2: BoxMemory::woken(2),
+        }
     }
 
-    fn speak(&mut self, round: u32)
-        ensures { After self.new.box1 self.new.box1.out (speak_rule self.old.box1.state 0 round (box_tape 1 0) self.old.box1.work self.old.box1.out)
-            × (self.new.box1.tally ≡ self.old.box1.tally)
-            × After self.new.box2 self.new.box2.out (speak_rule self.old.box2.state 0 round (box_tape 2 0) self.old.box2.work self.old.box2.out)
-            × (self.new.box2.tally ≡ self.old.box2.tally) }
+    fn start(&mut self, job: Job<'_>)
+        ensures { Stepped (asked_of job.entry) Start self.old self.new }
     {
-        self.box1.speak(1, round);
-        self.box2.speak(2, round);
+        let Job { first, count, .. } = job;
+        self.box1.start(first, count, job.shares1, job.tapes1);
+        self.box2.start(first, count, job.shares2, job.tapes2);
     }
 
-    // A hear leaves out as it was, so box 2 hears what box 1 spoke.
-    fn hear(&mut self, round: u32)
-        ensures { After self.new.box1 self.new.box1.work (hear_rule self.old.box1.state 0 round (box_tape 1 0) self.old.box1.work (take (round_words 3 round) self.old.box2.out))
-            × (self.new.box1.tally ≡ self.old.box1.tally)
-            × After self.new.box2 self.new.box2.work (hear_rule self.old.box2.state 0 round (box_tape 2 0) self.old.box2.work (take (round_words 3 round) self.old.box1.out))
-            × (self.new.box2.tally ≡ self.old.box2.tally) }
+    fn speak(&mut self, job: Job<'_>, round: u32)
+        ensures { Stepped (asked_of job.entry) (Speak round) self.old self.new }
     {
-        let tape1 = tapes::plain(1, 0);
-        let tape2 = tapes::plain(2, 0);
-        self.box1.hear(&tape1, round, self.box2.out);
-        self.box2.hear(&tape2, round, self.box1.out);
+        self.box1.speak(job.first, round, job.tapes1);
+        self.box2.speak(job.first, round, job.tapes2);
     }
 
-    fn step(&mut self, step: Step)
-        ensures { (step ≡ Start → After self.new.box1 self.new.box1.tally (start_rule self.old.box1.state 0 5 1 (box_tape 1 0) self.old.box1.work self.old.box1.tally))
-            × ((step ≡ Start → ⊥) → self.new.box1.tally ≡ self.old.box1.tally) }
+    // The messages are the first words of the boxes' outs: without a heap the room is of one size. A hear leaves out as it was, so box 2 hears
+    // what box 1 spoke.
+    fn hear(&mut self, job: Job<'_>, round: u32)
+        requires { job.count ≤ 3 }
+        ensures { Stepped (asked_of job.entry) (Hear round) self.old self.new }
+    {
+        let words = job.words(round);
+        let to1 = &self.box2.out[..words];
+        self.box1.hear(job.first, round, job.tapes1, to1);
+        let to2 = &self.box1.out[..words];
+        self.box2.hear(job.first, round, job.tapes2, to2);
+    }
+
+    fn step(&mut self, job: Job<'_>, step: Step)
+        requires { job.count ≤ 3 }
+        ensures { Stepped (asked_of job.entry) step self.old self.new }
     {
         match step {
             // a box is awake from the first on
             Step::Wake => {}
-            Step::Start => self.start(),
-            Step::Speak(round) => self.speak(round),
-            Step::Hear(round) => self.hear(round),
+            Step::Start => self.start(job),
+            Step::Speak(round) => self.speak(job, round),
+            Step::Hear(round) => self.hear(job, round),
+        }
+    }
+
+    // So many steps of a job, of which the wake is done.
+    #[tactic(auto, using(crate::specs::Courses::none, crate::specs::Courses::next))]
+    pub fn walk(&mut self, job: Job<'_>, steps: u32)
+        requires { job.count ≤ 3 }
+        ensures { Course (asked_of job.entry) self.old steps self.new }
+    {
+        for earlier in 0..steps {
+            self.step(job, Step::at(earlier + 1));
         }
     }
 }
 
-// Both boxes after so many steps; after wake at 0.
-#[tactic(auto, using(crate::proofs::Reached::woken_four, crate::proofs::Reached::woken_tally, crate::proofs::Reached::next_tally))]
+// Both boxes after so many steps of a job on tape 0; after wake at 0.
+#[tactic(auto, using(crate::proofs::Reached::tally_is))]
 pub fn reached(steps: u32) -> Pair
-    ensures { result.box1.tally ≡ tally_after steps }
+    ensures tally { result.box1.tally ≡ tally_after steps }
+    ensures course { CourseFrom Woken plain_job steps result }
 {
-    let mut pair = Pair {
-        box1: BoxMemory::woken(1),
-        box2: BoxMemory::woken(2),
+    let job = Job {
+        first: 0,
+        count: 1,
+        shares1: &[5, 1],
+        shares2: &[5, 3],
+        tapes1: &tapes::plain(1, 0),
+        tapes2: &tapes::plain(2, 0),
     };
-    for earlier in 0..steps {
-        pair.step(Step::at(earlier + 1));
-    }
+    let mut pair = Pair::woken();
+    pair.walk(job, steps);
     pair
 }
 
-// What is left of box 1 after so many steps.
-pub fn box1_after(steps: u32) -> Box1
+// What is left of box 1 after so many of them.
+pub fn box1_after(steps: u32) -> Box1<16>
     ensures { result.tally ≡ tally_after steps }
 {
     let BoxMemory { state, tally, .. } = reached(steps).box1;

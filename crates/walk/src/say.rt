@@ -2,6 +2,7 @@
 use crate::answers::Answer;
 use crate::calls::Tried;
 use refusals::Refusal;
+use rules::state::Batch;
 use std::fmt::Display;
 use std::io;
 
@@ -11,6 +12,21 @@ pub fn bytes(rt: &impl Print, list: &[u8]) -> io::Result<()> {
         print!(rt; " {byte}")?;
     }
     Ok(())
+}
+
+fn words(rt: &impl Print, list: &[u32]) -> io::Result<()> {
+    for word in list {
+        print!(rt; " {word}")?;
+    }
+    Ok(())
+}
+
+// What a state holds of a job.
+pub fn batch(rt: &impl Print, batch: Batch) -> io::Result<()> {
+    print!(rt; " first {}, count {}, x", batch.first, batch.count)?;
+    words(rt, &batch.x)?;
+    print!(rt; ", y")?;
+    words(rt, &batch.y)
 }
 
 // What was answered, in words.

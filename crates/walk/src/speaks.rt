@@ -1,5 +1,4 @@
 // Speak's grounds: 1, 6, 11, 10, 12.
-#![tactic(auto, unfolding(rules::specs::Calls::speak_rule, rules::specs::Grounds::speak_ground))]
 
 ghost use Rattle.lists.specs.Tabulate.{tabulate};
 ghost use Rattle.rules.specs.Calls.{speak_rule};

@@ -1,12 +1,10 @@
 // Start's grounds: 1, 5, 4, 7, 8, 15, 9, 10, 12.
-#![tactic(auto, unfolding(rules::specs::Calls::start_rule, rules::specs::Grounds::start_ground))]
 
 ghost use Rattle.std.specs.Prelude.{◌≡◌, ◌<◌, set};
 ghost use Rattle.lists.specs.Tabulate.{tabulate};
-ghost use Rattle.rules.specs.Calls.{start_rule};
-ghost use Rattle.walk.specs.Walk.{idle_state, box_tape, fresh_tally, Answered};
+ghost use Rattle.walk.specs.Walk.{idle_state, box_tape, fresh_tally, one_start, Answered};
 
-use crate::calls::{Tried, start};
+use crate::calls::{Tried, start_one};
 use crate::five::Box1;
 use crate::say::{bytes, line};
 use crate::tallies::FRESH;
@@ -16,7 +14,7 @@ use std::io;
 
 // With a fresh tally.
 fn on_number(state: State, number: u32) -> Tried
-    ensures { Answered result state fresh_tally (start_rule state number 5 1 (box_tape 1 number) (tabulate 100 (λ k. 0)) fresh_tally) }
+    ensures { Answered result state fresh_tally (one_start state number 5 1 (box_tape 1 number) (tabulate 100 (λ k. 0)) fresh_tally) }
 {
     let box1 = Box1 {
         state,
@@ -43,7 +41,7 @@ fn states_and_numbers(rt: &impl Print) -> io::Result<()> {
 
 // A start on tape 0 with those marks.
 pub fn on_marks(tally: [u8; 16]) -> Tried
-    ensures { Answered result (idle_state 16) tally (start_rule (idle_state 16) 0 5 1 (box_tape 1 0) (tabulate 100 (λ k. 0)) tally) }
+    ensures { Answered result (idle_state 16) tally (one_start (idle_state 16) 0 5 1 (box_tape 1 0) (tabulate 100 (λ k. 0)) tally) }
 {
     let box1 = Box1 {
         state: states::idle(),
@@ -86,10 +84,10 @@ fn below_spent(rt: &impl Print) -> io::Result<()> {
 
 // A start with those shares, and that work.
 fn on_shares(x: u32, y: u32, work: &[u32]) -> Tried
-    ensures { Answered result (idle_state 16) fresh_tally (start_rule (idle_state 16) 0 x y (box_tape 1 0) work.now fresh_tally) }
+    ensures { Answered result (idle_state 16) fresh_tally (one_start (idle_state 16) 0 x y (box_tape 1 0) work.now fresh_tally) }
 {
     let tape = tapes::plain(1, 0);
-    start(states::idle(), 0, x, y, &tape, work, FRESH)
+    start_one(states::idle(), 0, x, y, &tape, work, FRESH)
 }
 
 fn shares_and_room(rt: &impl Print) -> io::Result<()> {
@@ -100,9 +98,9 @@ fn shares_and_room(rt: &impl Print) -> io::Result<()> {
 
 // A start on number 0 that is lent this tape.
 fn on_tape(tape: &[u32]) -> Tried
-    ensures { Answered result (idle_state 16) fresh_tally (start_rule (idle_state 16) 0 5 1 tape.now (tabulate 100 (λ k. 0)) fresh_tally) }
+    ensures { Answered result (idle_state 16) fresh_tally (one_start (idle_state 16) 0 5 1 tape.now (tabulate 100 (λ k. 0)) fresh_tally) }
 {
-    start(states::idle(), 0, 5, 1, tape, &[0; 100], FRESH)
+    start_one(states::idle(), 0, 5, 1, tape, &[0; 100], FRESH)
 }
 
 fn tape_lengths(rt: &impl Print) -> io::Result<()> {
@@ -113,7 +111,7 @@ fn tape_lengths(rt: &impl Print) -> io::Result<()> {
 // Another word in one place of the tape.
 pub fn on_changed(place: usize, word: u32) -> Tried
     requires { place < 149 }
-    ensures { Answered result (idle_state 16) fresh_tally (start_rule (idle_state 16) 0 5 1 (set (box_tape 1 0) place word) (tabulate 100 (λ k. 0)) fresh_tally) }
+    ensures { Answered result (idle_state 16) fresh_tally (one_start (idle_state 16) 0 5 1 (set (box_tape 1 0) place word) (tabulate 100 (λ k. 0)) fresh_tally) }
 {
     on_tape(&tapes::changed(place, word))
 }
@@ -137,12 +135,12 @@ fn trailers(rt: &impl Print) -> io::Result<()> {
 
 // The tally after a start on that tape.
 fn tally_after(number: u32, tally: [u8; 16]) -> [u8; 16]
-    ensures { result ≡ (start_rule (idle_state 16) number 5 1 (box_tape 1 number) (tabulate 100 (λ k. 0)) tally).buffer }
+    ensures { result ≡ (one_start (idle_state 16) number 5 1 (box_tape 1 number) (tabulate 100 (λ k. 0)) tally).buffer }
 {
     let mut state = states::idle();
     let mut after = tally;
     let tape = tapes::plain(1, number);
-    let _ = limit_box::start(&mut state, number, 5, 1, &tape, &[0; 100], &mut after);
+    let _ = limit_box::start(&mut state, number, 1, &[5, 1], &tape, &[0; 100], &mut after);
     after
 }
 

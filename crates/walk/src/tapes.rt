@@ -1,8 +1,8 @@
 // The plain tapes of width 3, the tapes of threes, and such as are no tapes.
-ghost use Rattle.std.specs.Prelude.{◌≡◌, ◌<◌, ◌≤◌, ◌-◌, length, replicate, set, ◌++◌};
+ghost use Rattle.std.specs.Prelude.{◌≡◌, ◌<◌, ◌≤◌, ◌-◌, ◌+◌, ◌*◌, length, replicate, set, ◌++◌};
 ghost use Rattle.lists.specs.Tabulate.{tabulate};
 ghost use Rattle.tape.specs.Layout.{trailer};
-ghost use Rattle.walk.specs.Walk.{box_tape, threes_tape};
+ghost use Rattle.walk.specs.Walk.{box_tape, joined_tapes, threes_tape};
 
 use field::Width;
 use tape::Label;
@@ -73,4 +73,25 @@ pub fn long() -> [u32; 150]
     ensures { (length result ≡ 150) × (result ≡ tabulate 143 (λ k. 0) ++ trailer 3 5 1 0) }
 {
     of_word(0, 1)
+}
+
+// Writes plain tapes one after the other, one for each of these sides, on consecutive tape numbers.
+fn join(tapes: &mut [u32], sides: &[u32], first: u32)
+    requires { (length tapes.old ≡ 149 * length sides.now) × (first + length sides.now ≤ 4294967296) }
+    ensures { tapes.new ≡ joined_tapes sides.now first }
+{
+    for i in 0..sides.len() {
+        let from = 149 * i;
+        tapes[from..from + 149].copy_from_slice(&plain(sides[i], first + i as u32));
+    }
+}
+
+// Such tapes joined.
+pub fn joined<const N: usize>(sides: &[u32], first: u32) -> [u32; N]
+    requires { (149 * length sides.now ≡ N) × (first + length sides.now ≤ 4294967296) }
+    ensures { (length result ≡ N) × (result ≡ joined_tapes sides.now first) }
+{
+    let mut tapes = [0u32; N];
+    join(&mut tapes, sides, first);
+    tapes
 }

@@ -4,8 +4,8 @@ ghost use Rattle.lists.specs.Tabulate.{tabulate};
 ghost use Rattle.protocol.specs.Rounds.{last_round};
 ghost use Rattle.walk.specs.Walk.{HeardAsZeros};
 
+use crate::memory::BoxMemory;
 use crate::progress;
-use crate::progress::BoxMemory;
 use std::io;
 
 // Whether two boxes gave the same answer, and have the same state and work.
@@ -26,8 +26,9 @@ pub fn as_zeros(b: BoxMemory, side: u32, round: u32, incoming: [u32; 33]) -> boo
     let tape = crate::tapes::threes(side);
     let mut after = b;
     let mut zeros = b;
-    after.hear(&tape, round, incoming);
-    zeros.hear(&tape, round, [0; 33]);
+    let words = crate::five::words(round);
+    after.hear(0, round, &tape, &incoming[..words]);
+    zeros.hear(0, round, &tape, &[0; 33][..words]);
     after.answer.is_ok() && same(after, zeros)
 }
 
