@@ -3,7 +3,7 @@ use Prim.Native.Nat.{◌<◌}
 use native.Mathlib.Omega.{arith}
 use Rattle.refusals.specs.Numbers.{number_of}
 use Rattle.refusals.specs.declared.Refusal.{Refusal}
-use Rattle.refusals.specs.declared.Refusal.TheVariants.{Asleep, Width, Side, Tally, Busy, NoJob, Number, Spent, Share, Tape, Turn, Room, Word, Seed, Late, Count}
+use Rattle.refusals.specs.declared.Refusal.TheVariants.{Asleep, Width, Side, Tally, Busy, NoJob, Number, Spent, Share, Tape, Turn, Room, Word, Seed, Late, Count, Bounds}
 
 pub numbered : (r : Refusal) → 0 < number_of r
 numbered Asleep = omega arith
@@ -22,3 +22,4 @@ numbered Word = omega arith
 numbered Seed = omega arith
 numbered Late = omega arith
 numbered Count = omega arith
+numbered Bounds = omega arith

@@ -1,7 +1,7 @@
 -- The number of each refusal: document 01's, and those that requests of document 02 add.
 use Rattle.std.specs.Prelude.{ℕ}
 use Rattle.refusals.specs.declared.Refusal.{Refusal}
-use Rattle.refusals.specs.declared.Refusal.TheVariants.{Asleep, Width, Side, Tally, Busy, NoJob, Number, Spent, Share, Tape, Turn, Room, Word, Seed, Late, Count}
+use Rattle.refusals.specs.declared.Refusal.TheVariants.{Asleep, Width, Side, Tally, Busy, NoJob, Number, Spent, Share, Tape, Turn, Room, Word, Seed, Late, Count, Bounds}
 
 abbrev pub number_of : Refusal → ℕ
 number_of Asleep = 1
@@ -20,3 +20,4 @@ number_of Word = 13
 number_of Seed = 14
 number_of Late = 15
 number_of Count = 16
+number_of Bounds = 17

@@ -26,6 +26,8 @@ pub enum Refusal {
     Late = 15,
     // of jobs
     Count = 16,
+    // a band's
+    Bounds = 17,
 }
 
 impl From<Refusal> for u32 {

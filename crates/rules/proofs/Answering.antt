@@ -1,6 +1,6 @@
 -- Demand 1 over the rules, proved: from what is refused (Refusals), what a call that goes on was given (Passed), and its moves (Moves).
 use Prim.Native.Nat.{ℕ, ◌+◌, ◌-◌, ◌≤◌}
-use mathlib.Core.Path.{◌≡◌, refl, sym, ap, ◌∙◌}
+use mathlib.Core.Path.{◌≡◌, refl, sym, ap, ap₂, ◌∙◌}
 use mathlib.Core.Bool.{Bool, true, false, cond, or-true, true≢false}
 use mathlib.Core.List.{List, [], ◌∷◌, ◌++◌}
 use native.Mathlib.Omega.{arith}
@@ -15,12 +15,15 @@ use Rattle.refusals.specs.Numbers.{number_of}
 use Rattle.refusals.specs.Grounds.{Ground, earliest_of, numbers_of, joined}
 use Rattle.tally.specs.Tally.{tally_fits, tapes_of}
 use Rattle.tally.proofs.Starts.{starts}
+use Rattle.rules.specs.Tasks.{count_of, pairs_of}
 use Rattle.rules.specs.Modes.{in_range, mode_of, is_asleep, in_job, asleep_state}
-use Rattle.rules.specs.Grounds.{one_parts, start_grounds, wake_ground, start_ground, speak_ground, hear_ground, drop_ground}
+use Rattle.rules.specs.Grounds.{asked_parts, one_parts, start_grounds, wake_ground, start_ground, speak_ground, hear_ground, drop_ground}
 use Rattle.rules.specs.Calls.{wake_rule, start_rule}
-use Rattle.rules.specs.AnyCall.{Call, wake, start, speak, hear, drop, ground_of, result_of, is_wake, is_refused, order_of, grounds_of}
+use Rattle.rules.specs.AnyCall.{Call, wake, start, speak, hear, drop, ground_of, result_of, is_wake, is_refused, asked_order, order_of, grounds_of}
 use Rattle.rules.specs.Moves.{Opens, TakesJob}
 use Rattle.rules.specs.Answering.{Answering}
+use Rattle.rules.specs.declared.state.Task.{Task}
+use Rattle.rules.specs.declared.state.Task.TheVariants.{Compare, Band}
 use Rattle.rules.specs.declared.state.Phase.TheVariants.{Asleep}
 use Rattle.rules.specs.declared.state.State.{State}
 use Rattle.rules.proofs.Batches.{count_most}
@@ -61,22 +64,28 @@ wakes s n side pair tally asleep width sided fits =
 first_is : (s : State) (call : Call) → ground_of s call ≡ earliest_of (grounds_of s call)
 unfolding wake_ground start_ground speak_ground hear_ground drop_ground
 first_is s (wake n side pair tally) = refl
-first_is s (start first count shares tapes work tally) = refl
+first_is s (start first task shares tapes work tally) = refl
 first_is s (speak first round tapes work out) = refl
 first_is s (hear first round tapes work incoming) = refl
 first_is s drop = refl
 
+-- those of what is asked
+asked_numbers : (s : State) (task : Task) (shares tally : List ℕ) → numbers_of (joined (asked_parts s task shares tally)) ≡ asked_order task
+asked_numbers s (Compare count) shares tally = refl
+asked_numbers s (Band low high) shares tally = refl
+
 -- a start's, job by job
-start_order : (s : State) (first count : ℕ) (shares tapes work tally : List ℕ)
-    → numbers_of (start_grounds s first count shares tapes work tally) ≡ order_of (start first count shares tapes work tally)
-start_order s first count shares tapes work tally =
-    let one : ℕ → List Ground = λ i. joined (one_parts s first count shares tapes tally i) in
-    ap (λ (rest : List ℕ). 1 ∷ 5 ∷ 16 ∷ 4 ∷ 12 ∷ rest)
-    (map-append _ (chained count one) _ ∙ ap (λ (numbers : List ℕ). numbers ++ (12 ∷ [])) (numbers_chained count one))
+start_order : (s : State) (first : ℕ) (task : Task) (shares tapes work tally : List ℕ)
+    → numbers_of (start_grounds s first task shares tapes work tally) ≡ order_of (start first task shares tapes work tally)
+start_order s first task shares tapes work tally =
+    let count = count_of task in
+    let one : ℕ → List Ground = λ i. joined (one_parts s first count (pairs_of s.side task shares) tapes tally i) in
+    let jobs = map-append _ (chained count one) _ ∙ ap (λ (numbers : List ℕ). numbers ++ (12 ∷ [])) (numbers_chained count one) in
+    ap (λ (rest : List ℕ). 1 ∷ 5 ∷ rest) (map-append _ (joined (asked_parts s task shares tally)) _ ∙ ap₂ ◌++◌ (asked_numbers s task shares tally) jobs)
 
 order_is : (s : State) (call : Call) → numbers_of (grounds_of s call) ≡ order_of call
 order_is s (wake n side pair tally) = refl
-order_is s (start first count shares tapes work tally) = start_order s first count shares tapes work tally
+order_is s (start first task shares tapes work tally) = start_order s first task shares tapes work tally
 order_is s (speak first round tapes work out) = refl
 order_is s (hear first round tapes work incoming) = refl
 order_is s drop = refl
@@ -129,40 +138,40 @@ refused_no_job : (s : State) (call : Call) → (ground_of s call ≡ 0 → ⊥) 
 refused_no_job s call z e h = true≢false (sym h ∙ ap in_job (same_mode s call z) ∙ e)
 
 -- the last of a start's numbers is a tape's
-all_within : (s : State) (first count : ℕ) (shares tapes work tally : List ℕ) → StartPassed s first count shares tapes work tally
-    → first + count ≤ tapes_of (length tally)
-all_within s first count shares tapes work tally p =
-    let least = (count_most count p.counted).0 in
-    omega (arith, p.numbered (count - 1) (omega arith), least)
+all_within : (s : State) (first : ℕ) (task : Task) (shares tapes work tally : List ℕ) → StartPassed s first task shares tapes work tally
+    → first + count_of task ≤ tapes_of (length tally)
+all_within s first task shares tapes work tally p =
+    let least = (count_most (count_of task) p.counted).0 in
+    omega (arith, p.numbered (count_of task - 1) (omega arith), least)
 
-opened : (s : State) (first count : ℕ) (shares tapes work tally : List ℕ) → start_ground s first count shares tapes work tally ≡ 0
-    → Opens s first count shares tally (start_rule s first count shares tapes work tally)
+opened : (s : State) (first : ℕ) (task : Task) (shares tapes work tally : List ℕ) → start_ground s first task shares tapes work tally ≡ 0
+    → Opens s first task shares tally (start_rule s first task shares tapes work tally)
 unfolding start_rule
-opened s first count shares tapes work tally z =
-    let p = start_passed s first count shares tapes work tally z in
-    let left = starts.marks tally first count (all_within s first count shares tapes work tally p) in
+opened s first task shares tapes work tally z =
+    let p = start_passed s first task shares tapes work tally z in
+    let left = starts.marks tally first (count_of task) (all_within s first task shares tapes work tally p) in
     record {
       awake = p.awake;
       same_length = p.same_tally;
-      two_each = p.listed;
+      asked = p.asked;
       was_fresh = p.fresh;
       not_late = p.in_time;
       is_spent = rw z left.spent;
       left_length = rw z left.same_length;
       others = rw z left.elsewhere;
-      phase = started_job s first count shares tapes work tally z;
+      phase = started_job s first task shares tapes work tally z;
       batch = rw z refl;
     }
 
 takes_job : (s : State) (call : Call) → in_job (mode_of s) ≡ false → in_job (mode_of (result_of s call).state) ≡ true → TakesJob s call
 takes_job s (wake n side pair tally) e h = true≢false (sym h ∙ wake_no_job s n side pair tally e)
-takes_job s (start first count shares tapes work tally) e h = go (eqb (start_ground s first count shares tapes work tally) 0) refl
+takes_job s (start first task shares tapes work tally) e h = go (eqb (start_ground s first task shares tapes work tally) 0) refl
   where
     call : Call
-    call = start first count shares tapes work tally
+    call = start first task shares tapes work tally
 
     go : (t : Bool) → eqb (ground_of s call) 0 ≡ t → TakesJob s call
-    go true z = opened s first count shares tapes work tally (eqb-true (ground_of s call) 0 z)
+    go true z = opened s first task shares tapes work tally (eqb-true (ground_of s call) 0 z)
     go false z = absurd (refused_no_job s call (eqb-false (ground_of s call) 0 z) e h)
 takes_job s (speak first round tapes work out) e h =
     refused_no_job s (speak first round tapes work out) (speak_refused s first round tapes work out e) e h
@@ -196,7 +205,7 @@ both_one s r call a b e = asleep_refuses s call a e ∙ sym (asleep_refuses r ca
 
 asleep_ground : (s r : State) (call : Call) → is_asleep (mode_of s) ≡ true → is_asleep (mode_of r) ≡ true → ground_of s call ≡ ground_of r call
 asleep_ground s r (wake n side pair tally) a b = wake_same s r n side tally (a ∙ sym b)
-asleep_ground s r (start first count shares tapes work tally) a b = both_one s r (start first count shares tapes work tally) a b refl
+asleep_ground s r (start first task shares tapes work tally) a b = both_one s r (start first task shares tapes work tally) a b refl
 asleep_ground s r (speak first round tapes work out) a b = both_one s r (speak first round tapes work out) a b refl
 asleep_ground s r (hear first round tapes work incoming) a b = both_one s r (hear first round tapes work incoming) a b refl
 asleep_ground s r drop a b = both_one s r drop a b refl

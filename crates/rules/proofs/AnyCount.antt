@@ -1,5 +1,5 @@
--- Jobs on plain tapes go, for every count.
-use Prim.Native.Nat.{ℕ, suc, ◌+◌, ◌*◌, ◌<◌, ◌≤◌}
+-- Jobs on plain tapes go, for every count and every band.
+use Prim.Native.Nat.{ℕ, zero, suc, ◌+◌, ◌*◌, ◌<◌, ◌≤◌}
 use mathlib.Core.Path.{◌≡◌, refl}
 use mathlib.Core.Bool.{true}
 use mathlib.Core.List.{List}
@@ -15,19 +15,26 @@ use Rattle.field.specs.Width.{listed, modulus}
 use Rattle.field.proofs.Widths.{bounds}
 use Rattle.shares.specs.Side.{is_side}
 use Rattle.shares.specs.Reading.{legible}
+use Rattle.shares.proofs.Sides.{constant_below}
 use Rattle.tape.specs.Layout.{tape_length}
 use Rattle.tape.specs.Plain.{plain_tape}
 use Rattle.tape.proofs.Orders.{readable}
 use Rattle.tape.proofs.Plains.{plain_order}
 use Rattle.protocol.specs.Work.{work_length}
-use Rattle.protocol.specs.Sizes.{most_jobs, count_fits, round_for, work_for}
+use Rattle.protocol.specs.Sizes.{most_jobs, round_for, work_for}
 use Rattle.tally.specs.Tally.{tally_fits, tapes_of, mark_at, is_fresh}
 use Rattle.tally.proofs.Late.{not_late}
+use Rattle.rules.specs.Tasks.{count_of, task_fits, pairs_of}
+use Rattle.rules.specs.Batches.{x_in, y_in}
+use Rattle.rules.specs.Moves.{Asked}
 use Rattle.rules.specs.Modes.{in_range, mode_of}
 use Rattle.rules.specs.Grounds.{words_fit}
 use Rattle.rules.specs.OneByOne.{Left, Lent}
-use Rattle.rules.specs.AnyCount.{awake_box, plain_jobs, AnyCount}
+use Rattle.rules.specs.AnyCount.{awake_box, shares_for, plain_jobs, AnyCount}
+use Rattle.rules.specs.declared.state.Task.{Task}
+use Rattle.rules.specs.declared.state.Task.TheVariants.{Compare, Band}
 use Rattle.rules.specs.declared.state.Phase.TheVariants.{Idle}
+use Rattle.rules.proofs.Tasks.{counted, bounds_in}
 use Rattle.rules.proofs.Batches.{count_most}
 use Rattle.rules.proofs.Passed.{StartPassed}
 use Rattle.rules.proofs.Goes.{start_goes}
@@ -70,15 +77,41 @@ zeros_fit n size =
     every_intro (length (zeros size)) (λ i. leb (get_or (zeros size) i 0) (modulus n))
     (λ i less. rw (zero_at size i (omega (arith, zeros_long size, less))) (le-leb 0 (modulus n) (omega arith)))
 
-module _ (n side count : ℕ) (width : listed n ≡ true) (box : is_side side ≡ true) (counted : count_fits count ≡ true) where
+-- the shares of x and y: zeros, and a band's bounds
+module _ (n side : ℕ) (width : listed n ≡ true) where
+  zero_fits : 0 < modulus n
+  zero_fits = omega (arith, (bounds width).seven)
+
+  x_below : (task : Task) (i : ℕ) → task_fits n task ≡ true → i < count_of task → x_in (pairs_of side task (zeros (shares_for task))) i < modulus n
+  x_below (Compare count) i fits less = rw (zero_at (2 * count) (2 * i) (omega arith)) zero_fits
+  x_below (Band low high) zero fits less =
+      let b = bounds_in n low high fits in
+      constant_below side (omega (arith, b.0, b.1))
+  x_below (Band low high) (suc zero) fits less = zero_fits
+  x_below (Band low high) (suc (suc i)) fits less = absurd (omega (arith, less))
+
+  y_below : (task : Task) (i : ℕ) → task_fits n task ≡ true → i < count_of task → y_in (pairs_of side task (zeros (shares_for task))) i < modulus n
+  y_below (Compare count) i fits less = rw (zero_at (2 * count) (2 * i + 1) (omega arith)) zero_fits
+  y_below (Band low high) zero fits less = zero_fits
+  y_below (Band low high) (suc zero) fits less = constant_below side (bounds_in n low high fits).1
+  y_below (Band low high) (suc (suc i)) fits less = absurd (omega (arith, less))
+
+plain_asked : (n : ℕ) (task : Task) → task_fits n task ≡ true → Asked n task (zeros (shares_for task))
+plain_asked n (Compare count) fits = zeros_long (2 * count)
+plain_asked n (Band low high) fits = bounds_in n low high fits
+
+module _ (n side : ℕ) (task : Task) (width : listed n ≡ true) (box : is_side side ≡ true) (fits : task_fits n task ≡ true) where
   abbrev l : Left
   l = awake_box n side
 
   abbrev j : Lent
-  j = plain_jobs n side count
+  j = plain_jobs n side task
+
+  abbrev count : ℕ
+  count = count_of task
 
   few : count ≤ most_jobs
-  few = (count_most count counted).1
+  few = (count_most count (counted n task fits)).1
 
   awake : mode_of l.state ≡ Idle
   unfolding mode_of in_range tally_fits
@@ -87,20 +120,21 @@ module _ (n side count : ℕ) (width : listed n ≡ true) (box : is_side side �
   one_long : (i : ℕ) → length (plain_tape n 0 side i) ≡ tape_length n
   one_long i = (readable n 0 side i (plain_tape n 0 side i) (plain_order n 0 side i width box)).long
 
-  given : StartPassed l.state 0 count j.shares j.tapes l.work l.tally
+  given : StartPassed l.state 0 task j.shares j.tapes l.work l.tally
   unfolding tapes_of
   given =
       record {
         awake = rw awake refl;
         idle = rw awake refl;
-        counted = counted;
+        fits = fits;
+        counted = counted n task fits;
         same_tally = refl;
-        listed = zeros_long (2 * count);
+        asked = plain_asked n task fits;
         numbered = λ i less. rw (zero-add i) (omega (arith, less, few));
         fresh = λ i less. rw (zero-add i) (all_fresh i (omega (arith, less, few)));
         in_time = λ i less. not_late l.tally (0 + i) (λ k above within. all_fresh k within);
-        x_fits = λ i less. rw (zero_at (2 * count) (2 * i) (omega arith)) (omega (arith, (bounds width).seven));
-        y_fits = λ i less. rw (zero_at (2 * count) (2 * i + 1) (omega arith)) (omega (arith, (bounds width).seven));
+        x_fits = λ i less. x_below n side width task i fits less;
+        y_fits = λ i less. y_below n side width task i fits less;
         long = length_chained count (tape_length n) (plain_tape n 0 side) (λ i less. one_long i);
         ordered = λ i less.
             rw (zero-add i, part_chained count (tape_length n) (plain_tape n 0 side) i less (λ k low. one_long k)) (plain_order n 0 side i width box);
@@ -108,13 +142,14 @@ module _ (n side count : ℕ) (width : listed n ≡ true) (box : is_side side �
       }
 
 pub any_count : AnyCount
-any_count n side count width box counted =
+any_count n side task width box fits =
     let l = awake_box n side in
-    let j = plain_jobs n side count in
+    let j = plain_jobs n side task in
+    let count = count_of task in
     clear_goes l j
     (fits_clear l j
     (record {
-      start = start_goes l.state 0 count j.shares j.tapes l.work l.tally (given n side count width box counted);
+      start = start_goes l.state 0 task j.shares j.tapes l.work l.tally (given n side task width box fits);
       roomy = λ r less. rw (zeros_long (round_for n count (suc r))) (omega arith);
       long = λ r less. zeros_long (round_for n count (suc r));
       legible = λ r less. zeros_fit n (round_for n count (suc r));

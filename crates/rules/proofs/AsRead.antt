@@ -12,7 +12,8 @@ use Rattle.shares.specs.Reading.{read, legible, read_words}
 use Rattle.shares.proofs.Reading.{length_read, get_d_read, legible_read}
 use Rattle.protocol.specs.Rounds.{last_round, round_words, after_hearing, answer_share}
 use Rattle.protocol.proofs.AsRead.{after_read, answer_read}
-use Rattle.rules.specs.Batches.{party_of, work_part, words_part, joined_after, answer_shares}
+use Rattle.rules.specs.Tasks.{count_of}
+use Rattle.rules.specs.Batches.{party_of, work_part, words_part, joined_after, answers_given, answer_shares}
 use Rattle.rules.specs.Grounds.{words_fit, hear_ground}
 use Rattle.rules.specs.Calls.{heard_after, hear_rule}
 use Rattle.rules.specs.AsRead.{HeardAsRead}
@@ -42,7 +43,7 @@ joined_read : (s : State) (tapes work : List ℕ) (round : ℕ) (incoming : List
 unfolding joined_after
 joined_read s tapes work round incoming =
     ap (sets work 0)
-    (chained_same s.batch.count _ _
+    (chained_same (count_of s.batch.task) _ _
     (λ i less.
     ap (after_hearing (party_of s tapes i) (work_part s.n work i) round) (part_read s.n round incoming i)
     ∙ after_read (party_of s tapes i) (work_part s.n work i) (words_part s.n round incoming i) round))
@@ -50,10 +51,11 @@ joined_read s tapes work round incoming =
 answers_read : (s : State) (tapes work incoming : List ℕ) → answer_shares s tapes work (read_words s.n incoming) ≡ answer_shares s tapes work incoming
 unfolding answer_shares
 answers_read s tapes work incoming =
-    each_same s.batch.count _ _
+    ap (answers_given s.n s.side s.batch.task)
+    (each_same (count_of s.batch.task) _ _
     (λ i less.
     ap (answer_share (party_of s tapes i) (work_part s.n work i)) (part_read s.n last_round incoming i)
-    ∙ answer_read (party_of s tapes i) (work_part s.n work i) (words_part s.n last_round incoming i))
+    ∙ answer_read (party_of s tapes i) (work_part s.n work i) (words_part s.n last_round incoming i)))
 
 pub heard_as_read : HeardAsRead
 unfolding hear_rule heard_after

@@ -14,8 +14,12 @@ use Rattle.lists.proofs.Tabulate.{length_tabulate, get_d_tabulate, tabulate_same
 use Rattle.protocol.specs.Sizes.{most_jobs, count_fits}
 use Rattle.protocol.specs.Products.{party}
 use Rattle.protocol.specs.Rounds.{last_round, answer_share}
+use Rattle.rules.specs.Tasks.{count_of, answer_count, band_share}
 use Rattle.rules.specs.Modes.{in_phase}
-use Rattle.rules.specs.Batches.{each_job, x_in, y_in, batch_of, tape_part, work_part, words_part, party_of, answer_shares}
+use Rattle.rules.specs.Batches.{each_job, x_in, y_in, batch_of, tape_part, work_part, words_part, party_of, answers_given, answer_shares}
+use Rattle.rules.specs.OneByOne.{answer_from}
+use Rattle.rules.specs.declared.state.Task.{Task}
+use Rattle.rules.specs.declared.state.Task.TheVariants.{Compare, Band}
 use Rattle.rules.specs.declared.state.Phase.{Phase}
 use Rattle.rules.specs.declared.state.State.{State}
 
@@ -23,6 +27,10 @@ pub count_most : (count : ℕ) → count_fits count ≡ true → (1 ≤ count) �
 unfolding count_fits
 count_most count e =
     (leb-true 1 count (and_left (leb 1 count) (leb count most_jobs) e), leb-true count most_jobs (and_right (leb 1 count) (leb count most_jobs) e))
+
+-- the only index below 1
+pub lone : (k : ℕ) → k < 1 → k ≡ 0
+lone k less = omega arith
 
 pub each_at : (count : ℕ) (f : ℕ → ℕ) (i : ℕ) → count_fits count ≡ true → i < count → get_or (each_job count f) i 0 ≡ f i
 each_at count f i fits less =
@@ -45,27 +53,46 @@ each_same count f g same =
 
 -- ---- the jobs of a start, each with its own shares
 
-module _ (first count : ℕ) (shares : List ℕ) (i : ℕ) (fits : count_fits count ≡ true) (less : i < count) where
-  pub batch_x : get_or (batch_of first count shares).x i 0 ≡ x_in shares i
-  batch_x = each_at count (x_in shares) i fits less
+module _ (first : ℕ) (task : Task) (pairs : List ℕ) (i : ℕ) (fits : count_fits (count_of task) ≡ true) (less : i < count_of task) where
+  pub batch_x : get_or (batch_of first task pairs).x i 0 ≡ x_in pairs i
+  batch_x = each_at (count_of task) (x_in pairs) i fits less
 
-  pub batch_y : get_or (batch_of first count shares).y i 0 ≡ y_in shares i
-  batch_y = each_at count (y_in shares) i fits less
+  pub batch_y : get_or (batch_of first task pairs).y i 0 ≡ y_in pairs i
+  batch_y = each_at (count_of task) (y_in pairs) i fits less
 
   -- the box that the start leaves, in that job
   pub started_party : (s : State) (phase : Phase) (tapes : List ℕ)
-      → party_of (in_phase s phase (batch_of first count shares)) tapes i ≡ party s.n s.side (x_in shares i) (y_in shares i) (tape_part s.n tapes i)
+      → party_of (in_phase s phase (batch_of first task pairs)) tapes i ≡ party s.n s.side (x_in pairs i) (y_in pairs i) (tape_part s.n tapes i)
   started_party s phase tapes = ap₂ (λ (x y : ℕ). party s.n s.side x y (tape_part s.n tapes i)) batch_x batch_y
 
--- a job's answer share stands at its place
-pub answer_at : (s : State) (tapes work incoming : List ℕ) (i : ℕ) → count_fits s.batch.count ≡ true → i < s.batch.count
-    → get_or (answer_shares s tapes work incoming) i 0
-    ≡ answer_share (party_of s tapes i) (work_part s.n work i) (words_part s.n last_round incoming i)
-unfolding answer_shares
-answer_at s tapes work incoming i fits less =
-    each_at s.batch.count (λ k. answer_share (party_of s tapes k) (work_part s.n work k) (words_part s.n last_round incoming k)) i fits less
+-- ---- the answer shares that it gives, each at its place
 
-pub answer_past : (s : State) (tapes work incoming : List ℕ) (i : ℕ) → s.batch.count ≤ i → get_or (answer_shares s tapes work incoming) i 0 ≡ 0
-unfolding answer_shares
-answer_past s tapes work incoming i past =
-    each_past s.batch.count (λ k. answer_share (party_of s tapes k) (work_part s.n work k) (words_part s.n last_round incoming k)) i past
+module _ (n side : ℕ) (f : ℕ → ℕ) where
+  pub given_at : (task : Task) (i : ℕ) → count_fits (count_of task) ≡ true → i < answer_count task
+      → get_or (answers_given n side task (each_job (count_of task) f)) i 0 ≡ answer_from n side task f i
+  given_at (Compare count) i fits less = each_at count f i fits less
+  given_at (Band low high) i fits less = rw (lone i less) refl
+
+  pub given_past : (task : Task) (i : ℕ) → answer_count task ≤ i → get_or (answers_given n side task (each_job (count_of task) f)) i 0 ≡ 0
+  given_past (Compare count) i past = each_past count f i past
+  given_past (Band low high) i past = each_past 1 (λ k. band_share n side (get_or (each_job 2 f) 0 0) (get_or (each_job 2 f) 1 0)) i past
+
+-- from the same shares of the jobs come the same answers
+pub from_same : (n side : ℕ) (task : Task) (f g : ℕ → ℕ) (i : ℕ) → ((k : ℕ) → k < count_of task → f k ≡ g k) → i < answer_count task
+    → answer_from n side task f i ≡ answer_from n side task g i
+from_same n side (Compare count) f g i same less = same i less
+from_same n side (Band low high) f g i same less = ap₂ (band_share n side) (same 0 (omega arith)) (same 1 (omega arith))
+
+-- those of the jobs
+abbrev pub share_in : State → List ℕ → List ℕ → List ℕ → ℕ → ℕ
+share_in s tapes work incoming i = answer_share (party_of s tapes i) (work_part s.n work i) (words_part s.n last_round incoming i)
+
+module _ (s : State) (tapes work incoming : List ℕ) (i : ℕ) where
+  pub answer_at : count_fits (count_of s.batch.task) ≡ true → i < answer_count s.batch.task
+      → get_or (answer_shares s tapes work incoming) i 0 ≡ answer_from s.n s.side s.batch.task (share_in s tapes work incoming) i
+  unfolding answer_shares
+  answer_at fits less = given_at s.n s.side (share_in s tapes work incoming) s.batch.task i fits less
+
+  pub answer_past : answer_count s.batch.task ≤ i → get_or (answer_shares s tapes work incoming) i 0 ≡ 0
+  unfolding answer_shares
+  answer_past past = given_past s.n s.side (share_in s tapes work incoming) s.batch.task i past

@@ -14,12 +14,13 @@ use Rattle.protocol.specs.Rounds.{earlier_rounds, last_round, message, after_hea
 use Rattle.protocol.specs.Sizes.{count_fits}
 use Rattle.protocol.proofs.Lengths.{after_length}
 use Rattle.protocol.proofs.Live.{Live, after_live}
+use Rattle.rules.specs.Tasks.{count_of, pairs_of, answer_count}
 use Rattle.rules.specs.Batches.{x_in, y_in, tape_part, work_part, words_part, party_of, joined_message, answer_shares}
-use Rattle.rules.specs.OneByOne.{Left, Lent, words_spoken, shares_in, answers}
+use Rattle.rules.specs.OneByOne.{Left, Lent, words_spoken, shares_in, answers, answer_from}
 use Rattle.rules.specs.declared.state.Turn.{Turn}
 use Rattle.rules.specs.declared.state.Turn.TheVariants.{Speak, Hear}
 use Rattle.rules.specs.declared.state.Phase.TheVariants.{Job}
-use Rattle.rules.proofs.Batches.{started_party, answer_at, answer_past}
+use Rattle.rules.proofs.Batches.{started_party, answer_at, answer_past, from_same}
 use Rattle.rules.proofs.Spoken.{spoken_front, after_part}
 use Rattle.rules.proofs.Runs.{in_jobs, work_after, Clear, run_is, spoken_is, reply_is}
 use Rattle.rules.proofs.Fits.{clear_fits, begun, work_room}
@@ -57,7 +58,9 @@ kept_live q work work' heard width room room' (suc r) =
 module _ (l : Left) (j : Lent) where
   -- the box in it
   abbrev pub party_in : ℕ → Party
-  party_in i = party l.state.n l.state.side (x_in j.shares i) (y_in j.shares i) (tape_part l.state.n j.tapes i)
+  party_in i =
+      let pairs = pairs_of l.state.side j.task j.shares in
+      party l.state.n l.state.side (x_in pairs i) (y_in pairs i) (tape_part l.state.n j.tapes i)
 
   -- the words that it hears
   abbrev pub heard_in : ℕ → ℕ → List ℕ
@@ -68,13 +71,13 @@ module _ (l : Left) (j : Lent) where
   kept_in i r = kept (party_in i) (work_part l.state.n l.work i) (heard_in i) r
 
   module _ (c : Clear l j) where
-    counted : count_fits j.count ≡ true
+    counted : count_fits (count_of j.task) ≡ true
     counted = (begun l j c.start).counted
 
-    same_party : (turn : Turn) (i : ℕ) → i < j.count → party_of (in_jobs l j turn) j.tapes i ≡ party_in i
-    same_party turn i less = started_party j.first j.count j.shares i counted less l.state (Job turn) j.tapes
+    same_party : (turn : Turn) (i : ℕ) → i < (count_of j.task) → party_of (in_jobs l j turn) j.tapes i ≡ party_in i
+    same_party turn i less = started_party j.first j.task (pairs_of l.state.side j.task j.shares) i counted less l.state (Job turn) j.tapes
 
-    work_is : (r i : ℕ) → i < j.count → work_part l.state.n (work_after l j r) i ≡ kept_in i r
+    work_is : (r i : ℕ) → i < (count_of j.task) → work_part l.state.n (work_after l j r) i ≡ kept_in i r
     unfolding work_after kept
     work_is zero i less = refl
     work_is (suc r) i less =
@@ -82,25 +85,31 @@ module _ (l : Left) (j : Lent) where
         after_part due j.tapes (work_after l j r) (suc r) (j.incoming (suc r)) i less (work_room l j c.start r)
         ∙ rw (same_party (Hear (suc r)) i less, work_is r i less) refl
 
-    pub words_is : (r : ℕ) → r < last_round → words_spoken l j r ≡ chained j.count (λ i. message (party_in i) (kept_in i r) (suc r))
+    pub words_is : (r : ℕ) → r < last_round → words_spoken l j r ≡ chained (count_of j.task) (λ i. message (party_in i) (kept_in i r) (suc r))
     unfolding joined_message
     words_is r less =
         let due = in_jobs l j (Speak (suc r)) in
         rw (run_is l j c r less, spoken_is l j r (c.speak r less))
         (spoken_front due j.tapes (work_after l j r) (j.out (suc r)) (suc r) ((clear_fits l j c).roomy r less)
-        ∙ chained_same j.count _ _
+        ∙ chained_same (count_of j.task) _ _
         (λ i within. ap₂ (λ (q : Party) (work : List ℕ). message q work (suc r)) (same_party (Speak (suc r)) i within) (work_is r i within)))
 
     answers_is : answers l j ≡ answer_shares (in_jobs l j (Hear last_round)) j.tapes (work_after l j earlier_rounds) (j.incoming last_round)
     answers_is = ap shares_in (reply_is l j c)
 
-    pub answer_is : (i : ℕ) → i < j.count → get_or (answers l j) i 0 ≡ answer_share (party_in i) (kept_in i earlier_rounds) (heard_in i last_round)
+    -- what it answers in each of them
+    abbrev pub share_of : ℕ → ℕ
+    share_of i = answer_share (party_in i) (kept_in i earlier_rounds) (heard_in i last_round)
+
+    pub answer_is : (i : ℕ) → i < answer_count j.task → get_or (answers l j) i 0 ≡ answer_from l.state.n l.state.side j.task share_of i
     answer_is i less =
         let due = in_jobs l j (Hear last_round) in
         rw answers_is
         (answer_at due j.tapes (work_after l j earlier_rounds) (j.incoming last_round) i counted less
-        ∙ rw (same_party (Hear last_round) i less, work_is earlier_rounds i less) refl)
+        ∙ from_same l.state.n l.state.side j.task _ share_of i
+        (λ k low. rw (same_party (Hear last_round) k low, work_is earlier_rounds k low) refl)
+        less)
 
-    pub no_answer : (i : ℕ) → j.count ≤ i → get_or (answers l j) i 0 ≡ 0
+    pub no_answer : (i : ℕ) → answer_count j.task ≤ i → get_or (answers l j) i 0 ≡ 0
     no_answer i past =
         rw answers_is (answer_past (in_jobs l j (Hear last_round)) j.tapes (work_after l j earlier_rounds) (j.incoming last_round) i past)

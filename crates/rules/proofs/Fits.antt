@@ -8,6 +8,7 @@ use lib.ListN.{length}
 use borrow.Author.Tests.{le-leb}
 use Rattle.protocol.specs.Rounds.{last_round}
 use Rattle.protocol.specs.Sizes.{round_for, work_for}
+use Rattle.rules.specs.Tasks.{count_of}
 use Rattle.rules.specs.Modes.{round_of, round_fits, mode_of, is_asleep}
 use Rattle.rules.specs.Grounds.{words_fit}
 use Rattle.rules.specs.Calls.{start_rule}
@@ -28,12 +29,12 @@ round_lem r less = rw (le-leb 1 (suc r) (omega arith), le-leb (suc r) last_round
 module _ (l : Left) (j : Lent) where
   pub record Fits : Type 0 where
     pub start : start_at l j ≡ 0
-    pub roomy : (r : ℕ) → r < last_round → round_for l.state.n j.count (suc r) ≤ length (j.out (suc r))
-    pub long : (r : ℕ) → r < last_round → length (j.incoming (suc r)) ≡ round_for l.state.n j.count (suc r)
+    pub roomy : (r : ℕ) → r < last_round → round_for l.state.n (count_of j.task) (suc r) ≤ length (j.out (suc r))
+    pub long : (r : ℕ) → r < last_round → length (j.incoming (suc r)) ≡ round_for l.state.n (count_of j.task) (suc r)
     pub legible : (r : ℕ) → r < last_round → words_fit l.state.n (j.incoming (suc r)) ≡ true
 
-  pub begun : start_at l j ≡ 0 → StartPassed l.state j.first j.count j.shares j.tapes l.work l.tally
-  begun none = start_passed l.state j.first j.count j.shares j.tapes l.work l.tally none
+  pub begun : start_at l j ≡ 0 → StartPassed l.state j.first j.task j.shares j.tapes l.work l.tally
+  begun none = start_passed l.state j.first j.task j.shares j.tapes l.work l.tally none
 
   pub work_long : (r : ℕ) → length (work_after l j r) ≡ length l.work
   unfolding work_after
@@ -41,7 +42,7 @@ module _ (l : Left) (j : Lent) where
   work_long (suc r) =
       joined_after_length (in_jobs l j (Hear (suc r))) j.tapes (work_after l j r) (suc r) (j.incoming (suc r)) ∙ work_long r
 
-  pub work_room : start_at l j ≡ 0 → (r : ℕ) → work_for l.state.n j.count ≤ length (work_after l j r)
+  pub work_room : start_at l j ≡ 0 → (r : ℕ) → work_for l.state.n (count_of j.task) ≤ length (work_after l j r)
   work_room none r = rw (work_long r) (begun none).room
 
   -- in each round the turn that is due
@@ -49,7 +50,7 @@ module _ (l : Left) (j : Lent) where
   unfolding start_rule
   job_mode none turn fits =
       let begun : mode_of (in_jobs l j (Speak 1)) ≡ Job (Speak 1) =
-      rw none at (started_job l.state j.first j.count j.shares j.tapes l.work l.tally none) in
+      rw none at (started_job l.state j.first j.task j.shares j.tapes l.work l.tally none) in
       turned_mode (in_jobs l j (Speak 1)) turn fits (awake_range (in_jobs l j (Speak 1)) (ap is_asleep begun)) refl
 
   pub fits_clear : Fits → Clear l j

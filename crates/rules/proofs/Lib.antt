@@ -1,4 +1,5 @@
 pub mod Decide
+pub mod Tasks
 pub mod Batches
 pub mod Chained
 pub mod Ranges

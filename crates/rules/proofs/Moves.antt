@@ -12,6 +12,7 @@ use Rattle.lists.proofs.Every.{every_intro}
 use Rattle.field.specs.Width.{modulus}
 use Rattle.protocol.specs.Rounds.{last_round}
 use Rattle.refusals.proofs.Chains.{none}
+use Rattle.rules.specs.Tasks.{count_of, pairs_of}
 use Rattle.rules.specs.Answers.{dropped}
 use Rattle.tally.specs.Tally.{tapes_of}
 use Rattle.rules.specs.Modes.{batch_fits, in_range, mode_of, is_asleep, in_job, in_phase}
@@ -20,6 +21,7 @@ use Rattle.rules.specs.Grounds.{wake_ground, start_ground, speak_ground, hear_gr
 use Rattle.rules.specs.Calls.{Result, unless, wake_rule, start_rule, speak_rule, heard_after, hear_rule, drop_rule}
 use Rattle.rules.specs.AnyCall.{Call, wake, start, speak, hear, drop, ground_of, result_of, is_wake}
 use Rattle.rules.specs.Moves.{Moves, wakes_up, opens, speaks, hears, ends, drops}
+use Rattle.rules.specs.declared.state.Task.{Task}
 use Rattle.rules.specs.declared.state.Turn.{Turn}
 use Rattle.rules.specs.declared.state.Turn.TheVariants.{Speak, Hear}
 use Rattle.rules.specs.declared.state.Phase.{Phase}
@@ -56,7 +58,7 @@ woken s n side pair tally z =
 
 -- what a call that is not refused finds, answers and leaves
 Moved : State → Call → Type 0
-Moved s call = Moves s.n (mode_of s) s.batch call (result_of s call).reply (mode_of (result_of s call).state) (result_of s call).state.batch
+Moved s call = Moves s.n s.side (mode_of s) s.batch call (result_of s call).reply (mode_of (result_of s call).state) (result_of s call).state.batch
 
 wake_moves : (s : State) (n side pair : ℕ) (tally : List ℕ) → wake_ground s n side tally ≡ 0 → Moved s (wake n side pair tally)
 unfolding wake_rule Moved
@@ -66,36 +68,37 @@ wake_moves s n side pair tally z =
 -- ---- start
 
 -- the jobs that a start takes are in range
-started_fits : (s : State) (first count : ℕ) (shares tapes work tally : List ℕ) → StartPassed s first count shares tapes work tally
-    → batch_fits s.n s.tally (batch_of first count shares) ≡ true
-started_fits s first count shares tapes work tally p =
-    and_both p.counted
-    (every_intro count _
+started_fits : (s : State) (first : ℕ) (task : Task) (shares tapes work tally : List ℕ) → StartPassed s first task shares tapes work tally
+    → batch_fits s.n s.tally (batch_of first task (pairs_of s.side task shares)) ≡ true
+started_fits s first task shares tapes work tally p =
+    let pairs = pairs_of s.side task shares in
+    and_both p.fits
+    (every_intro (count_of task) _
     (λ i less.
     rw (
       ← p.same_tally,
       lt-ltb (first + i) (tapes_of (length tally)) (p.numbered i less),
-      batch_x first count shares i p.counted less,
-      lt-ltb (x_in shares i) (modulus s.n) (p.x_fits i less),
-      batch_y first count shares i p.counted less,
-      lt-ltb (y_in shares i) (modulus s.n) (p.y_fits i less),
+      batch_x first task pairs i p.counted less,
+      lt-ltb (x_in pairs i) (modulus s.n) (p.x_fits i less),
+      batch_y first task pairs i p.counted less,
+      lt-ltb (y_in pairs i) (modulus s.n) (p.y_fits i less),
     )
     refl))
 
-pub started_job : (s : State) (first count : ℕ) (shares tapes work tally : List ℕ) → start_ground s first count shares tapes work tally ≡ 0
-    → mode_of (start_rule s first count shares tapes work tally).state ≡ Job (Speak 1)
+pub started_job : (s : State) (first : ℕ) (task : Task) (shares tapes work tally : List ℕ) → start_ground s first task shares tapes work tally ≡ 0
+    → mode_of (start_rule s first task shares tapes work tally).state ≡ Job (Speak 1)
 unfolding start_rule
-started_job s first count shares tapes work tally z =
-    let p = start_passed s first count shares tapes work tally z in
+started_job s first task shares tapes work tally z =
+    let p = start_passed s first task shares tapes work tally z in
     rw z
-    (phase_mode s (Job (Speak 1)) (batch_of first count shares) (awake_range s p.awake) (started_fits s first count shares tapes work tally p))
+    (phase_mode s (Job (Speak 1)) (batch_of first task (pairs_of s.side task shares)) (awake_range s p.awake) (started_fits s first task shares tapes work tally p))
 
-start_moves : (s : State) (first count : ℕ) (shares tapes work tally : List ℕ) → start_ground s first count shares tapes work tally ≡ 0
-    → Moved s (start first count shares tapes work tally)
+start_moves : (s : State) (first : ℕ) (task : Task) (shares tapes work tally : List ℕ) → start_ground s first task shares tapes work tally ≡ 0
+    → Moved s (start first task shares tapes work tally)
 unfolding start_rule Moved
-start_moves s first count shares tapes work tally z =
-    let p = start_passed s first count shares tapes work tally z in
-    rw (is_idle (mode_of s) p.awake p.idle, started_job s first count shares tapes work tally z, z) opens
+start_moves s first task shares tapes work tally z =
+    let p = start_passed s first task shares tapes work tally z in
+    rw (is_idle (mode_of s) p.awake p.idle, started_job s first task shares tapes work tally z, z) opens
 
 -- ---- speak
 
@@ -165,16 +168,16 @@ drop_moves s z =
     let c = none (drop_grounds s) z in
     rw (dropped_idle s z c.0, z) (go (mode_of s) (not-false (in_job (mode_of s)) c.1.0))
   where
-    go : (p : Phase) → in_job p ≡ true → Moves s.n p s.batch drop dropped Idle no_batch
+    go : (p : Phase) → in_job p ≡ true → Moves s.n s.side p s.batch drop dropped Idle no_batch
     go Asleep e = absurd (false≢true e)
     go Idle e = absurd (false≢true e)
     go (Job turn) e = drops
 
 pub moves : (s : State) (call : Call) → ground_of s call ≡ 0
-    → Moves s.n (mode_of s) s.batch call (result_of s call).reply (mode_of (result_of s call).state) (result_of s call).state.batch
+    → Moves s.n s.side (mode_of s) s.batch call (result_of s call).reply (mode_of (result_of s call).state) (result_of s call).state.batch
 unfolding Moved
 moves s (wake n side pair tally) z = wake_moves s n side pair tally z
-moves s (start first count shares tapes work tally) z = start_moves s first count shares tapes work tally z
+moves s (start first task shares tapes work tally) z = start_moves s first task shares tapes work tally z
 moves s (speak first round tapes work out) z = speak_moves s first round tapes work out z
 moves s (hear first round tapes work incoming) z = hear_moves s first round tapes work incoming z
 moves s drop z = drop_moves s z
@@ -197,7 +200,7 @@ pub keeps : (s : State) (call : Call) → is_wake call ≡ false
     → (result_of s call).state ≡ in_phase s (result_of s call).state.phase (result_of s call).state.batch
 unfolding start_rule speak_rule hear_rule heard_after drop_rule Keeps
 keeps s (wake n side pair tally) e = absurd (true≢false e)
-keeps s (start first count shares tapes work tally) e = same_box_lem (start_ground s first count shares tapes work tally) s tally _ refl
+keeps s (start first task shares tapes work tally) e = same_box_lem (start_ground s first task shares tapes work tally) s tally _ refl
 keeps s (speak first round tapes work out) e = same_box_lem (speak_ground s first round tapes work out) s out _ refl
 keeps s (hear first round tapes work incoming) e =
     same_box_lem (hear_ground s first round tapes work incoming) s work _ (either_box (eqb round last_round) s _ _ refl refl)

@@ -18,12 +18,17 @@ use Rattle.protocol.specs.Sizes.{count_fits, tape_for, round_for, work_for}
 use Rattle.refusals.specs.Grounds.{earliest_of, joined}
 use Rattle.refusals.proofs.Chains.{None, Nones, none, none_earliest, both_none, nones}
 use Rattle.tally.specs.Tally.{tally_fits, tapes_of, is_fresh, late}
+use Rattle.rules.specs.Tasks.{count_of, bounds_fit, task_fits, pairs_of}
 use Rattle.rules.specs.Modes.{mode_of, is_asleep, in_job, is_due}
 use Rattle.rules.specs.Batches.{x_in, y_in, tape_part}
-use Rattle.rules.specs.Grounds.{idle_grounds, job_grounds, due_grounds, tapes_long, tape_ordered, tapes_grounds, message_fits, room_grounds, word_grounds, words_fit, wake_grounds, one_parts, start_parts, turn_parts, turn_grounds, wake_ground, start_ground, speak_ground, hear_ground}
+use Rattle.rules.specs.Grounds.{idle_grounds, job_grounds, due_grounds, tapes_long, tape_ordered, tapes_grounds, message_fits, room_grounds, word_grounds, words_fit, wake_grounds, asked_parts, one_parts, start_parts, turn_parts, turn_grounds, wake_ground, start_ground, speak_ground, hear_ground}
+use Rattle.rules.specs.Moves.{Asked}
+use Rattle.rules.specs.declared.state.Task.{Task}
+use Rattle.rules.specs.declared.state.Task.TheVariants.{Compare, Band}
 use Rattle.rules.specs.declared.state.Turn.{Turn}
 use Rattle.rules.specs.declared.state.Turn.TheVariants.{Speak, Hear}
 use Rattle.rules.specs.declared.state.State.{State}
+use Rattle.rules.proofs.Tasks.{counted, bounds_in}
 use Rattle.rules.proofs.Batches.{count_most}
 use Rattle.rules.proofs.Chained.{chained_none}
 use Rattle.rules.proofs.Ranges.{Ranged, ranged, awake_range, awake_listed, Due, due_job, JobRange, job_range}
@@ -88,52 +93,71 @@ one_passed s first count shares tapes tally i c =
       ordered = and_right (tapes_long s count tapes) (tape_ordered s first tapes i) tape;
     }
 
-pub record StartPassed (s : State) (first count : ℕ) (shares tapes work tally : List ℕ) : Type 0 where
+-- what is asked, and the tally's length
+record AskedPassed (s : State) (task : Task) (shares tally : List ℕ) : Type 0 where
+  fits : task_fits s.n task ≡ true
+  same_tally : length tally ≡ s.tally
+  asked : Asked s.n task shares
+
+asked_passed : (s : State) (task : Task) (shares tally : List ℕ) → Nones (asked_parts s task shares tally) → AskedPassed s task shares tally
+asked_passed s (Compare count) shares tally c =
+    record {
+      fits = not-false (count_fits count) c.0.0;
+      same_tally = eqb-true (length tally) s.tally (not-false (eqb (length tally) s.tally) c.1.0.0);
+      asked = eqb-true (length shares) (2 * count) (not-false (eqb (length shares) (2 * count)) c.1.1.0.0);
+    }
+asked_passed s (Band low high) shares tally c =
+    let fits = not-false (bounds_fit s.n low high) c.0.0 in
+    record {
+      fits = fits;
+      same_tally = eqb-true (length tally) s.tally (not-false (eqb (length tally) s.tally) c.1.0.0);
+      asked = bounds_in s.n low high fits;
+    }
+
+pub record StartPassed (s : State) (first : ℕ) (task : Task) (shares tapes work tally : List ℕ) : Type 0 where
   pub awake : is_asleep (mode_of s) ≡ false
   pub idle : in_job (mode_of s) ≡ false
-  pub counted : count_fits count ≡ true
+  pub fits : task_fits s.n task ≡ true
+  pub counted : count_fits (count_of task) ≡ true
   pub same_tally : length tally ≡ s.tally
-  pub listed : length shares ≡ 2 * count
-  pub numbered : (i : ℕ) → i < count → first + i < tapes_of (length tally)
-  pub fresh : (i : ℕ) → i < count → is_fresh tally (first + i) ≡ true
-  pub in_time : (i : ℕ) → i < count → late tally (first + i) ≡ false
-  pub x_fits : (i : ℕ) → i < count → x_in shares i < modulus s.n
-  pub y_fits : (i : ℕ) → i < count → y_in shares i < modulus s.n
-  pub long : length tapes ≡ tape_for s.n count
-  pub ordered : (i : ℕ) → i < count → in_order s.n s.pair s.side (first + i) (tape_part s.n tapes i) ≡ true
-  pub room : work_for s.n count ≤ length work
+  pub asked : Asked s.n task shares
+  pub numbered : (i : ℕ) → i < count_of task → first + i < tapes_of (length tally)
+  pub fresh : (i : ℕ) → i < count_of task → is_fresh tally (first + i) ≡ true
+  pub in_time : (i : ℕ) → i < count_of task → late tally (first + i) ≡ false
+  pub x_fits : (i : ℕ) → i < count_of task → x_in (pairs_of s.side task shares) i < modulus s.n
+  pub y_fits : (i : ℕ) → i < count_of task → y_in (pairs_of s.side task shares) i < modulus s.n
+  pub long : length tapes ≡ tape_for s.n (count_of task)
+  pub ordered : (i : ℕ) → i < count_of task → in_order s.n s.pair s.side (first + i) (tape_part s.n tapes i) ≡ true
+  pub room : work_for s.n (count_of task) ≤ length work
 
-pub start_passed : (s : State) (first count : ℕ) (shares tapes work tally : List ℕ) → start_ground s first count shares tapes work tally ≡ 0
-    → StartPassed s first count shares tapes work tally
+pub start_passed : (s : State) (first : ℕ) (task : Task) (shares tapes work tally : List ℕ) → start_ground s first task shares tapes work tally ≡ 0
+    → StartPassed s first task shares tapes work tally
 unfolding start_ground
-start_passed s first count shares tapes work tally e =
-    let c = nones (start_parts s first count shares tapes work tally) e in
-    let counted = not-false (count_fits count) c.1.0.0 in
-    let jobs = chained_none count (λ i. joined (one_parts s first count shares tapes tally i)) (none_earliest _ c.1.1.1.1.0) in
-    let one : (i : ℕ) → i < count → OnePassed s first count shares tapes tally i =
-    λ i less. one_passed s first count shares tapes tally i (nones (one_parts s first count shares tapes tally i) (jobs i less)) in
+start_passed s first task shares tapes work tally e =
+    let c = nones (start_parts s first task shares tapes work tally) e in
+    let a = asked_passed s task shares tally (nones (asked_parts s task shares tally) (none_earliest _ c.1.0)) in
+    let enough = counted s.n task a.fits in
+    let count = count_of task in
+    let pairs = pairs_of s.side task shares in
+    let jobs = chained_none count (λ i. joined (one_parts s first count pairs tapes tally i)) (none_earliest _ c.1.1.0) in
+    let one : (i : ℕ) → i < count → OnePassed s first count pairs tapes tally i =
+    λ i less. one_passed s first count pairs tapes tally i (nones (one_parts s first count pairs tapes tally i) (jobs i less)) in
     record {
       awake = c.0.0;
       idle = c.0.1.0;
-      counted = counted;
-      same_tally = eqb-true (length tally) s.tally (not-false (eqb (length tally) s.tally) c.1.1.0.0);
-      listed = eqb-true (length shares) (2 * count) (not-false (eqb (length shares) (2 * count)) c.1.1.1.0.0);
+      fits = a.fits;
+      counted = enough;
+      same_tally = a.same_tally;
+      asked = a.asked;
       numbered = λ i less. (one i less).numbered;
       fresh = λ i less. (one i less).fresh;
       in_time = λ i less. (one i less).in_time;
       x_fits = λ i less. (one i less).x_fits;
       y_fits = λ i less. (one i less).y_fits;
-      long = (one 0 (count_most count counted).0).long;
+      long = (one 0 (count_most count enough).0).long;
       ordered = λ i less. (one i less).ordered;
-      room = (room_passed s.n count work true c.1.1.1.1.1.0).0;
+      room = (room_passed s.n count work true c.1.1.1.0).0;
     }
-
--- past the first grounds of a call, the state's width is listed
-pub idle_listed : (s : State) → earliest_of (idle_grounds (mode_of s)) ≡ 0 → listed s.n ≡ true
-idle_listed s e = awake_listed s (none (idle_grounds (mode_of s)) e).0
-
-pub job_listed : (s : State) → earliest_of (job_grounds (mode_of s)) ≡ 0 → listed s.n ≡ true
-job_listed s e = awake_listed s (none (job_grounds (mode_of s)) e).0
 
 -- ---- speak and hear
 
@@ -143,15 +167,15 @@ pub record TurnPassed (s : State) (first : ℕ) (turn : Turn) (tapes : List ℕ)
   pub sound : Ranged s
   pub due : Due s first turn
   pub range : JobRange s turn
-  pub long : length tapes ≡ tape_for s.n s.batch.count
-  pub ordered : (i : ℕ) → i < s.batch.count → in_order s.n s.pair s.side (s.batch.first + i) (tape_part s.n tapes i) ≡ true
+  pub long : length tapes ≡ tape_for s.n (count_of s.batch.task)
+  pub ordered : (i : ℕ) → i < (count_of s.batch.task) → in_order s.n s.pair s.side (s.batch.first + i) (tape_part s.n tapes i) ≡ true
 
 turn_of : (s : State) (first : ℕ) (turn : Turn) (tapes : List ℕ) → None (job_grounds (mode_of s)) → None (due_grounds s first turn)
     → None (tapes_grounds s tapes) → TurnPassed s first turn tapes
 turn_of s first turn tapes job is_next ordered =
     let awake = job.0 in
     let due = due_job s first turn awake (not-false (is_due (mode_of s) s.batch.first first turn) is_next.0) in
-    let count = s.batch.count in
+    let count = (count_of s.batch.task) in
     let each = tape_ordered s s.batch.first tapes in
     let both = not-false (tapes_long s count tapes && every count each) ordered.0 in
     record {
@@ -170,27 +194,27 @@ turn_due s first turn tapes job is_next ordered =
     turn_of s first turn tapes (none (job_grounds (mode_of s)) job) (none (due_grounds s first turn) is_next) (none (tapes_grounds s tapes) ordered)
 
 pub turn_passed : (s : State) (first : ℕ) (turn : Turn) (tapes work buffer : List ℕ) → earliest_of (turn_grounds s first turn tapes work buffer) ≡ 0
-    → TurnPassed s first turn tapes × ((work_for s.n s.batch.count ≤ length work) × (message_fits s.n s.batch.count turn (length buffer) ≡ true))
+    → TurnPassed s first turn tapes × ((work_for s.n (count_of s.batch.task) ≤ length work) × (message_fits s.n (count_of s.batch.task) turn (length buffer) ≡ true))
 turn_passed s first turn tapes work buffer e =
     let c = nones (turn_parts s first turn tapes work buffer) e in
-    (turn_of s first turn tapes c.0 c.1.0 c.1.1.0, room_passed s.n s.batch.count work (message_fits s.n s.batch.count turn (length buffer)) c.1.1.1.0)
+    (turn_of s first turn tapes c.0 c.1.0 c.1.1.0, room_passed s.n (count_of s.batch.task) work (message_fits s.n (count_of s.batch.task) turn (length buffer)) c.1.1.1.0)
 
 pub record SpeakPassed (s : State) (first round : ℕ) (tapes work out : List ℕ) : Type 0 where
   pub turn : TurnPassed s first (Speak round) tapes
-  pub room : work_for s.n s.batch.count ≤ length work
-  pub out_room : round_for s.n s.batch.count round ≤ length out
+  pub room : work_for s.n (count_of s.batch.task) ≤ length work
+  pub out_room : round_for s.n (count_of s.batch.task) round ≤ length out
 
 pub speak_passed : (s : State) (first round : ℕ) (tapes work out : List ℕ) → speak_ground s first round tapes work out ≡ 0
     → SpeakPassed s first round tapes work out
 unfolding speak_ground
 speak_passed s first round tapes work out e =
     let t = turn_passed s first (Speak round) tapes work out e in
-    record { turn = t.0; room = t.1.0; out_room = leb-true (round_for s.n s.batch.count round) (length out) t.1.1 }
+    record { turn = t.0; room = t.1.0; out_room = leb-true (round_for s.n (count_of s.batch.task) round) (length out) t.1.1 }
 
 pub record HearPassed (s : State) (first round : ℕ) (tapes work incoming : List ℕ) : Type 0 where
   pub turn : TurnPassed s first (Hear round) tapes
-  pub room : work_for s.n s.batch.count ≤ length work
-  pub long : length incoming ≡ round_for s.n s.batch.count round
+  pub room : work_for s.n (count_of s.batch.task) ≤ length work
+  pub long : length incoming ≡ round_for s.n (count_of s.batch.task) round
   pub words : words_fit s.n incoming ≡ true
 
 pub hear_passed : (s : State) (first round : ℕ) (tapes work incoming : List ℕ) → hear_ground s first round tapes work incoming ≡ 0
@@ -202,7 +226,7 @@ hear_passed s first round tapes work incoming e =
     record {
       turn = t.0;
       room = t.1.0;
-      long = eqb-true (length incoming) (round_for s.n s.batch.count round) t.1.1;
+      long = eqb-true (length incoming) (round_for s.n (count_of s.batch.task) round) t.1.1;
       words = not-false (words_fit s.n incoming) (none (word_grounds s.n incoming) c.1).0;
     }
 

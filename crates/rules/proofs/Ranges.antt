@@ -13,6 +13,7 @@ use Rattle.shares.specs.Side.{is_side}
 use Rattle.protocol.specs.Rounds.{last_round}
 use Rattle.protocol.specs.Sizes.{count_fits}
 use Rattle.tally.specs.Tally.{tally_fits, tapes_of}
+use Rattle.rules.specs.Tasks.{count_of, task_fits}
 use Rattle.rules.specs.Modes.{round_of, round_fits, batch_fits, phase_fits, in_range, mode_of, is_asleep, is_due, same_turn, in_phase}
 use Rattle.rules.specs.declared.state.Turn.{Turn}
 use Rattle.rules.specs.declared.state.Turn.TheVariants.{Speak, Hear}
@@ -20,6 +21,7 @@ use Rattle.rules.specs.declared.state.Phase.{Phase}
 use Rattle.rules.specs.declared.state.Phase.TheVariants.{Asleep, Idle, Job}
 use Rattle.rules.specs.declared.state.Batch.{Batch}
 use Rattle.rules.specs.declared.state.State.{State}
+use Rattle.rules.proofs.Tasks.{counted}
 
 pub awake_range : (s : State) → is_asleep (mode_of s) ≡ false → in_range s ≡ true
 unfolding mode_of
@@ -89,17 +91,19 @@ due_job s first turn awake e = go s.phase refl (rw (awake_mode s awake) at e)
 pub record JobRange (s : State) (turn : Turn) : Type 0 where
   pub in_rounds : round_fits (round_of turn) ≡ true
   pub last : round_of turn ≤ last_round
-  pub counted : count_fits s.batch.count ≡ true
-  pub numbers : (i : ℕ) → i < s.batch.count → s.batch.first + i < tapes_of s.tally
-  pub x_fits : (i : ℕ) → i < s.batch.count → get_or s.batch.x i 0 < modulus s.n
-  pub y_fits : (i : ℕ) → i < s.batch.count → get_or s.batch.y i 0 < modulus s.n
+  pub fits : task_fits s.n s.batch.task ≡ true
+  pub counted : count_fits (count_of s.batch.task) ≡ true
+  pub numbers : (i : ℕ) → i < (count_of s.batch.task) → s.batch.first + i < tapes_of s.tally
+  pub x_fits : (i : ℕ) → i < (count_of s.batch.task) → get_or s.batch.x i 0 < modulus s.n
+  pub y_fits : (i : ℕ) → i < (count_of s.batch.task) → get_or s.batch.y i 0 < modulus s.n
 
 pub job_range : (s : State) {turn : Turn} → is_asleep (mode_of s) ≡ false → s.phase ≡ Job turn → JobRange s turn
 job_range s {turn} awake job =
     record {
       in_rounds = round;
       last = leb-true (round_of turn) last_round (and_right (leb 1 (round_of turn)) (leb (round_of turn) last_round) round);
-      counted = and_left (count_fits b.count) (every b.count (λ i. number i && x i && y i)) batch;
+      fits = tasked;
+      counted = counted s.n b.task tasked;
       numbers = λ i less. ltb-true (b.first + i) (tapes_of s.tally) (and_left (number i) (x i) (and_left (number i && x i) (y i) (one i less)));
       x_fits = λ i less. ltb-true (get_or b.x i 0) (modulus s.n) (and_right (number i) (x i) (and_left (number i && x i) (y i) (one i less)));
       y_fits = λ i less. ltb-true (get_or b.y i 0) (modulus s.n) (and_right (number i && x i) (y i) (one i less));
@@ -126,8 +130,11 @@ job_range s {turn} awake job =
     batch : batch_fits s.n s.tally b ≡ true
     batch = and_right (round_fits (round_of turn)) (batch_fits s.n s.tally b) fits
 
-    one : (i : ℕ) → i < b.count → number i && x i && y i ≡ true
-    one = every_at b.count (λ i. number i && x i && y i) (and_right (count_fits b.count) (every b.count (λ i. number i && x i && y i)) batch)
+    tasked : task_fits s.n b.task ≡ true
+    tasked = and_left (task_fits s.n b.task) (every (count_of b.task) (λ i. number i && x i && y i)) batch
+
+    one : (i : ℕ) → i < (count_of b.task) → number i && x i && y i ≡ true
+    one = every_at (count_of b.task) (λ i. number i && x i && y i) (and_right (task_fits s.n b.task) (every (count_of b.task) (λ i. number i && x i && y i)) batch)
 
 -- ---- the state in another phase
 

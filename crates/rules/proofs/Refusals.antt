@@ -40,7 +40,7 @@ hear_answers false a b ea eb = eb
 pub call_by_ground : (s : State) (call : Call) → ByGround (ground_of s call) s (buffer_of call) (result_of s call)
 unfolding wake_rule start_rule speak_rule hear_rule heard_after drop_rule
 call_by_ground s (wake n side pair tally) = by_ground (wake_ground s n side tally) s tally _ refl
-call_by_ground s (start first count shares tapes work tally) = by_ground (start_ground s first count shares tapes work tally) s tally _ refl
+call_by_ground s (start first task shares tapes work tally) = by_ground (start_ground s first task shares tapes work tally) s tally _ refl
 call_by_ground s (speak first round tapes work out) = by_ground (speak_ground s first round tapes work out) s out _ refl
 call_by_ground s (hear first round tapes work incoming) =
     by_ground (hear_ground s first round tapes work incoming) s work _ (hear_answers (eqb round last_round) _ _ refl refl)
@@ -55,7 +55,7 @@ holds_first t k rest e = rw e
 pub asleep_refuses : (s : State) (call : Call) → is_asleep (mode_of s) ≡ true → is_wake call ≡ false → ground_of s call ≡ 1
 unfolding wake_ground start_ground speak_ground hear_ground drop_ground
 asleep_refuses s (wake n side pair tally) asleep e = absurd (true≢false e)
-asleep_refuses s (start first count shares tapes work tally) asleep e = holds_first (is_asleep (mode_of s)) 1 _ asleep
+asleep_refuses s (start first task shares tapes work tally) asleep e = holds_first (is_asleep (mode_of s)) 1 _ asleep
 asleep_refuses s (speak first round tapes work out) asleep e = holds_first (is_asleep (mode_of s)) 1 _ asleep
 asleep_refuses s (hear first round tapes work incoming) asleep e = holds_first (is_asleep (mode_of s)) 1 _ asleep
 asleep_refuses s drop asleep e = holds_first (is_asleep (mode_of s)) 1 _ asleep
@@ -63,7 +63,7 @@ asleep_refuses s drop asleep e = holds_first (is_asleep (mode_of s)) 1 _ asleep
 pub awake_refuses : (s : State) (call : Call) → is_asleep (mode_of s) ≡ false → is_wake call ≡ true → ground_of s call ≡ 5
 unfolding wake_ground
 awake_refuses s (wake n side pair tally) awake e = holds_first (not (is_asleep (mode_of s))) 5 _ (ap not awake)
-awake_refuses s (start first count shares tapes work tally) awake e = absurd (false≢true e)
+awake_refuses s (start first task shares tapes work tally) awake e = absurd (false≢true e)
 awake_refuses s (speak first round tapes work out) awake e = absurd (false≢true e)
 awake_refuses s (hear first round tapes work incoming) awake e = absurd (false≢true e)
 awake_refuses s drop awake e = absurd (false≢true e)

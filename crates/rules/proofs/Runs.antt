@@ -10,6 +10,7 @@ use borrow.Author.Tests.{eq-eqb, ne_eqb}
 use Rattle.protocol.specs.Rounds.{earlier_rounds, last_round}
 use Rattle.protocol.specs.Sizes.{round_for}
 use Rattle.tally.specs.Tally.{first_marks}
+use Rattle.rules.specs.Tasks.{count_of, pairs_of}
 use Rattle.rules.specs.Answers.{spoke, finished}
 use Rattle.rules.specs.Modes.{in_phase}
 use Rattle.rules.specs.Batches.{no_batch, batch_of, joined_message, joined_after, answer_shares}
@@ -32,7 +33,7 @@ not_refused k s buffer ok =
 module _ (l : Left) (j : Lent) where
   -- the state in these jobs, with that turn due
   abbrev pub in_jobs : Turn → State
-  in_jobs turn = in_phase l.state (Job turn) (batch_of j.first j.count j.shares)
+  in_jobs turn = in_phase l.state (Job turn) (batch_of j.first j.task (pairs_of l.state.side j.task j.shares))
 
   -- work after so many rounds
   unfoldable pub work_after : ℕ → List ℕ
@@ -41,15 +42,15 @@ module _ (l : Left) (j : Lent) where
 
   -- what is left then, before the last round
   abbrev pub plainly : ℕ → Left
-  plainly r = record { state = in_jobs (Speak (suc r)); work = work_after r; tally = first_marks l.tally j.first j.count }
+  plainly r = record { state = in_jobs (Speak (suc r)); work = work_after r; tally = first_marks l.tally j.first (count_of j.task) }
 
   -- and after it
   abbrev pub ended : ℕ → Left
-  ended r = record { state = in_phase l.state Idle no_batch; work = work_after r; tally = first_marks l.tally j.first j.count }
+  ended r = record { state = in_phase l.state Idle no_batch; work = work_after r; tally = first_marks l.tally j.first (count_of j.task) }
 
   -- the grounds of the calls
   abbrev pub start_at : ℕ
-  start_at = start_ground l.state j.first j.count j.shares j.tapes l.work l.tally
+  start_at = start_ground l.state j.first j.task j.shares j.tapes l.work l.tally
 
   abbrev speak_at : ℕ → ℕ
   speak_at r = speak_ground (in_jobs (Speak (suc r))) j.first (suc r) j.tapes (work_after r) (j.out (suc r))
@@ -71,7 +72,7 @@ module _ (l : Left) (j : Lent) where
   module _ (r : ℕ) where
     pub spoken_is : speak_at r ≡ 0
         → speak_of (plainly r) j (suc r)
-        ≡ outcome (spoke (round_for l.state.n j.count (suc r))) (in_jobs (Hear (suc r)))
+        ≡ outcome (spoke (round_for l.state.n (count_of j.task) (suc r))) (in_jobs (Hear (suc r)))
         (sets (j.out (suc r)) 0 (joined_message (in_jobs (Speak (suc r))) j.tapes (work_after r) (suc r)))
     unfolding speak_rule
     spoken_is none = rw none refl
@@ -147,7 +148,7 @@ module _ (l : Left) (j : Lent) where
   pub clear_goes : Clear → Goes l j
   clear_goes c =
       record {
-        start = (call_by_ground l.state (start j.first j.count j.shares j.tapes l.work l.tally)).answers c.start;
+        start = (call_by_ground l.state (start j.first j.task j.shares j.tapes l.work l.tally)).answers c.start;
         speak = λ r less. rw (run_is c r less)
             ((call_by_ground (in_jobs (Speak (suc r))) (speak j.first (suc r) j.tapes (work_after r) (j.out (suc r)))).answers (c.speak r less));
         hear = λ r less. rw (run_is c r less, spoken_is r (c.speak r less))

@@ -1,4 +1,4 @@
--- Demand 1 over the rules: what each of the five calls answers, refuses and leaves as it was.
+-- Demand 1 over the rules: what each of the calls answers, refuses and leaves as it was.
 use Rattle.std.specs.Prelude.{ℕ, ◌≡◌, true, false, List, length}
 use Rattle.field.specs.Width.{listed, among}
 use Rattle.shares.specs.Side.{is_side}
@@ -37,7 +37,7 @@ pub record Waking (s : State) (call : Call) : Type 0 where
   -- awake, a wake is refused with 5
   pub awake_refuses : is_asleep (mode_of s) ≡ false → is_wake call ≡ true → ground_of s call ≡ 5
 
--- a state outside the ranges counts as asleep in all five calls
+-- a state outside the ranges counts as asleep in all calls
 pub record Outside (s : State) (call : Call) : Type 0 where
   pub counts : in_range s ≡ false → is_asleep (mode_of s) ≡ true
   -- each call has the ground that it has where the state is asleep
@@ -53,7 +53,7 @@ pub record Answering : Type 0 where
       → is_asleep (mode_of (result_of s (wake n side pair tally)).state) ≡ false
   -- every call that is not refused is one of these moves
   pub moves : (s : State) (call : Call) → ground_of s call ≡ 0
-      → Moves s.n (mode_of s) s.batch call (result_of s call).reply (mode_of (result_of s call).state) (result_of s call).state.batch
+      → Moves s.n s.side (mode_of s) s.batch call (result_of s call).reply (mode_of (result_of s call).state) (result_of s call).state.batch
   -- only wake sets the width, the side, the pair number and the tally's length
   pub keeps : (s : State) (call : Call) → is_wake call ≡ false → (result_of s call).state ≡ in_phase s (result_of s call).state.phase (result_of s call).state.batch
   -- an outcome in a job, from a state not in one, comes from such a start alone

@@ -6,10 +6,12 @@ use Rattle.protocol.specs.Sizes.{round_for}
 use Rattle.rules.specs.Answers.{Reply, fresh, started, spoke, heard, finished, dropped, refused}
 use Rattle.tally.specs.Tally.{first_marks, fresh_count}
 use Rattle.rules.specs.Modes.{in_phase}
+use Rattle.rules.specs.Tasks.{count_of, pairs_of}
 use Rattle.rules.specs.Batches.{no_batch, batch_of, joined_message, joined_after, answer_shares}
 use Rattle.rules.specs.Grounds.{wake_ground, start_ground, speak_ground, hear_ground, drop_ground}
 use Rattle.rules.specs.declared.state.Turn.TheVariants.{Speak, Hear}
 use Rattle.rules.specs.declared.state.Phase.TheVariants.{Idle, Job}
+use Rattle.rules.specs.declared.state.Task.{Task}
 use Rattle.rules.specs.declared.state.State.{State}
 
 -- `buffer` is the one that the call may change: start's tally, speak's out, hear's work
@@ -35,17 +37,21 @@ wake_rule s n side pair tally =
       buffer = tally;
     })
 
--- marks the tapes of all its jobs
-unfoldable pub start_rule : State → ℕ → ℕ → List ℕ → List ℕ → List ℕ → List ℕ → Result
-start_rule s first count shares tapes work tally =
-    unless (start_ground s first count shares tapes work tally) s tally
-    (record { reply = started; state = in_phase s (Job (Speak 1)) (batch_of first count shares); buffer = first_marks tally first count })
+-- of comparisons and of a band: marks the tapes of all its jobs
+unfoldable pub start_rule : State → ℕ → Task → List ℕ → List ℕ → List ℕ → List ℕ → Result
+start_rule s first task shares tapes work tally =
+    unless (start_ground s first task shares tapes work tally) s tally
+    (record {
+      reply = started;
+      state = in_phase s (Job (Speak 1)) (batch_of first task (pairs_of s.side task shares));
+      buffer = first_marks tally first (count_of task);
+    })
 
 unfoldable pub speak_rule : State → ℕ → ℕ → List ℕ → List ℕ → List ℕ → Result
 speak_rule s first round tapes work out =
     unless (speak_ground s first round tapes work out) s out
     (record {
-      reply = spoke (round_for s.n s.batch.count round);
+      reply = spoke (round_for s.n (count_of s.batch.task) round);
       state = in_phase s (Job (Hear round)) s.batch;
       buffer = sets out 0 (joined_message s tapes work round);
     })

@@ -8,13 +8,16 @@ use Rattle.shares.specs.Reading.{legible}
 use Rattle.tape.specs.Order.{in_order}
 use Rattle.protocol.specs.Sizes.{count_fits, tape_for, round_for, work_for}
 use Rattle.refusals.specs.Grounds.{Ground, ◌when◌, earliest_of, joined}
-use Rattle.refusals.specs.declared.Refusal.TheVariants.{Asleep, Width, Side, Tally, Busy, NoJob, Number, Spent, Late, Share, Tape, Turn as NotDue, Room, Word, Count}
+use Rattle.refusals.specs.declared.Refusal.TheVariants.{Asleep, Width, Side, Tally, Busy, NoJob, Number, Spent, Late, Share, Tape, Turn as NotDue, Room, Word, Count, Bounds}
 use Rattle.tally.specs.Tally.{tally_fits, tapes_of, is_fresh, late}
 use Rattle.rules.specs.Modes.{mode_of, is_asleep, in_job, is_due}
+use Rattle.rules.specs.Tasks.{count_of, bounds_fit, pairs_of}
 use Rattle.rules.specs.Batches.{x_in, y_in, tape_part}
 use Rattle.rules.specs.declared.state.Turn.{Turn}
 use Rattle.rules.specs.declared.state.Turn.TheVariants.{Speak, Hear}
 use Rattle.rules.specs.declared.state.Phase.{Phase}
+use Rattle.rules.specs.declared.state.Task.{Task}
+use Rattle.rules.specs.declared.state.Task.TheVariants.{Compare, Band}
 use Rattle.rules.specs.declared.state.State.{State}
 
 -- every word of a message can be read: none is above p (document 02, P3)
@@ -34,6 +37,10 @@ job_grounds mode = (Asleep when is_asleep mode) ∷ (NoJob when not (in_job mode
 -- 16: a start takes 1 to 8 jobs (document 02, P9)
 abbrev pub count_grounds : ℕ → List Ground
 count_grounds count = (Count when not (count_fits count)) ∷ []
+
+-- 17: a band's bounds are c1 < c2 < p (document 02, P10)
+abbrev pub bound_grounds : ℕ → ℕ → ℕ → List Ground
+bound_grounds n low high = (Bounds when not (bounds_fit n low high)) ∷ []
 
 -- 11: the turn that is due
 abbrev pub due_grounds : State → ℕ → Turn → List Ground
@@ -73,7 +80,8 @@ tape_grounds s first count tapes i = (Tape when not (tapes_long s count tapes &&
 
 abbrev pub tapes_grounds : State → List ℕ → List Ground
 tapes_grounds s tapes =
-    (Tape when not (tapes_long s s.batch.count tapes && every s.batch.count (tape_ordered s s.batch.first tapes))) ∷ []
+    let count = count_of s.batch.task in
+    (Tape when not (tapes_long s count tapes && every count (tape_ordered s s.batch.first tapes))) ∷ []
 
 -- out has room for the round's words, incoming has just as many
 abbrev pub message_fits : ℕ → ℕ → Turn → ℕ → Bool
@@ -98,24 +106,31 @@ wake_grounds s n side tally =
     ∷ (Tally when not (tally_fits (length tally)))
     ∷ []
 
+-- what is asked: of comparisons the count and the list of shares, of a band the bounds. A band's one share comes with the call and has no length
+abbrev pub asked_parts : State → Task → List ℕ → List ℕ → List (List Ground)
+asked_parts s (Compare count) shares tally = count_grounds count ∷ tally_grounds s tally ∷ list_grounds count shares ∷ []
+asked_parts s (Band low high) shares tally = bound_grounds s.n low high ∷ tally_grounds s tally ∷ []
+
 -- one job of a start
 abbrev pub one_parts : State → ℕ → ℕ → List ℕ → List ℕ → List ℕ → ℕ → List (List Ground)
-one_parts s first count shares tapes tally i =
+one_parts s first count pairs tapes tally i =
     mark_grounds (first + i) tally
-    ∷ share_grounds s.n (x_in shares i) (y_in shares i)
+    ∷ share_grounds s.n (x_in pairs i) (y_in pairs i)
     ∷ tape_grounds s first count tapes i
     ∷ []
 
--- the jobs one after the other; start has no other buffer that has to fit
-abbrev pub start_parts : State → ℕ → ℕ → List ℕ → List ℕ → List ℕ → List ℕ → List (List Ground)
-start_parts s first count shares tapes work tally =
-    idle_grounds (mode_of s)
-    ∷ count_grounds count
-    ∷ tally_grounds s tally
-    ∷ list_grounds count shares
-    ∷ chained count (λ i. joined (one_parts s first count shares tapes tally i))
+-- the jobs one after the other; a start has no other buffer that has to fit
+abbrev pub job_parts : State → ℕ → ℕ → List ℕ → List ℕ → List ℕ → List ℕ → List (List Ground)
+job_parts s first count pairs tapes work tally =
+    chained count (λ i. joined (one_parts s first count pairs tapes tally i))
     ∷ room_grounds s.n count work true
     ∷ []
+
+abbrev pub start_parts : State → ℕ → Task → List ℕ → List ℕ → List ℕ → List ℕ → List (List Ground)
+start_parts s first task shares tapes work tally =
+    idle_grounds (mode_of s)
+    ∷ joined (asked_parts s task shares tally)
+    ∷ job_parts s first (count_of task) (pairs_of s.side task shares) tapes work tally
 
 -- what a speak and a hear have in common; the buffer is out or incoming
 abbrev pub turn_parts : State → ℕ → Turn → List ℕ → List ℕ → List ℕ → List (List Ground)
@@ -123,11 +138,11 @@ turn_parts s first turn tapes work buffer =
     job_grounds (mode_of s)
     ∷ due_grounds s first turn
     ∷ tapes_grounds s tapes
-    ∷ room_grounds s.n s.batch.count work (message_fits s.n s.batch.count turn (length buffer))
+    ∷ room_grounds s.n (count_of s.batch.task) work (message_fits s.n (count_of s.batch.task) turn (length buffer))
     ∷ []
 
-abbrev pub start_grounds : State → ℕ → ℕ → List ℕ → List ℕ → List ℕ → List ℕ → List Ground
-start_grounds s first count shares tapes work tally = joined (start_parts s first count shares tapes work tally)
+abbrev pub start_grounds : State → ℕ → Task → List ℕ → List ℕ → List ℕ → List ℕ → List Ground
+start_grounds s first task shares tapes work tally = joined (start_parts s first task shares tapes work tally)
 
 abbrev pub turn_grounds : State → ℕ → Turn → List ℕ → List ℕ → List ℕ → List Ground
 turn_grounds s first turn tapes work buffer = joined (turn_parts s first turn tapes work buffer)
@@ -146,8 +161,8 @@ drop_grounds s = job_grounds (mode_of s)
 unfoldable pub wake_ground : State → ℕ → ℕ → List ℕ → ℕ
 wake_ground s n side tally = earliest_of (wake_grounds s n side tally)
 
-unfoldable pub start_ground : State → ℕ → ℕ → List ℕ → List ℕ → List ℕ → List ℕ → ℕ
-start_ground s first count shares tapes work tally = earliest_of (start_grounds s first count shares tapes work tally)
+unfoldable pub start_ground : State → ℕ → Task → List ℕ → List ℕ → List ℕ → List ℕ → ℕ
+start_ground s first task shares tapes work tally = earliest_of (start_grounds s first task shares tapes work tally)
 
 unfoldable pub speak_ground : State → ℕ → ℕ → List ℕ → List ℕ → List ℕ → ℕ
 speak_ground s first round tapes work out = earliest_of (speak_grounds s first round tapes work out)

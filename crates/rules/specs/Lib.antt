@@ -1,4 +1,5 @@
 pub mod Answers
+pub mod Tasks
 pub mod Batches
 pub mod Modes
 pub mod Grounds

@@ -4,7 +4,6 @@ use Rattle.lists.specs.Every.{every}
 use Rattle.field.specs.Width.{listed, modulus}
 use Rattle.shares.specs.Side.{is_side}
 use Rattle.protocol.specs.Rounds.{last_round}
-use Rattle.protocol.specs.Sizes.{count_fits}
 use Rattle.tally.specs.Tally.{tally_fits, tapes_of}
 use Rattle.rules.specs.declared.state.Turn.{Turn}
 use Rattle.rules.specs.declared.state.Turn.TheVariants.{Speak, Hear}
@@ -12,6 +11,7 @@ use Rattle.rules.specs.declared.state.Phase.{Phase}
 use Rattle.rules.specs.declared.state.Phase.TheVariants.{Asleep, Idle, Job}
 use Rattle.rules.specs.declared.state.Batch.{Batch}
 use Rattle.rules.specs.declared.state.State.{State}
+use Rattle.rules.specs.Tasks.{count_of, task_fits}
 use Rattle.rules.specs.Batches.{no_batch}
 
 abbrev pub round_of : Turn → ℕ
@@ -21,11 +21,11 @@ round_of (Hear round) = round
 abbrev pub round_fits : ℕ → Bool
 round_fits round = leb 1 round && leb round last_round
 
--- 1 to 8 jobs, and each one's tape number and shares
+-- 1 to 8 jobs, or a band's two with its bounds, and each one's tape number and shares
 abbrev pub batch_fits : ℕ → ℕ → Batch → Bool
 batch_fits n tally b =
-    count_fits b.count
-    && every b.count (λ i. ltb (b.first + i) (tapes_of tally) && ltb (get_or b.x i 0) (modulus n) && ltb (get_or b.y i 0) (modulus n))
+    task_fits n b.task
+    && every (count_of b.task) (λ i. ltb (b.first + i) (tapes_of tally) && ltb (get_or b.x i 0) (modulus n) && ltb (get_or b.y i 0) (modulus n))
 
 -- outside a job what a state holds of one is not looked at
 abbrev pub phase_fits : ℕ → ℕ → Batch → Phase → Bool

@@ -1,6 +1,7 @@
 // What a box keeps between calls, beside the buffers that it is lent.
 ghost use Rattle.std.specs.Prelude.{◌≡◌};
 ghost use Rattle.protocol.specs.Sizes.{count_fits};
+ghost use Rattle.rules.specs.Tasks.{count_of};
 
 // A start takes at most so many jobs (document 02, P9).
 pub const MOST_JOBS: usize = 8;
@@ -28,12 +29,33 @@ pub enum Phase {
     Job(Turn),
 }
 
-// The jobs that one start took, on consecutive tapes: the first number, how many they are, and the shares of x and y of each. The count, which document 02
-// has beside the phase (P9), stands here with the arrays, which an enum cannot hold. Where no job is open all of it is 0, so that no share stays behind.
+// What a start asks of its jobs (document 02, P9 and P10): so many comparisons, or whether a lies between two public bounds c1 and c2. A band is two
+// comparisons, so it holds no count.
+#[derive(Clone, Copy, Debug, PartialEq, Eq)]
+pub enum Task {
+    Compare(u32),
+    Band(u32, u32),
+}
+
+impl Task {
+    // How many comparisons it is.
+    pub fn count(self) -> u32
+        ensures { result ≡ count_of self }
+    {
+        match self {
+            Task::Compare(count) => count,
+            Task::Band(_, _) => 2,
+        }
+    }
+}
+
+// The jobs that one start took, on consecutive tapes: the first number, what is asked of them, and the shares of x and y of each. The count, which document
+// 02 has beside the phase (P9), stands in the task, beside the arrays, which an enum cannot hold. Where no job is open all of it is 0, so that no share
+// stays behind.
 #[derive(Clone, Copy, Debug, PartialEq, Eq)]
 pub struct Batch {
     pub first: u32,
-    pub count: u32,
+    pub task: Task,
     pub x: [u32; MOST_JOBS],
     pub y: [u32; MOST_JOBS],
 }
@@ -51,7 +73,7 @@ pub struct State {
 // No job's.
 pub const NO_BATCH: Batch = Batch {
     first: 0,
-    count: 0,
+    task: Task::Compare(0),
     x: [0; MOST_JOBS],
     y: [0; MOST_JOBS],
 };
