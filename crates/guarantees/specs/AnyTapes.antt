@@ -18,7 +18,7 @@ NotWider log n (other words) = Unit {0}
 -- no hear that is refused with 13 is lent a message of a larger width. One that is not refused is lent a true message, of its own width
 abbrev pub Narrow : Setting → ℕ → World → Box → Step → Type 0
 Narrow g place w b (wake n side p) = Unit {0}
-Narrow g place w b (start first count lent) = Unit {0}
+Narrow g place w b (start first task lent) = Unit {0}
 Narrow g place w b (speak first round lent out) = Unit {0}
 Narrow g place w b (hear first round lent incoming) =
     hear_ground (memory_of w b).state first round (tape_words g lent) (memory_of w b).work
@@ -26,7 +26,7 @@ Narrow g place w b (hear first round lent incoming) =
     → NotWider w.log (memory_of w b).state.n incoming
 Narrow g place w b drop = Unit {0}
 Narrow g place w b (cut room) = Unit {0}
-Narrow g place w b (cut_start first count lent at mark room) = Unit {0}
+Narrow g place w b (cut_start first task lent at mark room) = Unit {0}
 
 -- every entry from a place on
 abbrev pub AllNarrow : Setting → ℕ → World → List Entry → Type 0

@@ -2,6 +2,7 @@
 -- first number, count and width, a spoken message by the place of its speak in the list; neither by its words.
 use Rattle.std.specs.Prelude.{ℕ, List}
 use Rattle.tally.specs.Tally.{Mark}
+use Rattle.rules.specs.declared.state.Task.{Task}
 use Rattle.guarantees.specs.Boxes.{Box}
 
 -- lent tapes: dealt ones joined, so many of a box from a first number on, or other words
@@ -16,8 +17,8 @@ pub data Incoming : Type 0 where
 
 pub data Step : Type 0 where
   wake : (n side pair : ℕ) → Step
-  -- the shares come from a table, by the entry's place
-  start : (first count : ℕ) → Lent → Step
+  -- of comparisons or of a band, whose bounds stand here; the shares come from a table, by the entry's place
+  start : (first : ℕ) → Task → Lent → Step
   speak : (first round : ℕ) → Lent → (out : List ℕ) → Step
   hear : (first round : ℕ) → Lent → Incoming → Step
   drop : Step
@@ -25,7 +26,7 @@ pub data Step : Type 0 where
   cut : (room : ℕ) → Step
   -- the power fails in a start's write of the mark of its job `at`, the first one being job 0, which leaves these four bytes there; where it has no
   -- such job, between two calls. Between two marks is in the next one, whose group then stays FF
-  cut_start : (first count : ℕ) → Lent → (at : ℕ) → (mark : Mark) → (room : ℕ) → Step
+  cut_start : (first : ℕ) → Task → Lent → (at : ℕ) → (mark : Mark) → (room : ℕ) → Step
 
 pub record Entry : Type 0 where
   pub box : Box

@@ -4,6 +4,7 @@ use Rattle.std.specs.Prelude.{ℕ, suc, ◌+◌, ◌-◌, ◌%◌, Bool, true, f
 use Rattle.field.specs.Width.{modulus}
 use Rattle.protocol.specs.Change.{Shares, shares_of}
 use Rattle.protocol.specs.Shift.{shifted}
+use Rattle.rules.specs.Tasks.{count_of, pairs_of}
 use Rattle.rules.specs.Batches.{x_in, y_in}
 use Rattle.guarantees.specs.Boxes.{Box, box1, box2, side_of, other_box}
 use Rattle.guarantees.specs.Keys.{Key}
@@ -21,7 +22,7 @@ same_box box2 box2 = true
 
 -- a start of that box that was not refused and took that number
 abbrev pub takes : Box → ℕ → Event → Bool
-takes b number e = same_box b e.box && leb e.key.first number && ltb number (e.key.first + e.key.count) && is_opening (kind_of e.said)
+takes b number e = same_box b e.box && leb e.key.first number && ltb number (e.key.first + count_of e.key.task) && is_opening (kind_of e.said)
 
 -- the place of that start, or the log's length where there is none
 abbrev pub taken_at : List Event → Box → ℕ → ℕ
@@ -44,8 +45,8 @@ abbrev pub tape_shares : Common → Box → List Event → (ℕ → Lending) →
 tape_shares c b log shares number n =
     let key = key_found log b number in
     let i = number - key.first in
-    let own = clip n (shares (taken_at log b number)) in
-    let others = clip n (c.lendings (taken_at log (other_box b) key.first)) in
+    let own = clip n (pairs_of (side_of b) key.task (shares (taken_at log b number))) in
+    let others = clip n (pairs_of (side_of (other_box b)) key.task (c.lendings (taken_at log (other_box b) key.first))) in
     shares_of n (side_of b) (x_in own i) (y_in own i) (x_in others i) (y_in others i)
 
 abbrev pub moved : Common → Box → List Event → (ℕ → Lending) → (ℕ → Lending) → TapeMap

@@ -3,6 +3,7 @@
 use Rattle.std.specs.Prelude.{ℕ, ◌+◌, ◌<◌, ◌≤◌, ◌≡◌, false, List, [], length}
 use Rattle.tally.specs.Tally.{tapes_of, is_fresh}
 use Rattle.rules.specs.Answers.{started}
+use Rattle.rules.specs.Tasks.{count_of}
 use Rattle.guarantees.specs.Boxes.{Box}
 use Rattle.guarantees.specs.Keys.{Key}
 use Rattle.guarantees.specs.Entries.{Entry}
@@ -13,7 +14,7 @@ use Rattle.guarantees.specs.Correctness.{Happened}
 abbrev pub Rising : List Event → Type 0
 Rising log =
     (b : Box) (earlier later : ℕ) (key key' : Key) → earlier < later → Happened log earlier b key (replied started)
-    → Happened log later b key' (replied started) → key.first + key.count ≤ key'.first
+    → Happened log later b key' (replied started) → key.first + count_of key.task ≤ key'.first
 
 -- a tape of the box is spent: by a job, by a cut that left its mark half written, or before the list
 pub record SpentAt (w : World) (b : Box) (number : ℕ) : Type 0 where

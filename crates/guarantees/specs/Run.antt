@@ -6,6 +6,7 @@ use Rattle.field.specs.Width.{listed}
 use Rattle.shares.specs.Reading.{delivered}
 use Rattle.rules.specs.Answers.{Reply, spoken_words}
 use Rattle.tally.specs.Tally.{cut_marks}
+use Rattle.rules.specs.Tasks.{count_of}
 use Rattle.rules.specs.Modes.{mode_of, in_job, asleep_state}
 use Rattle.rules.specs.Grounds.{start_ground}
 use Rattle.rules.specs.Calls.{Result, wake_rule, start_rule, speak_rule, hear_rule, drop_rule}
@@ -14,7 +15,7 @@ use Rattle.guarantees.specs.Boxes.{Box, box1, box2}
 use Rattle.guarantees.specs.Keys.{Key, job_key, no_key, key_at, open_key}
 use Rattle.guarantees.specs.Entries.{Lent, dealt, loose, Incoming, spoken_at, other, Step, wake, start, speak, hear, drop, cut, cut_start, Entry}
 
--- the shares lent at a start: x and y of the first job, then of the next
+-- the shares lent at a start: of comparisons x and y of the first, then of the next; of a band its one share of a
 abbrev pub Lending : Type 0
 Lending = List ℕ
 
@@ -105,11 +106,11 @@ stepped g place w b (wake n side pair) =
     let r = wake_rule m.state n side pair m.tally in
     after w b (record { state = r.state; work = m.work; tally = m.tally })
     (record { box = b; key = no_key n; round = 0; said = replied r.reply; spoken = []; incoming = [] })
-stepped g place w b (start first count lent) =
+stepped g place w b (start first task lent) =
     let m = memory_of w b in
-    let r = start_rule m.state first count (g.shares b place) (tape_words g lent) m.work m.tally in
+    let r = start_rule m.state first task (g.shares b place) (tape_words g lent) m.work m.tally in
     after w b (after_start m r)
-    (record { box = b; key = job_key first count m.state.n; round = 0; said = replied r.reply; spoken = []; incoming = [] })
+    (record { box = b; key = job_key first task m.state.n; round = 0; said = replied r.reply; spoken = []; incoming = [] })
 stepped g place w b (speak first round lent out) =
     let m = memory_of w b in
     let r = speak_rule m.state first round (tape_words g lent) m.work out in
@@ -137,10 +138,10 @@ stepped g place w b (cut room) =
     let m = memory_of w b in
     after w b (after_cut g place room m m.tally)
     (record { box = b; key = open_key m.state; round = 0; said = cut_said m.state; spoken = []; incoming = [] })
-stepped g place w b (cut_start first count lent at mark room) =
+stepped g place w b (cut_start first task lent at mark room) =
     let m = memory_of w b in
-    let k = start_ground m.state first count (g.shares b place) (tape_words g lent) m.work m.tally in
-    after w b (after_cut g place room m (cond (eqb k 0 && ltb at count) (cut_marks m.tally first at mark) m.tally))
+    let k = start_ground m.state first task (g.shares b place) (tape_words g lent) m.work m.tally in
+    after w b (after_cut g place room m (cond (eqb k 0 && ltb at (count_of task)) (cut_marks m.tally first at mark) m.tally))
     (record { box = b; key = open_key m.state; round = 0; said = cut_said m.state; spoken = []; incoming = [] })
 
 -- the entries from a place on
