@@ -1,18 +1,20 @@
 // Each call's grounds of refusal, in document 01's order: the first that holds counts. A check reads what the call was lent and writes nothing. Where
 // none holds, a speak's and a hear's check give the box in its jobs, with what they showed of it. Each takes what its call takes, as document 01 lists it.
-ghost use Rattle.std.specs.Prelude.{◌≡◌, true, false, ◌+◌, ◌*◌, ◌<◌, length, IfOk};
+ghost use Rattle.std.specs.Prelude.{◌≡◌, true, false, ◌+◌, ◌*◌, ◌<◌, [], ◌∷◌, length, IfOk};
 ghost use Rattle.field.specs.Width.{listed};
-ghost use Rattle.lists.specs.Joined.{chained};
 ghost use Rattle.tally.specs.Tally.{tally_fits, is_fresh, late};
 ghost use Rattle.protocol.specs.Sizes.{count_fits};
 ghost use Rattle.refusals.specs.Grounds.{earliest_of, joined};
 ghost use Rattle.refusals.specs.Checks.{ground_of};
-ghost use Rattle.rules.specs.Grounds.{one_parts, turn_grounds, wake_ground, start_ground, speak_ground, hear_ground, drop_ground};
+ghost use Rattle.rules.specs.Tasks.{pairs_of};
+ghost use Rattle.rules.specs.declared.state.Task.TheVariants.{Compare, Band};
+ghost use Rattle.rules.specs.Grounds.{one_parts, job_parts, turn_grounds, wake_ground, start_ground, speak_ground, hear_ground, drop_ground};
 
 use crate::grounds::{
-    asleep_check, count_check, idle_check, job_check, list_check, mark_check, message_check,
-    room_check, share_check, tape_check, tapes_check, when, word_check,
+    asleep_check, bound_check, count_check, idle_check, job_check, list_check, mark_check,
+    message_check, room_check, share_check, tally_check, tape_check, tapes_check, when, word_check,
 };
+use crate::joined;
 use crate::joined::Joined;
 use field::Width;
 use refusals::Refusal;
@@ -38,33 +40,56 @@ pub fn start_check(
     work: &[u32],
     tally: &[u8],
 ) -> Result<(), Refusal>
-    ensures { ground_of result ≡ start_ground state.now first count shares.now tapes.now work.now tally.now }
+    ensures { ground_of result ≡ start_ground state.now first (Compare count) shares.now tapes.now work.now tally.now }
 {
     idle_check(crate::modes::mode_of(state))?;
     count_check(count)?;
-    when(tally.len() != state.tally as usize, Refusal::Tally)?;
+    tally_check(state, tally)?;
     list_check(count, shares)?;
-    jobs_check(state, first, count, shares, tapes, tally)?;
-    room_check(Width { bits: state.n }, count, work, true)
+    jobs_check(state, first, count, shares, tapes, work, tally)
 }
 
-// Every job of a start, one after the other.
+// Where none holds, it gives the shares of the band's two comparisons.
+#[tactic(auto, unfolding(rules::specs::Grounds::start_ground))]
+pub fn band_check(
+    state: &State,
+    first: u32,
+    low: u32,
+    high: u32,
+    share: u32,
+    tapes: &[u32],
+    work: &[u32],
+    tally: &[u8],
+) -> Result<[u32; 4], Refusal>
+    ensures ground { ground_of result ≡ start_ground state.now first (Band low high) (share ∷ []) tapes.now work.now tally.now }
+    ensures pairs { IfOk result (λ pairs. pairs ≡ pairs_of state.now.side (Band low high) (share ∷ [])) }
+{
+    idle_check(crate::modes::mode_of(state))?;
+    bound_check(Width { bits: state.n }, low, high)?;
+    tally_check(state, tally)?;
+    let pairs = joined::band_pairs(state.side, low, high, share);
+    jobs_check(state, first, 2, &pairs, tapes, work, tally)?;
+    Ok(pairs)
+}
+
+// Every job of a start, one after the other, and the room to work on all.
 fn jobs_check(
     state: &State,
     first: u32,
     count: u32,
-    shares: &[u32],
+    pairs: &[u32],
     tapes: &[u32],
+    work: &[u32],
     tally: &[u8],
 ) -> Result<(), Refusal>
     requires width { listed state.now.n ≡ true }
-    requires fits { (count_fits count ≡ true) × (length shares.now ≡ 2 * count) × (tally_fits (length tally.now) ≡ true) }
-    ensures { ground_of result ≡ earliest_of (chained count (λ i. joined (one_parts state.now first count shares.now tapes.now tally.now i))) }
+    requires fits { (count_fits count ≡ true) × (length pairs.now ≡ 2 * count) × (tally_fits (length tally.now) ≡ true) }
+    ensures { ground_of result ≡ earliest_of (joined (job_parts state.now first count pairs.now tapes.now work.now tally.now)) }
 {
     for i in 0..count as usize {
-        one_check(state, first, count, shares, tapes, tally, i)?;
+        one_check(state, first, count, pairs, tapes, tally, i)?;
     }
-    Ok(())
+    room_check(Width { bits: state.n }, count, work, true)
 }
 
 // One job of a start.
@@ -73,18 +98,18 @@ fn one_check(
     state: &State,
     first: u32,
     count: u32,
-    shares: &[u32],
+    pairs: &[u32],
     tapes: &[u32],
     tally: &[u8],
     i: usize,
 ) -> Result<(), Refusal>
     requires width { listed state.now.n ≡ true }
-    requires fits { (i < count) × (count_fits count ≡ true) × (length shares.now ≡ 2 * count) × (tally_fits (length tally.now) ≡ true) }
+    requires fits { (i < count) × (count_fits count ≡ true) × (length pairs.now ≡ 2 * count) × (tally_fits (length tally.now) ≡ true) }
     requires later { 0 < i → (is_fresh tally.now first ≡ true) × (late tally.now first ≡ false) }
-    ensures { ground_of result ≡ earliest_of (joined (one_parts state.now first count shares.now tapes.now tally.now i)) }
+    ensures { ground_of result ≡ earliest_of (joined (one_parts state.now first count pairs.now tapes.now tally.now i)) }
 {
     mark_check(first, i, tally)?;
-    share_check(Width { bits: state.n }, shares[2 * i], shares[2 * i + 1])?;
+    share_check(Width { bits: state.n }, pairs[2 * i], pairs[2 * i + 1])?;
     tape_check(state, first, count, tapes, i)
 }
 
@@ -146,6 +171,6 @@ fn turn_check<'a>(
     when(!due, Refusal::Turn)?;
     tapes_check(state, tapes)?;
     let n = Width { bits: state.n };
-    message_check(n, state.batch.count, turn, work, buffer)?;
+    message_check(n, state.batch.task.count(), turn, work, buffer)?;
     Ok(Joined { state, tapes })
 }

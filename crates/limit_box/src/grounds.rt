@@ -7,10 +7,12 @@ ghost use Rattle.tally.specs.Tally.{tapes_of, is_fresh, late};
 ghost use Rattle.protocol.specs.Sizes.{count_fits, most_jobs};
 ghost use Rattle.field.specs.Width.{listed};
 ghost use Rattle.tape.specs.Layout.{tape_length};
+ghost use Rattle.rules.specs.Tasks.{count_of};
 ghost use Rattle.rules.specs.Modes.{is_asleep};
 ghost use Rattle.rules.specs.Grounds.{message_fits, tapes_long, tape_ordered};
-ghost use Rattle.rules.specs.Grounds.{idle_grounds, job_grounds, count_grounds, list_grounds, mark_grounds, share_grounds, tape_grounds, tapes_grounds, room_grounds, word_grounds};
+ghost use Rattle.rules.specs.Grounds.{idle_grounds, job_grounds, count_grounds, bound_grounds, tally_grounds, list_grounds, mark_grounds, share_grounds, tape_grounds, tapes_grounds, room_grounds, word_grounds};
 
+use crate::modes;
 use field::Width;
 use refusals::Refusal;
 use rules::state;
@@ -61,6 +63,20 @@ pub fn count_check(count: u32) -> Result<(), Refusal>
     ensures { ground_of result ≡ earliest_of (count_grounds count) }
 {
     when(!state::count_fits(count), Refusal::Count)
+}
+
+// A band's bounds are in range and in order.
+pub fn bound_check(n: Width, low: u32, high: u32) -> Result<(), Refusal>
+    ensures { ground_of result ≡ earliest_of (bound_grounds n.bits low high) }
+{
+    when(!modes::bounds_fit(n, low, high), Refusal::Bounds)
+}
+
+// The lent tally is as long as at wake.
+pub fn tally_check(state: &State, tally: &[u8]) -> Result<(), Refusal>
+    ensures { ground_of result ≡ earliest_of (tally_grounds state.now tally.now) }
+{
+    when(tally.len() != state.tally as usize, Refusal::Tally)
 }
 
 // Two shares for each of them.
@@ -146,13 +162,14 @@ pub fn tape_check(
 #[tactic(auto, using(rules::proofs::Batches::count_most, lists::proofs::Joined::within, lists::proofs::Every::every_fails))]
 pub fn tapes_check(state: &State, tapes: &[u32]) -> Result<(), Refusal>
     requires width { listed state.now.n ≡ true }
-    requires jobs { (count_fits state.now.batch.count ≡ true) × (state.now.batch.first + state.now.batch.count ≤ 4294967296) }
+    requires jobs { (count_fits (count_of state.now.batch.task) ≡ true) × (state.now.batch.first + count_of state.now.batch.task ≤ 4294967296) }
     ensures { ground_of result ≡ earliest_of (tapes_grounds state.now tapes.now) }
 {
-    if !tapes_long(state, state.batch.count, tapes) {
+    let count = state.batch.task.count();
+    if !tapes_long(state, count, tapes) {
         return Err(Refusal::Tape);
     }
-    for i in 0..state.batch.count as usize {
+    for i in 0..count as usize {
         if !tape_ordered(state, state.batch.first, tapes, i) {
             return Err(Refusal::Tape);
         }

@@ -1,18 +1,21 @@
-// The box's five calls. Each is the rule of document 01 for it, whatever it is given: a call that is refused changes nothing. A job is what one start
-// takes, 1 to 8 comparisons on consecutive tapes (document 02, P9).
+// The box's calls: document 01's five, and a start of its own for a band (document 02, P10). Each is the rule for it, whatever it is given: a call that is
+// refused changes nothing. A job is what one start takes, 1 to 8 comparisons on consecutive tapes (P9), or a band, which is two of them.
 #![tactic(auto)]
 
-ghost use Rattle.std.specs.Prelude.{◌≡◌, [], ◌+◌, ◌≤◌, length};
+ghost use Rattle.std.specs.Prelude.{◌≡◌, [], ◌∷◌, ◌+◌, ◌*◌, ◌≤◌, length};
 ghost use Rattle.tally.specs.Tally.{tapes_of, first_marks};
 ghost use Rattle.rules.specs.Answers.{fresh, started, spoke, heard_or_finished, dropped, reply_of};
 ghost use Rattle.rules.specs.Modes.{in_phase};
-ghost use Rattle.rules.specs.Batches.{no_batch};
-ghost use Rattle.rules.specs.declared.state.Phase.TheVariants.{Idle};
+ghost use Rattle.rules.specs.Tasks.{count_of};
+ghost use Rattle.rules.specs.Batches.{no_batch, batch_of};
+ghost use Rattle.rules.specs.declared.state.Task.TheVariants.{Compare, Band};
+ghost use Rattle.rules.specs.declared.state.Turn.TheVariants.{Speak};
+ghost use Rattle.rules.specs.declared.state.Phase.TheVariants.{Idle, Job};
 ghost use Rattle.rules.specs.Calls.{outcome, wake_rule, start_rule, speak_rule, hear_rule, drop_rule};
 
 use refusals::Refusal;
 use rules::state;
-use rules::state::{MOST_JOBS, Phase, State, Turn};
+use rules::state::{MOST_JOBS, Phase, State, Task, Turn};
 
 mod checks;
 mod grounds;
@@ -47,6 +50,17 @@ fn mark(tally: &mut [u8], first: u32, count: u32)
     }
 }
 
+// The tapes of all jobs are marked, and they are open.
+fn open(state: &mut State, first: u32, task: Task, pairs: &[u32], tally: &mut [u8])
+    requires { (length pairs.now ≡ 2 * count_of task) × (first + count_of task ≤ tapes_of (length tally.old)) }
+    ensures tally { tally.new ≡ first_marks tally.old first (count_of task) }
+    ensures state { state.new ≡ in_phase state.old (Job (Speak 1)) (batch_of first task pairs.now) }
+{
+    mark(tally, first, task.count());
+    state.phase = Phase::Job(Turn::Speak(1));
+    state.batch = joined::batch_of(first, task, pairs);
+}
+
 // Opens a job: count comparisons on the tapes from number first on. Lent are x and y of the first, then of the next, and so their tapes and their room to
 // work. Nothing is sent.
 #[tactic(auto, using(refusals::proofs::Numbers::numbered), unfolding(rules::specs::Calls::start_rule))]
@@ -60,12 +74,30 @@ pub fn start(
     tally: &mut [u8],
 ) -> Result<(), Refusal>
     ensures { outcome (reply_of (λ _. started) result) state.new tally.new
-        ≡ start_rule state.old first count shares.now tapes.now work.now tally.old }
+        ≡ start_rule state.old first (Compare count) shares.now tapes.now work.now tally.old }
 {
     checks::start_check(&*state, first, count, shares, tapes, work, &*tally)?;
-    mark(tally, first, count);
-    state.phase = Phase::Job(Turn::Speak(1));
-    state.batch = joined::batch_of(first, count, shares);
+    open(state, first, Task::Compare(count), shares, tally);
+    Ok(())
+}
+
+// Opens a band, low < a and a < high, for one share of a: two comparisons on the tapes number first and the next. Nothing is sent.
+#[tactic(auto, using(refusals::proofs::Numbers::numbered), unfolding(rules::specs::Calls::start_rule))]
+pub fn start_band(
+    state: &mut State,
+    first: u32,
+    low: u32,
+    high: u32,
+    share: u32,
+    tapes: &[u32],
+    work: &[u32],
+    tally: &mut [u8],
+) -> Result<(), Refusal>
+    ensures { outcome (reply_of (λ _. started) result) state.new tally.new
+        ≡ start_rule state.old first (Band low high) (share ∷ []) tapes.now work.now tally.old }
+{
+    let pairs = checks::band_check(&*state, first, low, high, share, tapes, work, &*tally)?;
+    open(state, first, Task::Band(low, high), &pairs, tally);
     Ok(())
 }
 
@@ -83,7 +115,7 @@ pub fn speak(
 {
     let joined = checks::speak_check(&*state, first, round, tapes, work, &*out)?;
     joined.speak(round, work, out);
-    let words = compare::words::words_for(joined.width(), joined.state.batch.count, round);
+    let words = compare::words::words_for(joined.width(), joined.state.batch.task.count(), round);
     state.phase = Phase::Job(Turn::Hear(round));
     Ok(words)
 }

@@ -3,11 +3,12 @@ ghost use Rattle.std.specs.Prelude.{◌≡◌, true, ◌+◌, ◌&&◌, ◌<◌,
 ghost use Rattle.field.specs.Width.{modulus};
 ghost use Rattle.protocol.specs.Sizes.{most_jobs};
 ghost use Rattle.tally.specs.Tally.{tapes_of};
+ghost use Rattle.rules.specs.Tasks.{bounds_fit, task_fits};
 ghost use Rattle.rules.specs.Modes.{round_of, round_fits, batch_fits, phase_fits, in_range, mode_of, is_due};
 
 use field::Width;
 use rules::state;
-use rules::state::{Batch, Phase, State, Turn};
+use rules::state::{Batch, Phase, State, Task, Turn};
 
 fn round_of(turn: Turn) -> u32
     ensures { result ≡ round_of turn }
@@ -23,6 +24,23 @@ fn round_fits(round: u32) -> bool
     (1..=compare::words::LAST_ROUND).contains(&round)
 }
 
+// A band's bounds: c1 < c2 < p.
+pub fn bounds_fit(n: Width, low: u32, high: u32) -> bool
+    ensures { result ≡ bounds_fit n.bits low high }
+{
+    low < high && n.contains(high)
+}
+
+// What was asked: so many comparisons, or a band with its bounds.
+fn task_fits(n: Width, task: Task) -> bool
+    ensures { result ≡ task_fits n.bits task }
+{
+    match task {
+        Task::Compare(count) => state::count_fits(count),
+        Task::Band(low, high) => bounds_fit(n, low, high),
+    }
+}
+
 // Job i's tape number and its shares.
 fn job_fits(n: Width, tally: u32, batch: &Batch, i: usize) -> bool
     requires { i < most_jobs }
@@ -34,14 +52,14 @@ fn job_fits(n: Width, tally: u32, batch: &Batch, i: usize) -> bool
         && n.contains(batch.y[i])
 }
 
-#[tactic(auto, using(rules::proofs::Batches::count_most, lists::proofs::Every::every_fails))]
+#[tactic(auto, using(rules::proofs::Tasks::counted, rules::proofs::Batches::count_most, lists::proofs::Every::every_fails))]
 fn batch_fits(n: Width, tally: u32, batch: &Batch) -> bool
     ensures { result ≡ batch_fits n.bits tally batch.now }
 {
-    if !state::count_fits(batch.count) {
+    if !task_fits(n, batch.task) {
         return false;
     }
-    for i in 0..batch.count as usize {
+    for i in 0..batch.task.count() as usize {
         if !job_fits(n, tally, batch, i) {
             return false;
         }
