@@ -94,12 +94,12 @@ compatible_self g place w (e ∷ es) = (one e.box e.step, compatible_self g (suc
 
     one : (b : Box) (step : Step) → Compatible g.shares g place w b step
     one b (wake n side p) = tt
-    one b (start first count tapes) = lent b
+    one b (start first task tapes) = lent b
     one b (speak first round tapes out) = tt
     one b (hear first round tapes incoming) = tt
     one b drop = tt
     one b (cut room) = tt
-    one b (cut_start first count tapes at mark room) = lent b
+    one b (cut_start first task tapes at mark room) = lent b
 
 -- ---- the two runs
 
@@ -116,7 +116,7 @@ own_or_other box2 box2 = inl refl
 -- a run's log, and the log that the maps go by, which finds the same places
 module _ (log log₀ : List Event) (once : Once log) (e : SamePlaces log₀ log) where
   -- the tape of each job of a key that b opened is moved by the shares of that job, b's own and those of the other box's start of that number
-  key_shares : (c : Common) (b : Box) (shares : ℕ → Lending) (key : Key) → Took log b key → (i : ℕ) → i < key.count
+  key_shares : (c : Common) (b : Box) (shares : ℕ → Lending) (key : Key) → Took log b key → (i : ℕ) → i < count_of key.task
       → tape_shares c b log₀ shares (key.first + i) key.width
       ≡ shares_in key.width b (shares (taken_at log b key.first)) (c.lendings (taken_at log (other_box b) key.first)) i
   key_shares c b shares key t i less =
