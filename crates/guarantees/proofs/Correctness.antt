@@ -105,9 +105,10 @@ unfolding other
 exchange_right tapes lent pair key i l m l1 l2 =
     let pairs1 = pairs_at lent box1 key in
     let pairs2 = pairs_at lent box2 key in
+    let test = ltb ((x_in pairs1 i + x_in pairs2 i) % modulus key.width) ((y_in pairs1 i + y_in pairs2 i) % modulus key.width) in
     let room = le_of_eq (sym (length-replicate (work_length key.width) 0)) in
     (right m (x_in pairs1 i) (y_in pairs1 i) (x_in pairs2 i) (y_in pairs2 i) l1 l2 (blank key.width) room room).same
-    ∙ mod-eq_of_lt (omega (arith, indicator_bit (ltb ((x_in pairs1 i + x_in pairs2 i) % modulus key.width) ((y_in pairs1 i + y_in pairs2 i) % modulus key.width)), bounds l))
+    ∙ mod-eq_of_lt (omega (arith, indicator_bit test, bounds l))
 
 -- so what each box answers, each comparison's share or a band's from its two, adds up to the bit for the shares that were lent
 answers_right : (n : ℕ) (task : Task) (lent1 lent2 : Lending) (each1 each2 : ℕ → ℕ) → listed n ≡ true → task_fits n task ≡ true

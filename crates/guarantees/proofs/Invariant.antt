@@ -229,8 +229,10 @@ module _ (g : Setting) (book : Box → Key → Lending) (Known : Box → Key →
 
       tape : (i : ℕ) → i < count_of s.batch.task → tape_part s.n (tape_words g lent) i ≡ g.tapes b (s.batch.first + i) s.n
       tape i less =
-          ap (λ (words : List ℕ). tape_part s.n words i) (ap (tape_words g) (named ∙ ap (λ (k : ℕ). dealt b k (count_of s.batch.task) s.n) p.due.first_is) ∙ rw l refl)
-          ∙ dealt_part g pair orders b s.batch.first s.n l (count_of s.batch.task) i less
+          let count = count_of s.batch.task in
+          ap (λ (words : List ℕ). tape_part s.n words i)
+          (ap (tape_words g) (named ∙ ap (λ (k : ℕ). dealt b k count s.n) p.due.first_is) ∙ rw l refl)
+          ∙ dealt_part g pair orders b s.batch.first s.n l count i less
 
       side : (i : ℕ) → i < count_of s.batch.task → s.side ≡ side_of b
       side i less =

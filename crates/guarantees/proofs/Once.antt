@@ -189,7 +189,8 @@ once_run g place w (e ∷ es) marked once =
 abbrev pub SomeEach : List Event → Type 0
 SomeEach log = (k : ℕ) → is_opening (kind_of (event_at log k).said) ≡ true → 0 < count_of (event_at log k).key.task
 
-some_more : (log : List Event) (e : Event) → SomeEach log → (is_opening (kind_of e.said) ≡ true → 0 < count_of e.key.task) → SomeEach (log ++ (e ∷ []))
+some_more : (log : List Event) (e : Event) → SomeEach log → (is_opening (kind_of e.said) ≡ true → 0 < count_of e.key.task)
+    → SomeEach (log ++ (e ∷ []))
 some_more [] e old new zero = new
 some_more [] e old new (suc k) = old k
 some_more (d ∷ log) e old new zero = old zero
