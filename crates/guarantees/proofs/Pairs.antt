@@ -118,4 +118,5 @@ module _ (tapes tapes' : Box → ℕ → ℕ → List ℕ) (book book' : Box →
       → answers_by tapes book (other_box b) key ≡ answers_by tapes' book' (other_box b) key
   answers_alike b h k =
       ap (answers_given key.width (side_of (other_box b)) key.task)
-      (each_same (count_of key.task) (answer_in tapes book (other_box b) key) (answer_in tapes' book' (other_box b) key) (λ i less. answer_job b h i (k i less)))
+      (each_same (count_of key.task) (answer_in tapes book (other_box b) key) (answer_in tapes' book' (other_box b) key)
+      (λ i less. answer_job b h i (k i less)))

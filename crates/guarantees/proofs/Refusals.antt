@@ -71,7 +71,7 @@ ShareAlike s v v' = (is_asleep (mode_of s) ≡ true) ⊎ (ltb v (modulus s.n) �
 abbrev pub SharesAlike : State → List ℕ → List ℕ → Type 0
 SharesAlike s shares shares' = (length shares ≡ length shares') × ((i : ℕ) → ShareAlike s (get_or shares i 0) (get_or shares' i 0))
 
--- so the comparisons' are alike: a band has the same bounds in both runs, and of the shares the one of a
+-- so are the shares of x and y that they give: those of a band's bounds are the same in both runs, and it takes one from the list
 pairs_alike : (s : State) (side : ℕ) (task : Task) (shares shares' : List ℕ) → SharesAlike s shares shares'
     → SharesAlike s (pairs_of side task shares) (pairs_of side task shares')
 pairs_alike s side (Compare count) shares shares' a = a
@@ -175,8 +175,8 @@ module _ {s s' : State} (t : LowState s s') where
       let due = due_job s first turn awake (not-false _ (none (due_grounds s first turn) is_next).0) in
       (job_range s awake due.job).counted
 
-  module _ (first : ℕ) (turn : Turn) (tapes tapes' work work' buffer buffer' : List ℕ) (tapes_alike : TapesAlike s s.batch.first (count_of s.batch.task) tapes tapes')
-      (room : length work ≡ length work') (long : length buffer ≡ length buffer') where
+  module _ (first : ℕ) (turn : Turn) (tapes tapes' work work' buffer buffer' : List ℕ)
+      (tapes_alike : TapesAlike s s.batch.first (count_of s.batch.task) tapes tapes') (room : length work ≡ length work') (long : length buffer ≡ length buffer') where
     pub turn_same : earliest_of (turn_grounds s first turn tapes work buffer) ≡ earliest_of (turn_grounds s' first turn tapes' work' buffer')
     turn_same = joined_same same
       where

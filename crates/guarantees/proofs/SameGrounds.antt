@@ -32,10 +32,12 @@ share_alike m v v' (inr (inl asleep)) = inl asleep
 share_alike m v v' (inr (inr fits)) = inr (lt-ltb _ _ fits.0 ∙ sym (lt-ltb _ _ fits.1))
 
 shares_alike : (m : Memory) (vs vs' : Lending) → SharesInBoth m vs vs' → SharesAlike m.state vs vs'
-shares_alike m vs vs' h =
-    (h.0, λ i.
-    by_cases (dec_lt i (length vs)) (λ less. share_alike m (get_or vs i 0) (get_or vs' i 0) (h.1 i less))
-    (λ past. inr (rw (get_or-eq_default vs 0 {n = i} (omega arith), get_or-eq_default vs' 0 {n = i} (omega (arith, h.0))) refl)))
+shares_alike m vs vs' h = (h.0, each)
+  where
+    each : (i : ℕ) → ShareAlike m.state (get_or vs i 0) (get_or vs' i 0)
+    each i =
+        by_cases (dec_lt i (length vs)) (λ less. share_alike m (get_or vs i 0) (get_or vs' i 0) (h.1 i less))
+        (λ past. inr (rw (get_or-eq_default vs 0 {n = i} (omega arith), get_or-eq_default vs' 0 {n = i} (omega (arith, h.0))) refl))
 
 -- seen from the second run
 in_both_back : {m m' : Memory} (v v' : ℕ) → LowMemory m m' → InBoth m v v' → InBoth m' v' v
@@ -112,7 +114,8 @@ module _ (w w' : World) (k : LowEquivalent w w') where
 
 -- a call names the same dealt tapes in both
 dealt_same : {w w' : World} (k : LowEquivalent w w') (c : Box) (first : ℕ)
-    → dealt c first (count_of (memory_of w c).state.batch.task) (memory_of w c).state.n ≡ dealt c first (count_of (memory_of w' c).state.batch.task) (memory_of w' c).state.n
+    → dealt c first (count_of (memory_of w c).state.batch.task) (memory_of w c).state.n
+    ≡ dealt c first (count_of (memory_of w' c).state.batch.task) (memory_of w' c).state.n
 dealt_same k c first = ap (λ (key : Key). dealt c key.first (count_of key.task) key.width) (key_same k c first)
 
 -- with the same grounds of refusal the second run keeps to what the first keeps to

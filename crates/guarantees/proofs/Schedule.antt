@@ -52,7 +52,8 @@ turn_taken s first round tapes work incoming taken =
     (both_none (turn_grounds s first (Hear round) tapes work incoming) (word_grounds s.n incoming) taken).0
 
 module _ {s s' : State} (t : LowState s s') (first round : ℕ) (tapes tapes' work work' incoming incoming' : List ℕ)
-    (lent : TapesAlike s s.batch.first (count_of s.batch.task) tapes tapes') (room : length work ≡ length work') (long : length incoming ≡ length incoming') where
+    (lent : TapesAlike s s.batch.first (count_of s.batch.task) tapes tapes') (room : length work ≡ length work')
+    (long : length incoming ≡ length incoming') where
   turns : earliest_of (turn_grounds s first (Hear round) tapes work incoming) ≡ earliest_of (turn_grounds s' first (Hear round) tapes' work' incoming')
   turns = turn_same t first (Hear round) tapes tapes' work work' incoming incoming' lent room long
 
