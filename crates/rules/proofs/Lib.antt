@@ -1,6 +1,7 @@
 pub mod Decide
 pub mod Tasks
 pub mod Batches
+pub mod Bands
 pub mod Chained
 pub mod Ranges
 pub mod Passed

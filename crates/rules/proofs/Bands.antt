@@ -1,0 +1,45 @@
+-- A band's two comparisons, c1 < a and a < c2, add up to its bit and 1 more, since c1 < c2. So the two answer shares of a band, of which box 1 takes off the 1,
+-- add up to the bit modulo p.
+use Prim.Native.Nat.{ℕ, ◌+◌, ◌%◌, ◌<◌}
+use mathlib.Core.Path.{◌≡◌, refl, ◌∙◌}
+use mathlib.Core.Bool.{Bool, true, false, ◌&&◌}
+use native.Mathlib.Nat.{mod-eq_of_lt}
+use native.Mathlib.Omega.{arith}
+use lib.Dec.{ltb}
+use borrow.Author.Tests.{ltb-false}
+use Rattle.field.specs.Width.{listed, modulus}
+use Rattle.field.specs.Congruence.{Cong}
+use Rattle.field.proofs.Widths.{bounds}
+use Rattle.field.proofs.Congruences.{cong_eq, ◌⊙◌, cong_mod, cong_add, cong_cancel, cong_sym}
+use Rattle.field.proofs.Subtraction.{minus_total}
+use Rattle.shares.specs.Share.{constant_share}
+use Rattle.encoding.specs.Matching.{indicator}
+use Rattle.protocol.proofs.Halves.{indicator_bit}
+use Rattle.rules.specs.Tasks.{band_share}
+
+-- one of the two comparisons is true at least
+two_tests : (low high a : ℕ) → low < high → indicator (ltb low a) + indicator (ltb a high) ≡ indicator (ltb low a && ltb a high) + 1
+two_tests low high a less = go (ltb low a) (ltb a high) refl refl
+  where
+    go : (above below : Bool) → ltb low a ≡ above → ltb a high ≡ below → indicator above + indicator below ≡ indicator (above && below) + 1
+    go true true e f = refl
+    go true false e f = refl
+    go false true e f = refl
+    go false false e f = absurd (omega (arith, ltb-false low a e, ltb-false a high f, less))
+
+-- the shares u of c1 < a and v of a < c2 at box 1 and box 2
+pub band_total : (n low high a u1 u2 v1 v2 : ℕ) → listed n ≡ true → low < high
+    → (u1 + u2) % modulus n ≡ indicator (ltb low a) → (v1 + v2) % modulus n ≡ indicator (ltb a high)
+    → (band_share n 1 u1 v1 + band_share n 2 u2 v2) % modulus n ≡ indicator (ltb low a && ltb a high)
+unfolding constant_share
+band_total n low high a u1 u2 v1 v2 l less above below =
+    let p = modulus n in
+    let b = bounds l in
+    let bit = indicator (ltb low a && ltb a high) in
+    let pairs : Cong p ((u1 + v1) % p + (u2 + v2) % p) (bit + 1) =
+    cong_add cong_mod cong_mod
+    ⊙ cong_eq {b = (u1 + u2) + (v1 + v2)} (omega arith)
+    ⊙ cong_add (cong_sym cong_mod) (cong_sym cong_mod)
+    ⊙ cong_eq (rw (above, below) (two_tests low high a less)) in
+    (cong_cancel 1 (omega (arith, b)) (minus_total n ((u1 + v1) % p) ((u2 + v2) % p) 1 0 (omega (arith, b)) (omega arith) ⊙ pairs)).same
+    ∙ mod-eq_of_lt (omega (arith, indicator_bit (ltb low a && ltb a high), b))
