@@ -8,7 +8,7 @@ use native.Mathlib.Nat.{le_of_eq}
 use native.Mathlib.Numerals.{add-one}
 use native.Mathlib.Decide.{dec_lt}
 use native.Mathlib.Omega.{arith}
-use borrow.Author.Tests.{lt-ltb, le-ltb, eqb-true, eqb-false}
+use borrow.Author.Tests.{eq-eqb, lt-ltb, le-ltb, eqb-true, eqb-false}
 use borrow.Rule.Slice.PartMut.{put_mid}
 use lib.Dec.{eqb, ltb}
 use lib.ListN.{length, get_or, get_or-eq_default, set, take, drop, length-set}
@@ -20,6 +20,8 @@ use Rattle.lists.proofs.Joined.{within, length_part, sets_chained, part_unset, g
 use Rattle.lists.proofs.Parts.{put_whole}
 use Rattle.lists.proofs.Sets.{sets_whole}
 use Rattle.lists.proofs.Tabulate.{length_tabulate, get_d_tabulate, tabulated}
+use Rattle.field.specs.Width.{listed, modulus}
+use Rattle.field.proofs.Widths.{bounds}
 use Rattle.shares.specs.Reading.{legible}
 use Rattle.protocol.specs.Words.{FromLine}
 use Rattle.protocol.specs.Work.{work_length}
@@ -27,13 +29,16 @@ use Rattle.protocol.specs.Products.{Party}
 use Rattle.protocol.specs.Rounds.{last_round, round_words, message, after_hearing, answer_share, share_after}
 use Rattle.protocol.specs.Sizes.{most_jobs, round_for, work_for}
 use Rattle.protocol.proofs.Lengths.{message_length, after_length}
+use Rattle.protocol.proofs.Below.{answer_below}
+use Rattle.rules.specs.Tasks.{count_of}
 use Rattle.rules.specs.Answers.{heard_or_finished}
-use Rattle.rules.specs.Batches.{no_batch, each_job, party_of, work_part, words_part, joined_after, answer_shares}
+use Rattle.rules.specs.Batches.{no_batch, each_job, party_of, work_part, words_part, joined_after, answers_given, answer_shares}
 use Rattle.rules.specs.Modes.{in_phase}
 use Rattle.rules.specs.Grounds.{words_fit, hear_ground}
 use Rattle.rules.specs.Calls.{outcome, heard_after, hear_rule}
 use Rattle.rules.specs.declared.state.Turn.TheVariants.{Speak}
 use Rattle.rules.specs.declared.state.Phase.TheVariants.{Idle, Job}
+use Rattle.rules.proofs.Batches.{each_below}
 use Rattle.rules.proofs.Passed.{words_most}
 use Rattle.rules.specs.declared.state.State.{State}
 
@@ -69,7 +74,7 @@ module _ (s : State) (tapes work : List ℕ) (round : ℕ) where
       (sets_whole (part size l k) (message_at k) (message_length (party_of s tapes k) (work_part s.n work k) round ∙ sym (length_part size l k fits)))
 
   -- a turn of speak's loop
-  pub speak_turn : (out l new : List ℕ) (k : ℕ) → k < s.batch.count → round_for s.n s.batch.count round ≤ length out
+  pub speak_turn : (out l new : List ℕ) (k : ℕ) → k < count_of s.batch.task → round_for s.n (count_of s.batch.task) round ≤ length out
       → l ≡ sets out 0 (chained k message_at)
       → new ≡ message_at k
       → put_mid (k * round_words s.n round) (k * round_words s.n round + round_words s.n round - k * round_words s.n round) l new
@@ -78,7 +83,7 @@ module _ (s : State) (tapes work : List ℕ) (round : ℕ) where
       let size = round_words s.n round in
       let long : (i : ℕ) → i < k → length (message_at i) ≡ size = λ i _. message_length (party_of s tapes i) (work_part s.n work i) round in
       let same : length l ≡ length out = ap length before ∙ length-sets out 0 (chained k message_at) in
-      put_part size l new k (omega (arith, within s.batch.count size k less, room, same)) (ap length this ∙ message_length (party_of s tapes k) (work_part s.n work k) round)
+      put_part size l new k (omega (arith, within (count_of s.batch.task) size k less, room, same)) (ap length this ∙ message_length (party_of s tapes k) (work_part s.n work k) round)
       ∙ ap₂ (λ (m w : List ℕ). sets m (k * size) w) before this
       ∙ sets_chained out k size message_at long
       ∙ ap (λ (m : ℕ). sets out 0 (chained m message_at)) (sym (add-one k))
@@ -91,27 +96,27 @@ module _ (s : State) (tapes work : List ℕ) (round : ℕ) where
     abbrev pub told_at : ℕ → ℕ
     told_at i = unwrap_or (share_after (party_of s tapes i) (work_part s.n work i) round (words_part s.n round incoming i)) 0
 
-    part_long : (k : ℕ) → k < s.batch.count → work_for s.n s.batch.count ≤ length work → length (work_part s.n work k) ≡ work_length s.n
-    part_long k less room = length_part (work_length s.n) work k (omega (arith, within s.batch.count (work_length s.n) k less, room))
+    part_long : (k : ℕ) → k < count_of s.batch.task → work_for s.n (count_of s.batch.task) ≤ length work → length (work_part s.n work k) ≡ work_length s.n
+    part_long k less room = length_part (work_length s.n) work k (omega (arith, within (count_of s.batch.task) (work_length s.n) k less, room))
 
-    kept_long : (k : ℕ) → k < s.batch.count → work_for s.n s.batch.count ≤ length work → length (after_at k) ≡ work_length s.n
+    kept_long : (k : ℕ) → k < count_of s.batch.task → work_for s.n (count_of s.batch.task) ≤ length work → length (after_at k) ≡ work_length s.n
     kept_long k less room =
         after_length (party_of s tapes k) (work_part s.n work k) (words_part s.n round incoming k) round ∙ part_long k less room
 
     -- no turn before has touched the next job's part of work
-    pub untouched : (l : List ℕ) (k : ℕ) → k < s.batch.count → work_for s.n s.batch.count ≤ length work → l ≡ sets work 0 (chained k after_at)
+    pub untouched : (l : List ℕ) (k : ℕ) → k < count_of s.batch.task → work_for s.n (count_of s.batch.task) ≤ length work → l ≡ sets work 0 (chained k after_at)
         → work_part s.n l k ≡ work_part s.n work k
     untouched l k less room before =
         ap (λ (m : List ℕ). work_part s.n m k) before
         ∙ part_unset work k (work_length s.n) after_at k (omega arith) (λ i below. kept_long i (omega (arith, below, less)) room)
 
     -- a turn of hear's loop, at work
-    pub hear_turn : (l new : List ℕ) (k : ℕ) → k < s.batch.count → work_for s.n s.batch.count ≤ length work → l ≡ sets work 0 (chained k after_at)
+    pub hear_turn : (l new : List ℕ) (k : ℕ) → k < count_of s.batch.task → work_for s.n (count_of s.batch.task) ≤ length work → l ≡ sets work 0 (chained k after_at)
         → new ≡ after_hearing (party_of s tapes k) (work_part s.n l k) round (words_part s.n round incoming k)
         → put_mid (k * work_length s.n) (k * work_length s.n + work_length s.n - k * work_length s.n) l new ≡ sets work 0 (chained (k + 1) after_at)
     hear_turn l new k less room before this =
         let size = work_length s.n in
-        let fits = within s.batch.count size k less in
+        let fits = within (count_of s.batch.task) size k less in
         let same : length l ≡ length work = ap length before ∙ length-sets work 0 (chained k after_at) in
         let own : new ≡ after_at k =
         this
@@ -122,11 +127,11 @@ module _ (s : State) (tapes work : List ℕ) (round : ℕ) where
         ∙ ap (λ (m : ℕ). sets work 0 (chained m after_at)) (sym (add-one k))
 
     -- a part of words that can be read
-    pub part_from_line : (k : ℕ) → k < s.batch.count → length incoming ≡ round_for s.n s.batch.count round → words_fit s.n incoming ≡ true
+    pub part_from_line : (k : ℕ) → k < count_of s.batch.task → length incoming ≡ round_for s.n (count_of s.batch.task) round → words_fit s.n incoming ≡ true
         → FromLine s.n (round_words s.n round) (words_part s.n round incoming k)
     part_from_line k less long fits =
         let size = round_words s.n round in
-        let room = length_part size incoming k (omega (arith, within s.batch.count size k less, long)) in
+        let room = length_part size incoming k (omega (arith, within (count_of s.batch.task) size k less, long)) in
         record {
           most =
               λ j.
@@ -164,9 +169,17 @@ each_more k f inside =
 
 -- after the last round these are the answer shares
 pub last_told : (s : State) (tapes work : List ℕ) (round : ℕ) (incoming : List ℕ) → round ≡ last_round
-    → each_job s.batch.count (told_at s tapes work round incoming) ≡ answer_shares s tapes work incoming
+    → answers_given s.n s.side s.batch.task (each_job (count_of s.batch.task) (told_at s tapes work round incoming)) ≡ answer_shares s tapes work incoming
 unfolding share_after answer_shares
 last_told s tapes work round incoming last = rw last refl
+
+-- then each is below p
+pub told_below : (s : State) (tapes work : List ℕ) (round : ℕ) (incoming : List ℕ) → listed s.n ≡ true → round ≡ last_round
+    → (i : ℕ) → get_or (each_job (count_of s.batch.task) (told_at s tapes work round incoming)) i 0 < modulus s.n
+unfolding share_after
+told_below s tapes work round incoming width last i =
+    each_below (count_of s.batch.task) (told_at s tapes work round incoming) (omega (arith, (bounds width).seven))
+    (λ k. rw (eq-eqb round last_round last) (answer_below (party_of s tapes k) width (work_part s.n work k) (words_part s.n round incoming k))) i
 
 -- ---- the outcome of a hear that goes on, by whether its round is the last
 

@@ -1,7 +1,7 @@
 -- How many jobs a start takes, the words that stand for them, one for each, and which of them are a job's.
 use Prim.Native.Nat.{ℕ, ◌<◌, ◌≤◌}
 use mathlib.Core.Path.{◌≡◌, refl, ap₂, ◌∙◌}
-use mathlib.Core.Bool.{true, cond}
+use mathlib.Core.Bool.{Bool, true, false, cond}
 use mathlib.Core.List.{List}
 use mathlib.Core.Logic.{by_cases}
 use native.Mathlib.Decide.{dec_lt}
@@ -14,6 +14,7 @@ use Rattle.lists.proofs.Tabulate.{length_tabulate, get_d_tabulate, tabulate_same
 use Rattle.protocol.specs.Sizes.{most_jobs, count_fits}
 use Rattle.protocol.specs.Products.{party}
 use Rattle.protocol.specs.Rounds.{last_round, answer_share}
+use Rattle.protocol.proofs.Ranges.{tabulated_below}
 use Rattle.rules.specs.Tasks.{count_of, answer_count, band_share}
 use Rattle.rules.specs.Modes.{in_phase}
 use Rattle.rules.specs.Batches.{each_job, x_in, y_in, batch_of, tape_part, work_part, words_part, party_of, answers_given, answer_shares}
@@ -50,6 +51,14 @@ each_same count f g same =
     by_cases (dec_lt k count)
     (λ inside. rw (lt-ltb k count inside) (same k inside))
     (λ outside. rw (le-ltb k count (omega arith)) refl))
+
+-- where each is below p, so is what stands for them
+pub each_below : {p : ℕ} (count : ℕ) (f : ℕ → ℕ) → 0 < p → ((i : ℕ) → f i < p) → (i : ℕ) → get_or (each_job count f) i 0 < p
+each_below {p} count f some below = (tabulated_below most_jobs (λ i. cond (ltb i count) (f i) 0) (λ i. go i (ltb i count))).at
+  where
+    go : (i : ℕ) (t : Bool) → cond t (f i) 0 < p
+    go i true = below i
+    go i false = some
 
 -- ---- the jobs of a start, each with its own shares
 

@@ -6,4 +6,4 @@ use Rattle.rules.specs.Grounds.{one_parts}
 use Rattle.limit_box.proofs.checks.jobs_check.Given as goal
 
 abbrev pub invariant-loop-i : goal.invariant-loop-i
-invariant-loop-i l = earliest_of (chained l.i (λ k. joined (one_parts l.state l.first l.count l.shares l.tapes l.tally k))) ≡ 0
+invariant-loop-i l = earliest_of (chained l.i (λ k. joined (one_parts l.state l.first l.count l.pairs l.tapes l.tally k))) ≡ 0

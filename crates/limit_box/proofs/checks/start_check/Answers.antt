@@ -3,15 +3,15 @@ use Rattle.std.proofs.Common.{◌≡◌, ◌*◌, true, sym, ap, ◌∙◌, arit
 use borrow.Author.Tests.{eqb-true, not-false}
 use lib.Dec.{eqb}
 use lib.ListN.{length}
-use Rattle.std.proofs.lemmas.Result.{err_from_is_err_and}
 use Rattle.protocol.specs.Sizes.{count_fits}
-use Rattle.refusals.specs.Grounds.{earliest_of}
+use Rattle.refusals.specs.Grounds.{earliest_of, joined}
 use Rattle.refusals.proofs.Chains.{none}
 use Rattle.tally.specs.Tally.{tally_fits}
 use Rattle.rules.specs.Modes.{mode_of, is_asleep}
-use Rattle.rules.specs.Grounds.{idle_grounds, count_grounds, tally_grounds, list_grounds, start_parts, start_ground}
+use Rattle.rules.specs.Grounds.{idle_grounds, count_grounds, tally_grounds, list_grounds, asked_parts, start_parts, start_ground}
+use Rattle.rules.specs.declared.state.Task.TheVariants.{Compare}
 use Rattle.rules.proofs.Ranges.{awake_range, Ranged, ranged}
-use Rattle.limit_box.proofs.Chains.{decided, past, here, last}
+use Rattle.limit_box.proofs.Chains.{comes, decided, past, last}
 use Rattle.limit_box.proofs.checks.start_check.Goals.{In_ok-idle_check, In_ok-list_check}
 use Rattle.limit_box.proofs.checks.start_check.Goals as goal
 
@@ -33,7 +33,14 @@ module _ (c : In_ok-list_check) where
   same_tally =
       let a = c.args in
       eqb-true (length a.tally.now) a.state.now.tally
-      (not-false (eqb (length a.tally.now) a.state.now.tally) (none (tally_grounds a.state.now a.tally.now) (sym c.in_ok-when.ensures)).0)
+      (not-false (eqb (length a.tally.now) a.state.now.tally) (none (tally_grounds a.state.now a.tally.now) (sym c.in_ok-tally_check.ensures)).0)
+
+  -- so of what is asked no ground holds
+  asked : 0 ≡ earliest_of (joined (asked_parts c.args.state.now (Compare c.args.count) c.args.shares.now c.args.tally.now))
+  asked =
+      let a = c.args in
+      decided {parts = asked_parts a.state.now (Compare a.count) a.shares.now a.tally.now}
+      (past c.in_ok-count_check.ensures (past c.in_ok-tally_check.ensures (last c.in_ok-list_check.ensures)))
 
   two_each : length c.args.shares.now ≡ 2 * c.args.count
   two_each =
@@ -49,27 +56,9 @@ jobs_check-requires-clause-fits c =
     let k = (goal.at.jobs_check-requires-clause-fits c).In_ok-list_check in
     (counted k, two_each k, rw (same_tally k) (awake (goal.at.jobs_check-requires-clause-fits c).In_ok-idle_check).tallied)
 
-pub returns-in_err-jobs_check : goal.returns-in_err-jobs_check
-unfolding start_ground
-returns-in_err-jobs_check c =
-    let a = c.args in
-    let e = err_from_is_err_and c.from_residual-in_err-jobs_check.result c.from_residual-in_err-jobs_check.ensures.1 in
-    rw (e.1, e.2)
-    (decided {parts = start_parts a.state.now a.first a.count a.shares.now a.tapes.now a.work.now a.tally.now}
-    (past (idle (goal.at.returns-in_err-jobs_check c).In_ok-idle_check)
-    (past c.in_ok-count_check.ensures
-    (past c.in_ok-when.ensures
-    (past c.in_ok-list_check.ensures (here _ c.in_err-jobs_check.ensures))))))
-
-pub invariant_of-room_check : goal.invariant_of-room_check
-invariant_of-room_check c = record { listed = (awake (goal.at.invariant_of-room_check c).In_ok-idle_check).width }
-
 pub returns : goal.returns
 unfolding start_ground
 returns c =
     let a = c.args in
-    decided {parts = start_parts a.state.now a.first a.count a.shares.now a.tapes.now a.work.now a.tally.now}
-    (past (idle (goal.at.returns c).In_ok-idle_check)
-    (past c.in_ok-count_check.ensures
-    (past c.in_ok-when.ensures
-    (past c.in_ok-list_check.ensures (past c.in_ok-jobs_check.ensures (last c.room_check.ensures))))))
+    decided {parts = start_parts a.state.now a.first (Compare a.count) a.shares.now a.tapes.now a.work.now a.tally.now}
+    (past (idle (goal.at.returns c).In_ok-idle_check) (past (asked (goal.at.returns c).In_ok-list_check) (comes c.jobs_check.ensures)))

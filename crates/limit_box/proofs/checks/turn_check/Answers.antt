@@ -5,6 +5,7 @@ use Rattle.std.proofs.lemmas.Result.{err_from_is_err_and}
 use Rattle.refusals.specs.Grounds.{earliest_of}
 use Rattle.refusals.proofs.Chains.{none}
 use Rattle.tally.proofs.Marks.{tally_most, tapes_most}
+use Rattle.rules.specs.Tasks.{count_of}
 use Rattle.rules.specs.Modes.{mode_of, is_asleep, is_due}
 use Rattle.rules.specs.Grounds.{job_grounds, due_grounds, turn_parts}
 use Rattle.rules.proofs.Batches.{count_most}
@@ -41,8 +42,8 @@ pub tapes_check-requires-clause-jobs : goal.tapes_check-requires-clause-jobs
 tapes_check-requires-clause-jobs c =
     let s = c.args.state.now in
     let r = range c in
-    let some = (count_most s.batch.count r.counted).0 in
-    let last = r.numbers (s.batch.count - 1) (omega (arith, some)) in
+    let some = (count_most (count_of s.batch.task) r.counted).0 in
+    let last = r.numbers ((count_of s.batch.task) - 1) (omega (arith, some)) in
     (r.counted, omega (arith, some, last, tapes_most s.tally, tally_most s.tally (sound c).tallied))
 
 pub returns-in_err-tapes_check-clause-ground : goal.returns-in_err-tapes_check-clause-ground
@@ -64,7 +65,7 @@ returns-in_err-message_check-clause-ground c =
     let e = err_from_is_err_and c.from_residual-in_err-message_check.result c.from_residual-in_err-message_check.ensures.1 in
     rw (e.1, e.2)
     (decided {parts = turn_parts a.state.now a.first a.turn a.tapes.now a.work.now a.buffer.now}
-    (past (job k) (past (due k) (past c.in_ok-tapes_check.ensures (here _ c.in_err-message_check.ensures)))))
+    (past (job k) (past (due k) (past c.in_ok-tapes_check.ensures (here _ (rw c.count.ensures at c.in_err-message_check.ensures))))))
 
 pub invariant_of-result : goal.invariant_of-result
 invariant_of-result c =

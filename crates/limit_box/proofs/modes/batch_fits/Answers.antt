@@ -2,10 +2,10 @@
 use Rattle.std.proofs.Common.{sym}
 use Rattle.lists.proofs.Tests.{and-false}
 use Rattle.lists.proofs.Every.{every_fails}
-use Rattle.protocol.specs.Sizes.{count_fits}
+use Rattle.rules.specs.Tasks.{count_of, task_fits}
 use Rattle.limit_box.proofs.modes.batch_fits.Goals as goal
 
 pub returns-then-not-job_fits : goal.returns-then-not-job_fits
 returns-then-not-job_fits c =
     let b = c.args.batch.now in
-    sym (and-false (count_fits b.count) (every_fails b.count _ c.loop-i.i c.loop-i-test.true (sym (c.if-not-job_fits.ensures))))
+    sym (and-false (task_fits c.args.n.bits b.task) (every_fails (count_of b.task) _ c.loop-i.i (rw c.count-i-end.ensures at c.loop-i-test.true) (sym (c.if-not-job_fits.ensures))))

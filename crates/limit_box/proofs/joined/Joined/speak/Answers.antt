@@ -6,6 +6,7 @@ use Rattle.lists.specs.Joined.{chained}
 use Rattle.lists.proofs.Joined.{within}
 use Rattle.protocol.specs.Work.{work_length}
 use Rattle.protocol.specs.Rounds.{round_words}
+use Rattle.rules.specs.Tasks.{count_of}
 use Rattle.rules.specs.Batches.{joined_message}
 use Rattle.limit_box.proofs.Hearing.{message_at, speak_part, speak_turn}
 use Rattle.limit_box.proofs.joined.Joined.speak.Goals as goal
@@ -18,15 +19,15 @@ loop-i-preserved c =
     c.words_of-words.ensures ∙ ap (λ (n : ℕ). round_words n c.args.round) c.width-n.ensures in
     let room : c.work_words-room.result ≡ work_length s.n = c.work_words-room.ensures ∙ ap (λ (n : ℕ). work_length n) c.width-n.ensures in
     let fits : c.loop-i.i * round_words s.n c.args.round + round_words s.n c.args.round ≤ length c.loop-i.out =
-    omega (arith, within s.batch.count (round_words s.n c.args.round) c.loop-i.i c.loop-i-test.true, c.requires.1, c.loop-i.auto.out) in
+    omega (arith, within (count_of s.batch.task) (round_words s.n c.args.round) c.loop-i.i (rw c.count-i-end.ensures at c.loop-i-test.true), c.requires.1, c.loop-i.auto.out) in
     let own = c.speak.ensures ∙ speak_part s tapes c.args.work.now c.args.round _ _ _ c.loop-i.out c.loop-i.i words room c.party.ensures fits in
     rw words
-    (speak_turn s tapes c.args.work.now c.args.round c.args.out.now c.loop-i.out c.speak.new.out c.loop-i.i c.loop-i-test.true c.requires.1 c.loop-i.invariant own)
+    (speak_turn s tapes c.args.work.now c.args.round c.args.out.now c.loop-i.out c.speak.new.out c.loop-i.i (rw c.count-i-end.ensures at c.loop-i-test.true) c.requires.1 c.loop-i.invariant own)
 
 pub returns : goal.returns
 unfolding joined_message
 returns c =
     let a = c.args in
     let s = a.self.state.now in
-    let all : c.loop-i.i ≡ s.batch.count = omega arith in
+    let all : c.loop-i.i ≡ count_of s.batch.task = omega (arith, c.count-i-end.ensures) in
     c.loop-i.invariant ∙ ap (λ (k : ℕ). sets a.out.now 0 (chained k (message_at s a.self.tapes.now a.work.now a.round))) all
