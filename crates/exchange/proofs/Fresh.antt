@@ -22,7 +22,7 @@ use Rattle.protocol.specs.Work.{work_length}
 use Rattle.protocol.specs.Rounds.{round_words}
 use Rattle.protocol.specs.Sizes.{most_jobs, count_fits, tape_for, round_for, work_for}
 use Rattle.protocol.proofs.Lengths.{words_most}
-use Rattle.tally.specs.Tally.{mark_bytes, tally_fits, tapes_of, is_fresh, late, fresh_count}
+use Rattle.tally.specs.Tally.{tally_fits, tapes_of, is_fresh, late, fresh_count}
 use Rattle.rules.specs.Modes.{in_range, mode_of, is_asleep}
 use Rattle.rules.specs.Batches.{no_batch, tape_part}
 use Rattle.rules.specs.Grounds.{wake_ground, start_ground}
