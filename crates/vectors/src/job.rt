@@ -1,12 +1,11 @@
 // Jobs of both boxes against the words of their files.
 ghost use Rattle.std.specs.Prelude.{ℕ, ◌≡◌, ◌<◌, ◌≤◌, ◌++◌, length, take, IfSome};
 ghost use Rattle.std.specs.Option.{is_some, option_map, option_and_then};
-ghost use Rattle.protocol.specs.Products.{party};
 ghost use Rattle.protocol.specs.Rounds.{last_round};
 ghost use Rattle.protocol.specs.Sizes.{most_jobs};
 ghost use Rattle.rules.specs.Answers.{heard_or_finished, reply_of};
-ghost use Rattle.rules.specs.Tasks.{count_of, pairs_of, answer_count};
-ghost use Rattle.rules.specs.Batches.{party_of, joined_message, x_in, y_in, tape_part};
+ghost use Rattle.rules.specs.Tasks.{count_of, answer_count};
+ghost use Rattle.rules.specs.Batches.{party_of, joined_message};
 ghost use Rattle.rules.specs.Calls.{outcome, heard_after};
 ghost use Rattle.rules.specs.declared.state.Turn.TheVariants.{Speak};
 ghost use Rattle.tally.specs.Tally.{longest_tally};
@@ -14,7 +13,7 @@ ghost use Rattle.exchange.specs.Boxes.{Ready, works_of};
 ghost use Rattle.exchange.specs.Rooms.{blank_works};
 ghost use Rattle.vectors.specs.Numbers.{spelled};
 ghost use Rattle.vectors.specs.Due.{Due};
-ghost use Rattle.vectors.specs.Job.{messages_to, transcript, shares_in, unused_tally, comes, job_told, tapes_told, agreed};
+ghost use Rattle.vectors.specs.Job.{messages_to, transcript, shares_in, unused_tally, comes, party_at, job_told, tapes_told, agreed};
 ghost use Rattle.vectors.specs.Sent.{respelled_in, job_sent, tapes_sent, sent, Named, Agreeing};
 
 use crate::head::{self, Form, Job, MOST_SHARES, list_words};
@@ -107,8 +106,7 @@ fn begun(
     ensures comes { is_some result ≡ comes job side list tapes.now }
     ensures ready { IfSome result (λ s. Ready s job.first (Speak 1) tapes.now work.now) }
     ensures same { IfSome result (λ s. (s.n ≡ job.n) × (s.side ≡ side) × (s.batch.task ≡ job.task)) }
-    ensures parties { IfSome result (λ s. (i : ℕ) → i < count_of job.task → party_of s tapes.now i
-        ≡ party job.n side (x_in (pairs_of side job.task list) i) (y_in (pairs_of side job.task list) i) (tape_part job.n tapes.now i)) }
+    ensures parties { IfSome result (λ s. (i : ℕ) → i < count_of job.task → party_of s tapes.now i ≡ party_at job side list tapes.now i) }
 {
     let mut state = state::FIRST;
     let mut tally = unused_tally();
