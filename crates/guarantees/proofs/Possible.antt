@@ -31,6 +31,7 @@ use Rattle.protocol.specs.Answer.{half_opening, half_opened, answer_from}
 use Rattle.protocol.specs.Rounds.{half_word, answer_share, round_words, message, after_hearing}
 use Rattle.protocol.specs.Sizes.{count_fits}
 use Rattle.rules.specs.Answers.{started, finished}
+use Rattle.rules.specs.Tasks.{answer_count}
 use Rattle.tally.specs.Tally.{tally_fits, tapes_of, is_fresh, late, marked, cut_marked, fresh_count}
 use Rattle.rules.specs.Modes.{in_range, mode_of, is_asleep}
 use Rattle.rules.specs.Batches.{joined_message, joined_after, answer_shares}
@@ -90,7 +91,7 @@ happened log place b key said e =
 abbrev plain_setting : Case → Setting
 plain_setting k =
     let free = zeros k.respells in
-    record { tapes = plain_set; shares = shares_of k.counts; leftovers = free.leftovers; board = free.board }
+    record { tapes = plain_set; shares = shares_of k.asks; leftovers = free.leftovers; board = free.board }
 
 by_box_same : {A : Type 0} (f : Box → A) (b : Box) → by_box b (f b) (f (other_box b)) ≡ f
 by_box_same f b = fun_ext (at b)
@@ -102,14 +103,14 @@ by_box_same f b = fun_ext (at b)
     at box2 box2 = refl
 
 same_setting : (k : Case) (b : Box) → setting_in k b ≡ plain_setting k
-same_setting k b = rw (by_box_same plain_set b, by_box_same (shares_of k.counts) b) refl
+same_setting k b = rw (by_box_same plain_set b, by_box_same (shares_of k.asks) b) refl
 
 abbrev plain_log : Case → List Event
 plain_log k = (run (plain_setting k) 0 (world_in k box1) k.entries).log
 
 -- the second shares, by the box that is to stay hidden
 abbrev anew : Case → Box → Box → ℕ → Lending
-anew k hidden = by_box hidden (shares_anew k.counts) (shares_of k.counts (other_box hidden))
+anew k hidden = by_box hidden (shares_anew k.asks) (shares_of k.asks (other_box hidden))
 
 -- what is computed of a list
 record Summary : Type 0 where
@@ -194,13 +195,13 @@ between_possible = possible between refl
 
 -- every index below the count, by a test of each
 sum_tested : (k : Case)
-    → every k.key.count
+    → every (answer_count k.key.task)
     (λ i.
     eqb ((get_or k.answers1 i 0 + get_or k.answers2 i 0) % modulus 3)
-    (bit_for 3 (shares_of k.counts box1 k.opened) (shares_of k.counts box2 (k.opened + 1)) i))
+    (bit_for 3 k.key.task (shares_of k.asks box1 k.opened) (shares_of k.asks box2 (k.opened + 1)) i))
     ≡ true
     → RightSumIn k
-sum_tested k t i below = eqb-true _ _ (every_at k.key.count _ t i below)
+sum_tested k t i below = eqb-true _ _ (every_at (answer_count k.key.task) _ t i below)
 
 pub right_sum : RightSum
 unfolding modulus whole respelled again joined between
