@@ -44,7 +44,7 @@ use Rattle.guarantees.specs.Premises.{AtFirst, Meets, AllCompatible}
 use Rattle.guarantees.specs.Comparison.{Valid, by_box}
 use Rattle.guarantees.specs.Correctness.{Happened, bit_for}
 use Rattle.guarantees.specs.Possible.{pair_number, shares_of, shares_anew, plain_set, zeros, last_hears, starts_twice}
-use Rattle.guarantees.specs.Possible.{Case, whole, respelled, again, joined, between, common_in, setting_in, world_in, log_in}
+use Rattle.guarantees.specs.Possible.{Case, whole, respelled, again, joined, between, banded, band_again, band_between, common_in, setting_in, world_in, log_in}
 use Rattle.guarantees.specs.Possible.{Possible, RightSumIn, RightSum, CutInMark, ZerosRespelled, UpAndDown}
 use Rattle.guarantees.proofs.Premises.{list_test, list_tested}
 
@@ -193,6 +193,18 @@ pub between_possible : (b : Box) → Possible between b
 unfolding run_rules between
 between_possible = possible between refl
 
+pub banded_possible : (b : Box) → Possible banded b
+unfolding run_rules banded
+banded_possible = possible banded refl
+
+pub band_again_possible : (b : Box) → Possible band_again b
+unfolding run_rules band_again
+band_again_possible = possible band_again refl
+
+pub band_between_possible : (b : Box) → Possible band_between b
+unfolding run_rules band_between
+band_between_possible = possible band_between refl
+
 -- every index below the count, by a test of each
 sum_tested : (k : Case)
     → every (answer_count k.key.task)
@@ -204,7 +216,7 @@ sum_tested : (k : Case)
 sum_tested k t i below = eqb-true _ _ (every_at (answer_count k.key.task) _ t i below)
 
 pub right_sum : RightSum
-unfolding modulus whole respelled again joined between
+unfolding modulus whole respelled again joined between banded band_again band_between
 right_sum =
     record {
       in_whole = sum_tested whole refl;
@@ -212,14 +224,19 @@ right_sum =
       in_again = sum_tested again refl;
       in_joined = sum_tested joined refl;
       in_between = sum_tested between refl;
+      in_banded = sum_tested banded refl;
+      in_band_again = sum_tested band_again refl;
+      in_band_between = sum_tested band_between refl;
     }
 
 pub cut_in_mark : CutInMark
-unfolding run_rules again between
+unfolding run_rules again between band_again band_between
 cut_in_mark =
     record {
       in_again = record { passed = refl; tape0 = refl; tape1 = refl };
       in_between = record { passed = refl; tape0 = refl; tape1 = refl };
+      in_band_again = record { passed = refl; tape0 = refl; tape1 = refl };
+      in_band_between = record { passed = refl; tape0 = refl; tape1 = refl };
     }
 
 pub zeros_respelled : ZerosRespelled
@@ -228,4 +245,4 @@ zeros_respelled = (refl, refl)
 
 pub up_and_down : UpAndDown
 unfolding run_rules starts_twice
-up_and_down = record { up = refl; down = refl; onto_first = refl; onto_second = refl }
+up_and_down = record { up = refl; down = refl; onto_first = refl; onto_second = refl; onto_band = refl }
