@@ -133,66 +133,65 @@ pub record Case : Type 0 where
 abbrev pub two_answers : ℕ → ℕ → List ℕ
 two_answers v v' = v ∷ v' ∷ replicate 6 0
 
--- box 2's answers are 0 in all of the lists
-abbrev pub case_of : List Entry → Asks → Bool → (opened : ℕ) → Key → List ℕ → Case
-case_of entries asks respells opened key answers1 =
+-- both boxes do a whole job, with the zeros on the line as they were spoken, or spelled p
+abbrev pub one_job : Bool → Task → (answers1 answers2 : List ℕ) → Case
+one_job respells task answers1 answers2 =
     record {
-      entries = entries;
-      asks = asks;
+      entries = wakes box1 ∷ wakes box2 ∷ job_from 2 0 task;
+      asks = λ place. task;
       respells = respells;
-      opened = opened;
-      key = key;
+      opened = 2;
+      key = job_key 0 task 3;
       answers1 = answers1;
-      answers2 = two_answers 0 0;
+      answers2 = answers2;
     }
 
--- a whole job, with the zeros on the line as they were spoken, or spelled p
-abbrev pub one_job : Bool → Case
-one_job respells =
-    case_of (wakes box1 ∷ wakes box2 ∷ job_from 2 0 (Compare 1)) (λ place. Compare 1) respells 2 (job_key 0 (Compare 1) 3) (two_answers 1 0)
+-- at first the power fails in the mark of job `at` of a start of box 1; the later job is another, from a first number on
+abbrev pub job_after_cut : Task → (at first : ℕ) → Task → (answers1 answers2 : List ℕ) → Case
+job_after_cut lost at first task answers1 answers2 =
+    record {
+      entries = wakes box1 ∷ wakes box2 ∷ cut_unmarked lost at ∷ wakes box1 ∷ job_from 4 first task;
+      asks = λ place. cond (eqb place 2) lost task;
+      respells = false;
+      opened = 4;
+      key = job_key first task 3;
+      answers1 = answers1;
+      answers2 = answers2;
+    }
 
 unfoldable pub whole : Case
-whole = one_job false
+whole = one_job false (Compare 1) (two_answers 1 0) (two_answers 0 0)
 
 unfoldable pub respelled : Case
-respelled = one_job true
+respelled = one_job true (Compare 1) (two_answers 1 0) (two_answers 0 0)
 
--- at first the power fails in box 1's mark; the later job is on that very tape
+-- the power fails in the only mark; the later job is on that very tape
 unfoldable pub again : Case
-again =
-    case_of (wakes box1 ∷ wakes box2 ∷ cut_unmarked (Compare 1) 0 ∷ wakes box1 ∷ job_from 4 0 (Compare 1)) (λ place. Compare 1) false 4
-    (job_key 0 (Compare 1) 3) (two_answers 1 0)
+again = job_after_cut (Compare 1) 0 0 (Compare 1) (two_answers 1 0) (two_answers 0 0)
 
 -- one start takes two jobs
 unfoldable pub joined : Case
-joined = case_of (wakes box1 ∷ wakes box2 ∷ job_from 2 0 (Compare 2)) (λ place. Compare 2) false 2 (job_key 0 (Compare 2) 3) (two_answers 0 1)
+joined = one_job false (Compare 2) (two_answers 0 1) (two_answers 0 0)
 
--- at first the power fails between the two marks of box 1's start of two jobs; the later job is on the second tape alone
+-- the power fails between the two marks of a start of two jobs; the later job is on the second tape alone
 unfoldable pub between : Case
-between =
-    case_of (wakes box1 ∷ wakes box2 ∷ cut_unmarked (Compare 2) 1 ∷ wakes box1 ∷ job_from 4 1 (Compare 1)) (λ place. Compare (cond (eqb place 2) 2 1)) false 4
-    (job_key 1 (Compare 1) 3) (two_answers 1 0)
+between = job_after_cut (Compare 2) 1 1 (Compare 1) (two_answers 1 0) (two_answers 0 0)
 
 -- is a in the band from 2 to 5
 abbrev pub two_to_five : Task
 two_to_five = Band 2 5
 
--- a whole band
+-- a whole band: one answer
 unfoldable pub banded : Case
-banded = case_of (wakes box1 ∷ wakes box2 ∷ job_from 2 0 two_to_five) (λ place. two_to_five) false 2 (job_key 0 two_to_five 3) (two_answers 1 0)
+banded = one_job false two_to_five (two_answers 6 0) (two_answers 2 0)
 
--- at first the power fails in the first mark of box 1's start of a band; the later band is on those very tapes
+-- the power fails in the first mark of a band's start; the later band is on those very tapes
 unfoldable pub band_again : Case
-band_again =
-    case_of (wakes box1 ∷ wakes box2 ∷ cut_unmarked two_to_five 0 ∷ wakes box1 ∷ job_from 4 0 two_to_five) (λ place. two_to_five) false 4
-    (job_key 0 two_to_five 3) (two_answers 1 0)
+band_again = job_after_cut two_to_five 0 0 two_to_five (two_answers 6 0) (two_answers 2 0)
 
--- at first it fails in the second; the later job is on the second tape alone
+-- it fails in the second one; the later job is on the second tape alone
 unfoldable pub band_between : Case
-band_between =
-    case_of (wakes box1 ∷ wakes box2 ∷ cut_unmarked two_to_five 1 ∷ wakes box1 ∷ job_from 4 1 (Compare 1))
-    (λ place. cond (eqb place 2) two_to_five (Compare 1)) false 4
-    (job_key 1 (Compare 1) 3) (two_answers 1 0)
+band_between = job_after_cut two_to_five 1 1 (Compare 1) (two_answers 1 0) (two_answers 0 0)
 
 -- box b being the one to stay hidden
 abbrev pub common_in : Case → Box → Common
