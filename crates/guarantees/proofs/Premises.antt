@@ -26,7 +26,7 @@ use Rattle.guarantees.proofs.Outcomes.{is_message, message_of_lem}
 
 -- ---- a true message and the box's own tapes
 
-abbrev same_task : Task → Task → Bool
+abbrev pub same_task : Task → Task → Bool
 same_task (Compare count) (Compare count') = eqb count count'
 same_task (Compare count) (Band low high) = false
 same_task (Band low high) (Compare count) = false

@@ -258,6 +258,17 @@ ZerosRespelled =
     let log = log_in respelled box1 in
     (get_or (event_at log 6).incoming 27 0 ≡ 7) × (get_or (event_at log 7).incoming 28 0 ≡ 7)
 
+-- ---- lists by themselves, box 1 being the one to stay hidden: what their runs are given, the world at first, and the log
+
+abbrev pub setting_for : Asks → Setting
+setting_for asks = setting_of (plain_common asks [] box1) box1 (plain_set box1) (shares_of asks box1) (zeros false)
+
+abbrev pub world_at_first : World
+world_at_first = world_of (plain_common (λ place. Compare 0) [] box1) (zeros false)
+
+abbrev pub log_for : Asks → List Entry → List Event
+log_for asks entries = (run (setting_for asks) 0 world_at_first entries).log
+
 -- ---- two starts
 
 -- box 1 opens a job, drops it and starts another
@@ -272,9 +283,7 @@ starts_twice first task first' task' =
 -- what its two starts come to: the events 1 and 3
 abbrev pub said_twice : (first : ℕ) → Task → (first' : ℕ) → Task → Said × Said
 said_twice first task first' task' =
-    let asks : Asks = λ place. cond (eqb place 1) task task' in
-    let c = plain_common asks (starts_twice first task first' task') box1 in
-    let log = (run (setting_of c box1 (plain_set box1) (shares_of asks box1) (zeros false)) 0 (world_of c (zeros false)) c.entries).log in
+    let log = log_for (λ place. cond (eqb place 1) task task') (starts_twice first task first' task') in
     ((event_at log 1).said, (event_at log 3).said)
 
 -- upwards both jobs are opened; downwards the second number is late. A start of two comparisons takes both numbers, and so does a band's, so where one of two
@@ -286,7 +295,7 @@ pub record UpAndDown : Type 0 where
   pub onto_second : said_twice 0 (Compare 2) 1 (Compare 1) ≡ (replied started, replied (refused 8))
   pub onto_band : said_twice 0 two_to_five 1 (Compare 1) ≡ (replied started, replied (refused 8))
 
--- ---- a message of another job on the same tapes
+-- ---- a message of another kind of job on the same tapes
 
 -- box 1 starts one job on two tapes, box 2 another; both speak round 1
 unfoldable pub mixed : Task → Task → List Entry
@@ -301,23 +310,21 @@ mixed task1 task2 =
     ∷ []
 
 -- and box 2 hears what box 1 spoke
-unfoldable pub mixed_heard : Task → Task → List Entry
+abbrev pub mixed_heard : Task → Task → List Entry
 mixed_heard task1 task2 = mixed task1 task2 ++ ((box2 does hear 0 1 (dealt box2 0 2 3) (spoken_at 4)) ∷ [])
+
+-- what its two starts ask
+abbrev pub mixed_asks : Task → Task → Asks
+mixed_asks task1 task2 place = cond (eqb place 2) task1 task2
+
+abbrev pub MeetsFor : Asks → List Entry → Type 0
+MeetsFor asks entries = Meets (setting_for asks) 0 world_at_first entries
 
 -- box 2 takes it, since no ground is against it; but the list does not meet the premises, which it meets without that hear
 pub record TakenThough (task1 task2 : Task) : Type 0 where
-  pub asks : Asks
-  pub asks_are : (asks 2 ≡ task1) × (asks 3 ≡ task2)
-  pub taken :
-      let c = plain_common asks (mixed_heard task1 task2) box1 in
-      (event_at (run (setting_of c box1 (plain_set box1) (shares_of asks box1) (zeros false)) 0 (world_of c (zeros false)) c.entries).log 6).said
-      ≡ replied heard
-  pub before :
-      let c = plain_common asks (mixed task1 task2) box1 in
-      Meets (setting_of c box1 (plain_set box1) (shares_of asks box1) (zeros false)) 0 (world_of c (zeros false)) c.entries
-  pub not_met :
-      let c = plain_common asks (mixed_heard task1 task2) box1 in
-      Meets (setting_of c box1 (plain_set box1) (shares_of asks box1) (zeros false)) 0 (world_of c (zeros false)) c.entries → ⊥
+  pub taken : (event_at (log_for (mixed_asks task1 task2) (mixed_heard task1 task2)) 6).said ≡ replied heard
+  pub before : MeetsFor (mixed_asks task1 task2) (mixed task1 task2)
+  pub not_met : MeetsFor (mixed_asks task1 task2) (mixed_heard task1 task2) → ⊥
 
 -- a joined pair's message lent to a band, a band's lent to a joined pair, and one of a band with other bounds
 pub record OtherKinds : Type 0 where
