@@ -33,7 +33,7 @@ use Rattle.protocol.specs.Sizes.{count_fits}
 use Rattle.rules.specs.Answers.{started, heard, finished}
 use Rattle.rules.specs.Tasks.{answer_count}
 use Rattle.rules.specs.declared.state.Task.{Task}
-use Rattle.rules.specs.declared.state.Task.TheVariants.{Compare, Band}
+use Rattle.rules.specs.declared.state.Task.TheVariants.{Compare}
 use Rattle.tally.specs.Tally.{tally_fits, tapes_of, is_fresh, late, marked, cut_marked, fresh_count}
 use Rattle.rules.specs.Modes.{in_range, mode_of, is_asleep}
 use Rattle.rules.specs.Batches.{joined_message, joined_after, answer_shares}
@@ -42,12 +42,13 @@ use Rattle.rules.specs.Calls.{wake_rule, start_rule, speak_rule, heard_after, he
 use Rattle.guarantees.specs.Boxes.{Box, box1, box2, other_box}
 use Rattle.guarantees.specs.Keys.{Key}
 use Rattle.guarantees.specs.Entries.{dealt, Incoming, spoken_at, other, hear}
-use Rattle.guarantees.specs.Run.{Lending, Setting, Said, replied, Event, World, memory_of, event_at, tape_words, incoming_words, stepped, run}
+use Rattle.guarantees.specs.Run.{Lending, Setting, Said, replied, Event, memory_of, event_at, tape_words, incoming_words, stepped, run}
 use Rattle.guarantees.specs.Premises.{AtFirst, TrueMessage, Meets, AllCompatible}
 use Rattle.guarantees.specs.Comparison.{Valid, by_box}
 use Rattle.guarantees.specs.Correctness.{Happened, bit_for}
-use Rattle.guarantees.specs.Possible.{pair_number, shares_of, shares_anew, plain_set, zeros, last_hears, two_to_five, starts_twice, setting_for, world_at_first, mixed, mixed_asks}
-use Rattle.guarantees.specs.Possible.{Case, whole, respelled, again, joined, between, banded, band_again, band_between, common_in, setting_in, world_in, log_in}
+use Rattle.guarantees.specs.Possible.{pair_number, shares_of, shares_anew, plain_set, zeros, last_hears, two_to_five}
+use Rattle.guarantees.specs.Possible.{Case, whole, respelled, again, joined, between, banded, band_again, band_between}
+use Rattle.guarantees.specs.Possible.{common_in, setting_in, world_in, log_in, starts_twice, setting_for, world_at_first, mixed, mixed_asks, one_to_five}
 use Rattle.guarantees.specs.Possible.{Possible, RightSumIn, RightSum, CutInMark, ZerosRespelled, UpAndDown, TakenThough, OtherKinds}
 use Rattle.guarantees.proofs.Premises.{same_task, list_test, list_tested}
 
@@ -260,7 +261,8 @@ spoken_under {log} t = ap (λ k. (event_at log k).key) (ap place_of t.named) ∙
     place_of (spoken_at place) = place
     place_of (other words) = 0
 
--- what is computed of a list with such a hear at its end: whether it meets the premises without that, what the hear comes to, and the tasks of the two jobs
+-- what is computed of a list with such a hear at its end: whether it meets the premises without it, what the hear comes to and its ground, and what the two
+-- jobs are, the one that the message was spoken in and the one that is open
 record Mixed : Type 0 where
   meets : Bool
   said : Said
@@ -285,8 +287,8 @@ mixed_summary task1 task2 =
 abbrev mixed_expected : Task → Task → Mixed
 mixed_expected task1 task2 = record { meets = true; said = replied heard; ground = 0; spoken = task1; due = task2 }
 
-taken_though : (task1 task2 : Task) → mixed_summary task1 task2 ≡ mixed_expected task1 task2 → same_task task1 task2 ≡ false → same_task task2 task2 ≡ true
-    → TakenThough task1 task2
+taken_though : (task1 task2 : Task) → mixed_summary task1 task2 ≡ mixed_expected task1 task2
+    → same_task task1 task2 ≡ false → same_task task2 task2 ≡ true → TakenThough task1 task2
 unfolding mixed
 taken_though task1 task2 e apart same =
     let g = setting_for (mixed_asks task1 task2) in
@@ -294,9 +296,9 @@ taken_though task1 task2 e apart same =
       taken = ap (λ (s : Mixed). s.said) e;
       before = (list_tested (λ hidden. g.shares) g 0 world_at_first (mixed task1 task2) (ap (λ (s : Mixed). s.meets) e)).0;
       not_met = λ m.
-        let under = spoken_under (m.1.1.1.1.1.1.0 (ap (λ (s : Mixed). s.ground) e)).1 in
-        let tasks = sym (ap (λ (s : Mixed). s.spoken) e) ∙ ap (λ (k : Key). k.task) under ∙ ap (λ (s : Mixed). s.due) e in
-        false≢true (sym apart ∙ ap (λ t. same_task t task2) tasks ∙ same);
+          let under = spoken_under (m.1.1.1.1.1.1.0 (ap (λ (s : Mixed). s.ground) e)).1 in
+          let tasks = sym (ap (λ (s : Mixed). s.spoken) e) ∙ ap (λ (k : Key). k.task) under ∙ ap (λ (s : Mixed). s.due) e in
+          false≢true (sym apart ∙ ap (λ t. same_task t task2) tasks ∙ same);
     }
 
 pub other_kinds : OtherKinds
@@ -305,5 +307,5 @@ other_kinds =
     record {
       pair_to_band = taken_though (Compare 2) two_to_five refl refl refl;
       band_to_pair = taken_though two_to_five (Compare 2) refl refl refl;
-      other_bounds = taken_though two_to_five (Band 1 5) refl refl refl;
+      other_bounds = taken_though two_to_five one_to_five refl refl refl;
     }

@@ -1,7 +1,7 @@
 -- The premises of demand 3 are not empty: lists at width 3 that meet them, on the plain tapes, in which both boxes start and finish a job. In one the
--- board spells every zero as p, in one a start takes two jobs, in one it takes a band, in four the power fails in the marks of a start, of comparisons or of a
--- band. Nor is the law for the depots: lists in which box 1 starts twice, upwards, downwards and onto a number that is taken. And lists that do not meet them: a
--- box takes a message of another kind of job on the same tapes, since it has no ground against that (document 02, P10).
+-- board spells every zero as p, in one a start takes two jobs, in one it takes a band, in four the power fails in the marks of a start, of comparisons
+-- or of a band. Nor is the law for the depots: lists in which box 1 starts twice, upwards, downwards and onto a number that is taken. And lists that do
+-- not meet them: a box takes a message of another kind of job on the same tapes, since it has no ground against that (document 02, P10).
 use Rattle.std.specs.Prelude.{ℕ, zero, suc, ◌+◌, ◌*◌, ◌%◌, ◌<◌, ◌≡◌, Bool, true, false, cond, eqb}
 use Rattle.std.specs.Prelude.{List, [], ◌∷◌, ◌++◌, get_or, take, replicate}
 use Rattle.field.specs.Width.{modulus}
@@ -326,8 +326,11 @@ pub record TakenThough (task1 task2 : Task) : Type 0 where
   pub before : MeetsFor (mixed_asks task1 task2) (mixed task1 task2)
   pub not_met : MeetsFor (mixed_asks task1 task2) (mixed_heard task1 task2) → ⊥
 
+abbrev pub one_to_five : Task
+one_to_five = Band 1 5
+
 -- a joined pair's message lent to a band, a band's lent to a joined pair, and one of a band with other bounds
 pub record OtherKinds : Type 0 where
   pub pair_to_band : TakenThough (Compare 2) two_to_five
   pub band_to_pair : TakenThough two_to_five (Compare 2)
-  pub other_bounds : TakenThough two_to_five (Band 1 5)
+  pub other_bounds : TakenThough two_to_five one_to_five
