@@ -1,4 +1,4 @@
--- Lists that meet the premises: the checker runs them.
+-- Lists that meet the premises, and some that do not: the checker runs them.
 use Prim.Native.Nat.{ℕ, ◌+◌, ◌%◌}
 use mathlib.Core.Path.{◌≡◌, refl, sym, ap, ◌∙◌}
 use mathlib.Core.Bool.{Bool, true, false, false≢true}
@@ -40,7 +40,7 @@ use Rattle.rules.specs.Batches.{joined_message, joined_after, answer_shares}
 use Rattle.rules.specs.Grounds.{wake_ground, start_ground, speak_ground, hear_ground, drop_ground}
 use Rattle.rules.specs.Calls.{wake_rule, start_rule, speak_rule, heard_after, hear_rule, drop_rule}
 use Rattle.guarantees.specs.Boxes.{Box, box1, box2, other_box}
-use Rattle.guarantees.specs.Keys.{Key}
+use Rattle.guarantees.specs.Keys.{Key, key_at}
 use Rattle.guarantees.specs.Entries.{dealt, Incoming, spoken_at, other, hear}
 use Rattle.guarantees.specs.Run.{Lending, Setting, Said, replied, Event, memory_of, event_at, tape_words, incoming_words, stepped, run}
 use Rattle.guarantees.specs.Premises.{AtFirst, TrueMessage, Meets, AllCompatible}
@@ -261,14 +261,14 @@ spoken_under {log} t = ap (λ k. (event_at log k).key) (ap place_of t.named) ∙
     place_of (spoken_at place) = place
     place_of (other words) = 0
 
--- what is computed of a list with such a hear at its end: whether it meets the premises without it, what the hear comes to and its ground, and what the two
--- jobs are, the one that the message was spoken in and the one that is open
+-- what is computed of a list with such a hear at its end: whether it meets the premises without it, what the hear comes to and its ground, and the tasks
+-- in the keys of the job that the message was spoken in and of the job that hears it
 record Mixed : Type 0 where
   meets : Bool
   said : Said
   ground : ℕ
-  spoken : Task
-  due : Task
+  spoken_in : Task
+  heard_in : Task
 
 abbrev mixed_summary : Task → Task → Mixed
 mixed_summary task1 task2 =
@@ -280,12 +280,12 @@ mixed_summary task1 task2 =
       meets = list_test (λ hidden. g.shares) g 0 world_at_first (mixed task1 task2);
       said = (event_at (stepped g 6 w box2 (hear 0 1 lent (spoken_at 4))).log 6).said;
       ground = hear_ground m.state 0 1 (tape_words g lent) m.work (incoming_words g 6 m.state w.log (spoken_at 4));
-      spoken = (event_at w.log 4).key.task;
-      due = m.state.batch.task;
+      spoken_in = (event_at w.log 4).key.task;
+      heard_in = (key_at m.state 0).task;
     }
 
 abbrev mixed_expected : Task → Task → Mixed
-mixed_expected task1 task2 = record { meets = true; said = replied heard; ground = 0; spoken = task1; due = task2 }
+mixed_expected task1 task2 = record { meets = true; said = replied heard; ground = 0; spoken_in = task1; heard_in = task2 }
 
 taken_though : (task1 task2 : Task) → mixed_summary task1 task2 ≡ mixed_expected task1 task2
     → same_task task1 task2 ≡ false → same_task task2 task2 ≡ true → TakenThough task1 task2
@@ -297,7 +297,7 @@ taken_though task1 task2 e apart same =
       before = (list_tested (λ hidden. g.shares) g 0 world_at_first (mixed task1 task2) (ap (λ (s : Mixed). s.meets) e)).0;
       not_met = λ m.
           let under = spoken_under (m.1.1.1.1.1.1.0 (ap (λ (s : Mixed). s.ground) e)).1 in
-          let tasks = sym (ap (λ (s : Mixed). s.spoken) e) ∙ ap (λ (k : Key). k.task) under ∙ ap (λ (s : Mixed). s.due) e in
+          let tasks = sym (ap (λ (s : Mixed). s.spoken_in) e) ∙ ap (λ (k : Key). k.task) under ∙ ap (λ (s : Mixed). s.heard_in) e in
           false≢true (sym apart ∙ ap (λ t. same_task t task2) tasks ∙ same);
     }
 
