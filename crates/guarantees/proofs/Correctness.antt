@@ -1,6 +1,6 @@
 -- Demand 2 over lists, from what one run follows and the exchange's own theorem, in each of the jobs that a start took.
 use Prim.Native.Nat.{ℕ, suc, ◌+◌, ◌%◌, ◌<◌}
-use mathlib.Core.Path.{◌≡◌, refl, sym, ap, subst, ◌∙◌}
+use mathlib.Core.Path.{◌≡◌, refl, sym, ap, ap₂, subst, ◌∙◌}
 use mathlib.Core.Bool.{true}
 use mathlib.Core.List.{List, [], ◌∷◌}
 use native.Mathlib.Nat.{le_of_eq, mod-eq_of_lt}
@@ -8,17 +8,24 @@ use native.Mathlib.Omega.{arith}
 use lib.Dec.{ltb}
 use lib.ListN.{length, length-replicate, get_or}
 use Rattle.field.specs.Width.{listed, modulus}
-use Rattle.field.specs.Congruence.{Cong}
 use Rattle.field.proofs.Widths.{bounds}
-use Rattle.shares.specs.Side.{other}
+use Rattle.shares.specs.Side.{is_side, other}
+use Rattle.shares.proofs.Sides.{constant_total}
 use Rattle.tape.specs.Dealt.{Matched}
+use Rattle.encoding.specs.Matching.{indicator}
 use Rattle.protocol.specs.Work.{work_length}
 use Rattle.protocol.specs.Sizes.{count_fits}
 use Rattle.protocol.proofs.Halves.{indicator_bit}
 use Rattle.protocol.proofs.Right.{right}
+use Rattle.rules.specs.Tasks.{count_of, task_fits, pairs_of, answer_count}
 use Rattle.rules.specs.Answers.{started, spoke, finished}
 use Rattle.rules.specs.Batches.{x_in, y_in}
-use Rattle.rules.proofs.Batches.{each_at}
+use Rattle.rules.specs.OneByOne.{answer_from}
+use Rattle.rules.specs.declared.state.Task.{Task}
+use Rattle.rules.specs.declared.state.Task.TheVariants.{Compare, Band}
+use Rattle.rules.proofs.Tasks.{bounds_in}
+use Rattle.rules.proofs.Batches.{given_at}
+use Rattle.rules.proofs.Bands.{band_total}
 use Rattle.guarantees.specs.Boxes.{Box, box1, box2, side_of}
 use Rattle.guarantees.specs.Keys.{Key}
 use Rattle.guarantees.specs.Entries.{Step, wake, start, speak, hear, drop, cut, cut_start, Entry}
@@ -32,7 +39,7 @@ use Rattle.guarantees.specs.Jobs.{blank, sent_by, answer_in, answers_by}
 use Rattle.guarantees.proofs.Openings.{opening, takes_lem, one_more, next_place}
 use Rattle.guarantees.proofs.Once.{taken_there, Marked, marked_next, Once, once_run, SomeEach, some_run}
 use Rattle.guarantees.proofs.Books.{Took, start_at, start_took}
-use Rattle.guarantees.proofs.Jobs.{InOrder}
+use Rattle.guarantees.proofs.Jobs.{InOrder, pairs_at}
 use Rattle.guarantees.proofs.First.{invariant_first, marked_first, once_first, some_first}
 use Rattle.guarantees.proofs.Invariant.{Uttered, Answered, Conforms, Invariant, Booked, invariant_next}
 
@@ -45,16 +52,16 @@ module _ (g : Setting) (pair : ℕ) (orders : InOrder g pair) (log : List Event)
   booked : (es : List Entry) (place : ℕ) (w : World) (c : Box) (step : Step) → Marked w → length w.log ≡ place
       → (run g (suc place) (stepped g place w c step) es).log ≡ log → Booked g (book g.shares log) (Took log) place w c step
   booked es place w c (wake n side p) marked at end = tt
-  booked es place w c (start first count lent) marked at end =
+  booked es place w c (start first task lent) marked at end =
       λ cause. (
-        ap (g.shares c) (start_at g log es place w c marked at first count lent end cause),
-        start_took g log es place w c marked at first count lent end cause,
+        λ side. ap (λ (k : ℕ). pairs_of side task (g.shares c k)) (start_at g log es place w c marked at first task lent end cause),
+        start_took g log es place w c marked at first task lent end cause,
       )
   booked es place w c (speak first round lent out) marked at end = tt
   booked es place w c (hear first round lent incoming) marked at end = tt
   booked es place w c drop marked at end = tt
   booked es place w c (cut room) marked at end = tt
-  booked es place w c (cut_start first count lent at_mark mark room) marked at end = tt
+  booked es place w c (cut_start first task lent at_mark mark room) marked at end = tt
 
   -- a whole run
   ran : (es : List Entry) (place : ℕ) (w : World) → Invariant g (book g.shares log) (Took log) w → Marked w → length w.log ≡ place
@@ -78,25 +85,44 @@ only_start : (log : List Event) → Once log → SomeEach log → (c : Box) (key
 only_start log once some c key place t =
     let e = event_at log place in
     let told : is_opening (kind_of e.said) ≡ true = ap (λ (s : Said). is_opening (kind_of s)) t.said_is in
-    let least : 0 < key.count = rw (← t.under) (some place told) in
+    let least : 0 < count_of key.task = rw (← t.under) (some place told) in
     once c key.first place t.within
     (takes_lem c key.first e (record { box = sym t.box; from = rw t.under (omega arith); below = rw t.under (omega (arith, least)); told = told }))
 
 -- ---- the sum
 
--- the exchange's theorem in one of the jobs, of box 1 and box 2
-exchange_right : (tapes : Box → ℕ → ℕ → List ℕ) (lent : Box → Key → Lending) (pair : ℕ) (key : Key) (i : ℕ)
-    → Matched key.width pair (key.first + i) (side_of box1) (tapes box1 (key.first + i) key.width) (tapes box2 (key.first + i) key.width)
-    → y_in (lent box1 key) i < modulus key.width → y_in (lent box2 key) i < modulus key.width
-    → Cong (modulus key.width) (answer_in tapes lent box1 key i + answer_in tapes lent box2 key i) (bit_for key.width (lent box1 key) (lent box2 key) i)
-unfolding other
-exchange_right tapes lent pair key i m l1 l2 =
-    right m (x_in (lent box1 key) i) (y_in (lent box1 key) i) (x_in (lent box2 key) i) (y_in (lent box2 key) i) l1 l2 (blank key.width)
-    (le_of_eq (sym (length-replicate (work_length key.width) 0))) (le_of_eq (sym (length-replicate (work_length key.width) 0)))
+-- the bit of one of the jobs, for the shares of x and y of box 1 and box 2
+abbrev job_bit : ℕ → List ℕ → List ℕ → ℕ → ℕ
+job_bit n pairs1 pairs2 i = indicator (ltb ((x_in pairs1 i + x_in pairs2 i) % modulus n) ((y_in pairs1 i + y_in pairs2 i) % modulus n))
 
-bit_below : (n : ℕ) (u v : Lending) (i : ℕ) → listed n ≡ true → bit_for n u v i % modulus n ≡ bit_for n u v i
-bit_below n u v i l =
-    mod-eq_of_lt (omega (arith, indicator_bit (ltb ((x_in u i + x_in v i) % modulus n) ((y_in u i + y_in v i) % modulus n)), bounds l))
+-- the exchange's theorem in it
+exchange_right : (tapes : Box → ℕ → ℕ → List ℕ) (lent : Box → Key → Lending) (pair : ℕ) (key : Key) (i : ℕ) → listed key.width ≡ true
+    → Matched key.width pair (key.first + i) (side_of box1) (tapes box1 (key.first + i) key.width) (tapes box2 (key.first + i) key.width)
+    → y_in (pairs_at lent box1 key) i < modulus key.width → y_in (pairs_at lent box2 key) i < modulus key.width
+    → (answer_in tapes lent box1 key i + answer_in tapes lent box2 key i) % modulus key.width
+    ≡ job_bit key.width (pairs_at lent box1 key) (pairs_at lent box2 key) i
+unfolding other
+exchange_right tapes lent pair key i l m l1 l2 =
+    let pairs1 = pairs_at lent box1 key in
+    let pairs2 = pairs_at lent box2 key in
+    let test = ltb ((x_in pairs1 i + x_in pairs2 i) % modulus key.width) ((y_in pairs1 i + y_in pairs2 i) % modulus key.width) in
+    let room = le_of_eq (sym (length-replicate (work_length key.width) 0)) in
+    (right m (x_in pairs1 i) (y_in pairs1 i) (x_in pairs2 i) (y_in pairs2 i) l1 l2 (blank key.width) room room).same
+    ∙ mod-eq_of_lt (omega (arith, indicator_bit test, bounds l))
+
+-- so what each box answers, each comparison's share or a band's from its two, adds up to the bit for the shares that were lent
+answers_right : (n : ℕ) (task : Task) (lent1 lent2 : Lending) (each1 each2 : ℕ → ℕ) → listed n ≡ true → task_fits n task ≡ true
+    → ((i : ℕ) → i < count_of task → (each1 i + each2 i) % modulus n ≡ job_bit n (pairs_of 1 task lent1) (pairs_of 2 task lent2) i)
+    → (i : ℕ) → i < answer_count task → (answer_from n 1 task each1 i + answer_from n 2 task each2 i) % modulus n ≡ bit_for n task lent1 lent2 i
+unfolding other is_side
+answers_right n (Compare count) lent1 lent2 each1 each2 l fits sums i less = sums i less
+answers_right n (Band low high) lent1 lent2 each1 each2 l fits sums i less =
+    let b = bounds_in n low high fits in
+    let a = (get_or lent1 0 0 + get_or lent2 0 0) % modulus n in
+    let below : low < modulus n = omega (arith, b.0, b.1) in
+    band_total n low high a (each1 0) (each2 0) (each1 1) (each2 1) l b.0
+    (sums 0 (omega arith) ∙ rw (constant_total 1 low refl, mod-eq_of_lt below) refl)
+    (sums 1 (omega arith) ∙ rw (constant_total 1 high refl, mod-eq_of_lt b.1) refl)
 
 -- ---- a run that meets the premises
 
@@ -130,8 +156,8 @@ module _ (g : Setting) (pair : ℕ) (w : World) (entries : List Entry) (at : AtF
     width : listed key.width ≡ true
     own : Took log b key
     is : vs ≡ answers_by g.tapes lent b key
-    y_fits : (i : ℕ) → i < key.count → y_in (lent b key) i < modulus key.width
-    counted : count_fits key.count ≡ true
+    y_fits : (i : ℕ) → i < count_of key.task → y_in (pairs_at lent b key) i < modulus key.width
+    counted : count_fits (count_of key.task) ≡ true
 
   answered : (b : Box) (place : ℕ) (key : Key) (vs : List ℕ) → Happened log place b key (replied (finished vs)) → AnswersOf b key vs
   answered b place key vs t =
@@ -145,8 +171,10 @@ module _ (g : Setting) (pair : ℕ) (w : World) (entries : List Entry) (at : AtF
         counted = rw (← t.under) a.counted;
       }
 
-  answer_at : (b : Box) (key : Key) (vs : List ℕ) → AnswersOf b key vs → (i : ℕ) → i < key.count → get_or vs i 0 ≡ answer_in g.tapes lent b key i
-  answer_at b key vs a i less = ap (λ (l : List ℕ). get_or l i 0) a.is ∙ each_at key.count (answer_in g.tapes lent b key) i a.counted less
+  answer_at : (b : Box) (key : Key) (vs : List ℕ) → AnswersOf b key vs → (i : ℕ) → i < answer_count key.task
+      → get_or vs i 0 ≡ answer_from key.width (side_of b) key.task (answer_in g.tapes lent b key) i
+  answer_at b key vs a i less =
+      ap (λ (l : List ℕ). get_or l i 0) a.is ∙ given_at key.width (side_of b) (answer_in g.tapes lent b key) key.task i a.counted less
 
   exchanged : Exchanged g log
   exchanged =
@@ -184,14 +212,16 @@ module _ (g : Setting) (pair : ℕ) (w : World) (entries : List Entry) (at : AtF
       took box1 = a1.own
       took box2 = a2.own
 
-      added : (i : ℕ) → i < key.count
+      added : (i : ℕ) → i < answer_count key.task
           → (get_or vs1 i 0 + get_or vs2 i 0) % modulus key.width
-          ≡ bit_for key.width (g.shares box1 (taken_at log box1 key.first)) (g.shares box2 (taken_at log box2 key.first)) i
+          ≡ bit_for key.width key.task (g.shares box1 (taken_at log box1 key.first)) (g.shares box2 (taken_at log box2 key.first)) i
       added i less =
-          ap (λ (k : ℕ). (k + get_or vs2 i 0) % modulus key.width) (answer_at box1 key vs1 a1 i less)
-          ∙ ap (λ (k : ℕ). (answer_in g.tapes lent box1 key i + k) % modulus key.width) (answer_at box2 key vs2 a2 i less)
-          ∙ (exchange_right g.tapes lent pair key i (dealt (key.first + i) key.width a1.width) (a1.y_fits i less) (a2.y_fits i less)).same
-          ∙ bit_below key.width (lent box1 key) (lent box2 key) i a1.width
+          ap₂ (λ (u v : ℕ). (u + v) % modulus key.width) (answer_at box1 key vs1 a1 i less) (answer_at box2 key vs2 a2 i less)
+          ∙ answers_right key.width key.task (lent box1 key) (lent box2 key) (answer_in g.tapes lent box1 key) (answer_in g.tapes lent box2 key)
+          a1.width a1.own.fits
+          (λ k low.
+          exchange_right g.tapes lent pair key k a1.width (dealt (key.first + k) key.width a1.width) (a1.y_fits k low) (a2.y_fits k low))
+          i less
 
 pub correctness : Correctness
 correctness g pair w entries at dealt meets =

@@ -56,7 +56,7 @@ some_first w at = subst SomeEach (sym at.no_events) (λ k opened. absurd (false�
 memory_first : (c : Common) (w w' : Loose) (b : Box) → LowMemory (memory_at c w b) (memory_at c w' b)
 memory_first c w w' b =
     record {
-      state = record { n = refl; side = refl; pair = refl; tally = refl; phase = refl; first = refl; count = refl; ranged = refl };
+      state = record { n = refl; side = refl; pair = refl; tally = refl; phase = refl; first = refl; task = refl; ranged = refl };
       tally = refl;
       room = length_tabulate (c.rooms b) (w.works b) ∙ sym (length_tabulate (c.rooms b) (w'.works b));
     }

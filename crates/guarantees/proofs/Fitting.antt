@@ -73,10 +73,10 @@ speak_fits s first round tapes work out n =
 pub fitting_next : (g : Setting) (place : ℕ) (w : World) (c : Box) (step : Step) → Fitting w.log → Fitting (stepped g place w c step).log
 unfolding stepped
 fitting_next g place w c (wake n side p) f = fitting_after w c _ _ f (λ m least. fits_none m)
-fitting_next g place w c (start first count lent) f = fitting_after w c _ _ f (λ m least. fits_none m)
+fitting_next g place w c (start first task lent) f = fitting_after w c _ _ f (λ m least. fits_none m)
 fitting_next g place w c (speak first round lent out) f =
     fitting_after w c _ _ f (speak_fits (memory_of w c).state first round (tape_words g lent) (memory_of w c).work out)
 fitting_next g place w c (hear first round lent incoming) f = fitting_after w c _ _ f (λ m least. fits_none m)
 fitting_next g place w c drop f = fitting_after w c _ _ f (λ m least. fits_none m)
 fitting_next g place w c (cut room) f = fitting_after w c _ _ f (λ m least. fits_none m)
-fitting_next g place w c (cut_start first count lent at mark room) f = fitting_after w c _ _ f (λ m least. fits_none m)
+fitting_next g place w c (cut_start first task lent at mark room) f = fitting_after w c _ _ f (λ m least. fits_none m)

@@ -2,7 +2,7 @@
 -- spoken and all answer shares. Two boxes can be in jobs that share a number and are not the same job; then no message of either is true, so what
 -- follows a round that was heard says that the other box opened the job too.
 use Prim.Native.Nat.{ℕ, zero, suc, ◌+◌, ◌<◌, ◌≤◌}
-use mathlib.Core.Path.{◌≡◌, refl, sym, ap, subst, ◌∙◌}
+use mathlib.Core.Path.{◌≡◌, refl, sym, ap, ap₂, subst, ◌∙◌}
 use mathlib.Core.Bool.{Bool, true, false, cond}
 use mathlib.Core.List.{List, [], ◌∷◌, ◌++◌}
 use native.Mathlib.Nat.{le_of_eq, le_trans}
@@ -18,10 +18,12 @@ use Rattle.protocol.specs.Rounds.{earlier_rounds, last_round, answer_share}
 use Rattle.protocol.specs.Sizes.{count_fits, work_for}
 use Rattle.protocol.proofs.Live.{Live, message_live, after_live, answer_live}
 use Rattle.rules.specs.Answers.{heard, finished, spoken_words}
+use Rattle.rules.specs.Tasks.{count_of, pairs_of}
 use Rattle.rules.specs.Modes.{round_of, in_range, mode_of, is_asleep, in_phase}
-use Rattle.rules.specs.Batches.{x_in, y_in, no_batch, tape_part, work_part, words_part, party_of, joined_message, joined_after, answer_shares}
+use Rattle.rules.specs.Batches.{x_in, y_in, no_batch, tape_part, work_part, words_part, party_of, joined_message, joined_after, answers_given, answer_shares}
 use Rattle.rules.specs.Grounds.{wake_ground, start_ground, speak_ground, hear_ground, drop_ground}
 use Rattle.rules.specs.Calls.{Result, wake_rule, start_rule, speak_rule, heard_after, hear_rule, drop_rule}
+use Rattle.rules.specs.declared.state.Task.{Task}
 use Rattle.rules.specs.declared.state.Turn.{Turn}
 use Rattle.rules.specs.declared.state.Turn.TheVariants.{Speak, Hear}
 use Rattle.rules.specs.declared.state.Phase.{Phase}
@@ -36,8 +38,8 @@ use Rattle.guarantees.specs.Premises.{TrueMessage, Keeps}
 use Rattle.guarantees.specs.Jobs.{party_at, sent_in, answer_in, sent_by, answers_by}
 use Rattle.guarantees.proofs.Outcomes.{cut_plain}
 use Rattle.guarantees.proofs.Deliveries.{ground_lent, rule_lent}
-use Rattle.guarantees.proofs.Jobs.{InOrder, dealt_part, holding, sent_is, holding_next, answer_is, holding_room, sent_part}
-use Rattle.rules.proofs.Batches.{each_at, each_same}
+use Rattle.guarantees.proofs.Jobs.{InOrder, dealt_part, pairs_at, holding, sent_is, holding_next, answer_is, holding_room, sent_part}
+use Rattle.rules.proofs.Batches.{count_most, each_same, batch_x, batch_y}
 use Rattle.rules.proofs.Spoken.{spoken_front, joined_after_length, after_part}
 use Rattle.rules.proofs.Decide.{decide}
 use Rattle.rules.proofs.Ranges.{awake_mode}
@@ -59,13 +61,13 @@ module _ (g : Setting) (book : Box → Key → Lending) (Known : Box → Key →
   -- in a job whose turn has that round: so many rounds were heard, and if any was, the other box opened the job too
   pub record InJob (b : Box) (s : State) (work : List ℕ) (turn : Turn) : Type 0 where
     pub own : Known b (own_key s)
-    pub x_is : (i : ℕ) → i < s.batch.count → get_or s.batch.x i 0 ≡ x_in (book b (own_key s)) i
-    pub y_is : (i : ℕ) → i < s.batch.count → get_or s.batch.y i 0 ≡ y_in (book b (own_key s)) i
-    pub room : work_for s.n s.batch.count ≤ length work
+    pub x_is : (i : ℕ) → i < count_of s.batch.task → get_or s.batch.x i 0 ≡ x_in (pairs_of s.side s.batch.task (book b (own_key s))) i
+    pub y_is : (i : ℕ) → i < count_of s.batch.task → get_or s.batch.y i 0 ≡ y_in (pairs_of s.side s.batch.task (book b (own_key s))) i
+    pub room : work_for s.n (count_of s.batch.task) ≤ length work
     pub heard : ℕ
     pub count : round_of turn ≡ suc heard
     pub met : 0 < heard → Known (other_box b) (own_key s)
-    pub live : (i : ℕ) → i < s.batch.count → Live s.n heard (work_part s.n work i) (holding g.tapes book b (own_key s) i heard)
+    pub live : (i : ℕ) → i < count_of s.batch.task → Live s.n heard (work_part s.n work i) (holding g.tapes book b (own_key s) i heard)
 
   abbrev pub Phased : Box → State → List ℕ → Phase → Type 0
   Phased b s work Asleep = Unit {0}
@@ -95,8 +97,8 @@ module _ (g : Setting) (book : Box → Key → Lending) (Known : Box → Key →
     pub own : Known e.box e.key
     pub met : Known (other_box e.box) e.key
     pub is : values ≡ answers_by g.tapes book e.box e.key
-    pub y_fits : (i : ℕ) → i < e.key.count → y_in (book e.box e.key) i < modulus e.key.width
-    pub counted : count_fits e.key.count ≡ true
+    pub y_fits : (i : ℕ) → i < count_of e.key.task → y_in (pairs_at book e.box e.key) i < modulus e.key.width
+    pub counted : count_fits (count_of e.key.task) ≡ true
     pub silent : e.spoken ≡ []
 
   abbrev pub Conforms : Event → Kind → Type 0
@@ -109,17 +111,18 @@ module _ (g : Setting) (book : Box → Key → Lending) (Known : Box → Key →
     pub each : (b : Box) → Holds b (memory_of w b)
     pub events : (k : ℕ) → Conforms (event_at w.log k) (kind_of (event_at w.log k).said)
 
-  -- a start that is not refused finds its shares in the book, and its job among those that its box opened
+  -- a start that is not refused finds its shares of x and y by the book, and its job among those that its box opened
   abbrev pub Booked : ℕ → World → Box → Step → Type 0
   Booked place w b (wake n side p) = Unit {0}
-  Booked place w b (start first count lent) =
-      start_ground (memory_of w b).state first count (g.shares b place) (tape_words g lent) (memory_of w b).work (memory_of w b).tally ≡ 0
-      → (book b (job_key first count (memory_of w b).state.n) ≡ g.shares b place) × Known b (job_key first count (memory_of w b).state.n)
+  Booked place w b (start first task lent) =
+      start_ground (memory_of w b).state first task (g.shares b place) (tape_words g lent) (memory_of w b).work (memory_of w b).tally ≡ 0
+      → ((side : ℕ) → pairs_of side task (book b (job_key first task (memory_of w b).state.n)) ≡ pairs_of side task (g.shares b place))
+      × Known b (job_key first task (memory_of w b).state.n)
   Booked place w b (speak first round lent out) = Unit {0}
   Booked place w b (hear first round lent incoming) = Unit {0}
   Booked place w b drop = Unit {0}
   Booked place w b (cut room) = Unit {0}
-  Booked place w b (cut_start first count lent at mark room) = Unit {0}
+  Booked place w b (cut_start first task lent at mark room) = Unit {0}
 
   -- ---- a phase that is settled
 
@@ -153,23 +156,24 @@ module _ (g : Setting) (book : Box → Key → Lending) (Known : Box → Key →
 
   -- ---- start
 
-  start_holds : (b : Box) (m : Memory) (first count : ℕ) (v : Lending) (tapes : List ℕ) → Holds b m
-      → (start_ground m.state first count v tapes m.work m.tally ≡ 0
-      → (book b (job_key first count m.state.n) ≡ v) × Known b (job_key first count m.state.n))
-      → Holds b (after_start m (start_rule m.state first count v tapes m.work m.tally))
+  start_holds : (b : Box) (m : Memory) (first : ℕ) (task : Task) (v : Lending) (tapes : List ℕ) → Holds b m
+      → (start_ground m.state first task v tapes m.work m.tally ≡ 0
+      → ((side : ℕ) → pairs_of side task (book b (job_key first task m.state.n)) ≡ pairs_of side task v) × Known b (job_key first task m.state.n))
+      → Holds b (after_start m (start_rule m.state first task v tapes m.work m.tally))
   unfolding start_rule
-  start_holds b m first count v tapes h booked =
-      decide (λ r. Holds b (after_start m r)) (start_ground m.state first count v tapes m.work m.tally) m.state m.tally _
+  start_holds b m first task v tapes h booked =
+      decide (λ r. Holds b (after_start m r)) (start_ground m.state first task v tapes m.work m.tally) m.state m.tally _
       (λ zero_ground.
-      let p = start_passed m.state first count v tapes m.work m.tally zero_ground in
+      let p = start_passed m.state first task v tapes m.work m.tally zero_ground in
       let e = booked zero_ground in
+      let pairs = pairs_of m.state.side task v in
       record {
         holds =
             settle b _ m.work
             (record {
               own = e.1;
-              x_is = λ i less. each_at count (x_in v) i p.counted less ∙ ap (λ (q : Lending). x_in q i) (sym e.0);
-              y_is = λ i less. each_at count (y_in v) i p.counted less ∙ ap (λ (q : Lending). y_in q i) (sym e.0);
+              x_is = λ i less. batch_x first task pairs i p.counted less ∙ ap (λ (q : List ℕ). x_in q i) (sym (e.0 m.state.side));
+              y_is = λ i less. batch_y first task pairs i p.counted less ∙ ap (λ (q : List ℕ). y_in q i) (sym (e.0 m.state.side));
               room = p.room;
               heard = 0;
               count = refl;
@@ -193,14 +197,15 @@ module _ (g : Setting) (book : Box → Key → Lending) (Known : Box → Key →
   record Going (b : Box) (m : Memory) (turn : Turn) (tapes : List ℕ) : Type 0 where
     inside : InJob b m.state m.work turn
     width : listed m.state.n ≡ true
-    counted : count_fits m.state.batch.count ≡ true
+    counted : count_fits (count_of m.state.batch.task) ≡ true
     early : inside.heard < last_round
-    y_fits : (i : ℕ) → i < m.state.batch.count → y_in (book b (own_key m.state)) i < modulus m.state.n
-    party_is : (i : ℕ) → i < m.state.batch.count → party_of m.state tapes i ≡ party_at g.tapes book b (own_key m.state) i
+    y_fits : (i : ℕ) → i < count_of m.state.batch.task → y_in (pairs_at book b (own_key m.state)) i < modulus m.state.n
+    side_is : m.state.side ≡ side_of b
+    party_is : (i : ℕ) → i < count_of m.state.batch.task → party_of m.state tapes i ≡ party_at g.tapes book b (own_key m.state) i
 
   -- a dealt tape is in order for no side but its box's
   going : (pair : ℕ) (orders : InOrder g pair) (b : Box) (m : Memory) (first : ℕ) (turn : Turn) (lent : Lent) → Holds b m
-      → TurnPassed m.state first turn (tape_words g lent) → lent ≡ dealt b first m.state.batch.count m.state.n
+      → TurnPassed m.state first turn (tape_words g lent) → lent ≡ dealt b first (count_of m.state.batch.task) m.state.n
       → Going b m turn (tape_words g lent)
   going pair orders b m first turn lent h p named =
       record {
@@ -208,8 +213,9 @@ module _ (g : Setting) (book : Box → Key → Lending) (Known : Box → Key →
         width = l;
         counted = p.range.counted;
         early = omega (arith, p.range.last, inside.count);
-        y_fits = λ i less. rw (← inside.y_is i less) (p.range.y_fits i less);
-        party_is = λ i less. rw (side i less, inside.x_is i less, inside.y_is i less, tape i less) refl;
+        y_fits = λ i less. rw (← own_y i less) (p.range.y_fits i less);
+        side_is = side 0 (count_most (count_of s.batch.task) p.range.counted).0;
+        party_is = λ i less. rw (own_x i less, own_y i less, side i less, tape i less) refl;
       }
     where
       s : State
@@ -221,16 +227,25 @@ module _ (g : Setting) (book : Box → Key → Lending) (Known : Box → Key →
       inside : InJob b s m.work turn
       inside = subst (Phased b s m.work) p.due.job (awake_phase b m h p.awake)
 
-      tape : (i : ℕ) → i < s.batch.count → tape_part s.n (tape_words g lent) i ≡ g.tapes b (s.batch.first + i) s.n
+      tape : (i : ℕ) → i < count_of s.batch.task → tape_part s.n (tape_words g lent) i ≡ g.tapes b (s.batch.first + i) s.n
       tape i less =
-          ap (λ (words : List ℕ). tape_part s.n words i) (ap (tape_words g) (named ∙ ap (λ (k : ℕ). dealt b k s.batch.count s.n) p.due.first_is) ∙ rw l refl)
-          ∙ dealt_part g pair orders b s.batch.first s.n l s.batch.count i less
+          let count = count_of s.batch.task in
+          ap (λ (words : List ℕ). tape_part s.n words i)
+          (ap (tape_words g) (named ∙ ap (λ (k : ℕ). dealt b k count s.n) p.due.first_is) ∙ rw l refl)
+          ∙ dealt_part g pair orders b s.batch.first s.n l count i less
 
-      side : (i : ℕ) → i < s.batch.count → s.side ≡ side_of b
+      side : (i : ℕ) → i < count_of s.batch.task → s.side ≡ side_of b
       side i less =
           let number = s.batch.first + i in
           (order_key s.n s.pair s.side number s.n pair (side_of b) number (g.tapes b number s.n)
           (rw (← tape i less) (p.ordered i less)) (orders b number s.n l)).side_is
+
+      -- so its shares are those that the job's task gives at its box
+      own_x : (i : ℕ) → i < count_of s.batch.task → get_or s.batch.x i 0 ≡ x_in (pairs_at book b (own_key s)) i
+      own_x i less = inside.x_is i less ∙ ap (λ (c : ℕ). x_in (pairs_of c s.batch.task (book b (own_key s))) i) (side i less)
+
+      own_y : (i : ℕ) → i < count_of s.batch.task → get_or s.batch.y i 0 ≡ y_in (pairs_at book b (own_key s)) i
+      own_y i less = inside.y_is i less ∙ ap (λ (c : ℕ). y_in (pairs_of c s.batch.task (book b (own_key s))) i) (side i less)
 
   -- ---- speak
 
@@ -245,14 +260,14 @@ module _ (g : Setting) (book : Box → Key → Lending) (Known : Box → Key →
   message_is b m round tapes j =
       let i = j.inside in
       let key = own_key m.state in
-      chained_same m.state.batch.count _ _
+      chained_same (count_of m.state.batch.task) _ _
       (λ k less.
       rw (j.party_is k less, i.count)
       (message_live (party_at g.tapes book b key k) i.heard (work_part m.state.n m.work k) (holding g.tapes book b key k i.heard) (i.live k less)
       ∙ sym (sent_is g.tapes book b key k i.heard)))
 
   speak_holds : (pair : ℕ) (orders : InOrder g pair) (b : Box) (m : Memory) (first round : ℕ) (lent : Lent) (out : List ℕ) → Holds b m
-      → (speak_ground m.state first round (tape_words g lent) m.work out ≡ 0 → lent ≡ dealt b first m.state.batch.count m.state.n)
+      → (speak_ground m.state first round (tape_words g lent) m.work out ≡ 0 → lent ≡ dealt b first (count_of m.state.batch.task) m.state.n)
       → Spoken b m first round (speak_rule m.state first round (tape_words g lent) m.work out)
   unfolding speak_rule
   speak_holds pair orders b m first round lent out h keeps =
@@ -304,17 +319,17 @@ module _ (g : Setting) (book : Box → Key → Lending) (Known : Box → Key →
   module _ (b : Box) (m : Memory) (round : ℕ) (tapes incoming : List ℕ) (j : Going b m (Hear round) tapes)
       (o : OtherSent b (own_key m.state) round incoming) where
     -- each job's part of it
-    part_heard : (k : ℕ) → k < m.state.batch.count
+    part_heard : (k : ℕ) → k < count_of m.state.batch.task
         → words_part m.state.n round incoming k ≡ sent_in g.tapes book (other_box b) (own_key m.state) k round
     part_heard k less = rw (o.words_are, j.inside.count) (sent_part g.tapes book (other_box b) (own_key m.state) k j.inside.heard less)
 
-    part_room : (k : ℕ) → k < m.state.batch.count → work_length m.state.n ≤ length (work_part m.state.n m.work k)
+    part_room : (k : ℕ) → k < count_of m.state.batch.task → work_length m.state.n ≤ length (work_part m.state.n m.work k)
     part_room k less =
-        let all = within m.state.batch.count (work_length m.state.n) k less in
+        let all = within (count_of m.state.batch.task) (work_length m.state.n) k less in
         le_of_eq (sym (length_part (work_length m.state.n) m.work k (le_trans all j.inside.room)))
 
     -- what is held after the round is what the exchange gives
-    live_next : (k : ℕ) → k < m.state.batch.count
+    live_next : (k : ℕ) → k < count_of m.state.batch.task
         → Live m.state.n (suc j.inside.heard) (work_part m.state.n (joined_after m.state tapes m.work round incoming) k)
         (holding g.tapes book b (own_key m.state) k (suc j.inside.heard))
     live_next k less =
@@ -333,9 +348,11 @@ module _ (g : Setting) (book : Box → Key → Lending) (Known : Box → Key →
     -- the answer shares of the last round
     answers_last : round ≡ last_round → answer_shares m.state tapes m.work incoming ≡ answers_by g.tapes book b (own_key m.state)
     unfolding answer_shares
-    answers_last e = each_same m.state.batch.count _ _ one
+    answers_last e =
+        ap₂ (λ side each. answers_given m.state.n side m.state.batch.task each) j.side_is
+        (each_same (count_of m.state.batch.task) _ _ one)
       where
-        one : (k : ℕ) → k < m.state.batch.count
+        one : (k : ℕ) → k < count_of m.state.batch.task
             → answer_share (party_of m.state tapes k) (work_part m.state.n m.work k) (words_part m.state.n last_round incoming k)
             ≡ answer_in g.tapes book b (own_key m.state) k
         one k less =
@@ -399,7 +416,7 @@ module _ (g : Setting) (book : Box → Key → Lending) (Known : Box → Key →
 
   hear_holds : (pair : ℕ) (orders : InOrder g pair) (b : Box) (m : Memory) (first round : ℕ) (lent : Lent) (incoming words : List ℕ) → Holds b m
       → (hear_ground m.state first round (tape_words g lent) m.work incoming ≡ 0
-      → (lent ≡ dealt b first m.state.batch.count m.state.n) × OtherSent b (key_at m.state first) round incoming)
+      → (lent ≡ dealt b first (count_of m.state.batch.task) m.state.n) × OtherSent b (key_at m.state first) round incoming)
       → Heard b m first round words (hear_rule m.state first round (tape_words g lent) m.work incoming)
   unfolding hear_rule
   hear_holds pair orders b m first round lent incoming words h keeps =
@@ -451,11 +468,11 @@ module _ (g : Setting) (book : Box → Key → Lending) (Known : Box → Key →
   quiet_wake m n side p e none =
       decide (λ r. Conforms e (kind_of (replied r.reply))) (wake_ground m.state n side m.tally) m.state m.tally _ (λ z. none) none
 
-  quiet_start : (m : Memory) (first count : ℕ) (v : Lending) (tapes : List ℕ) (e : Event) → e.spoken ≡ []
-      → Conforms e (kind_of (replied (start_rule m.state first count v tapes m.work m.tally).reply))
+  quiet_start : (m : Memory) (first : ℕ) (task : Task) (v : Lending) (tapes : List ℕ) (e : Event) → e.spoken ≡ []
+      → Conforms e (kind_of (replied (start_rule m.state first task v tapes m.work m.tally).reply))
   unfolding start_rule
-  quiet_start m first count v tapes e none =
-      decide (λ r. Conforms e (kind_of (replied r.reply))) (start_ground m.state first count v tapes m.work m.tally) m.state m.tally _
+  quiet_start m first task v tapes e none =
+      decide (λ r. Conforms e (kind_of (replied r.reply))) (start_ground m.state first task v tapes m.work m.tally) m.state m.tally _
       (λ z. none) none
 
   quiet_drop : (m : Memory) (e : Event) → e.spoken ≡ [] → Conforms e (kind_of (replied (drop_rule m.state).reply))
@@ -471,9 +488,9 @@ module _ (g : Setting) (book : Box → Key → Lending) (Known : Box → Key →
   unfolding stepped
   invariant_next pair orders place w b (wake n side p) f keeps booked =
       after_invariant w b _ _ f (wake_holds b (memory_of w b) n side p (f.each b)) (quiet_wake (memory_of w b) n side p _ refl)
-  invariant_next pair orders place w b (start first count lent) f keeps booked =
-      after_invariant w b _ _ f (start_holds b (memory_of w b) first count (g.shares b place) (tape_words g lent) (f.each b) booked)
-      (quiet_start (memory_of w b) first count (g.shares b place) (tape_words g lent) _ refl)
+  invariant_next pair orders place w b (start first task lent) f keeps booked =
+      after_invariant w b _ _ f (start_holds b (memory_of w b) first task (g.shares b place) (tape_words g lent) (f.each b) booked)
+      (quiet_start (memory_of w b) first task (g.shares b place) (tape_words g lent) _ refl)
   invariant_next pair orders place w b (speak first round lent out) f keeps booked =
       let r = speak_holds pair orders b (memory_of w b) first round lent out (f.each b) keeps in
       after_invariant w b _ _ f r.holds r.words
@@ -491,5 +508,5 @@ module _ (g : Setting) (book : Box → Key → Lending) (Known : Box → Key →
       after_invariant w b _ _ f (drop_holds b (memory_of w b) (f.each b)) (quiet_drop (memory_of w b) _ refl)
   invariant_next pair orders place w b (cut room) f keeps booked =
       after_invariant w b _ _ f (cut_holds b place room (memory_of w b) _) (cut_conforms (memory_of w b).state _ refl)
-  invariant_next pair orders place w b (cut_start first count lent at mark room) f keeps booked =
+  invariant_next pair orders place w b (cut_start first task lent at mark room) f keeps booked =
       after_invariant w b _ _ f (cut_holds b place room (memory_of w b) _) (cut_conforms (memory_of w b).state _ refl)

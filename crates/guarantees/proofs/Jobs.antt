@@ -15,6 +15,7 @@ use Rattle.protocol.specs.Work.{work_length}
 use Rattle.protocol.specs.Rounds.{earlier_rounds, last_round, round_words, message, after_hearing, answer_share}
 use Rattle.protocol.specs.Exchange.{Both, exchanged, sent_own, sent_others, answer_own, answer_others}
 use Rattle.protocol.proofs.Lengths.{message_length, after_length}
+use Rattle.rules.specs.Tasks.{count_of, pairs_of}
 use Rattle.rules.specs.Batches.{tape_part, words_part}
 use Rattle.guarantees.specs.Boxes.{Box, box1, box2, side_of, other_box}
 use Rattle.guarantees.specs.Keys.{Key}
@@ -35,6 +36,10 @@ module _ (g : Setting) (pair : ℕ) (orders : InOrder g pair) (b : Box) (first n
 
   pub dealt_part : (count i : ℕ) → i < count → tape_part n (chained count dealt_tape) i ≡ dealt_tape i
   dealt_part count i less = part_chained count (tape_length n) dealt_tape i less (λ k before. dealt_long k)
+
+-- a box's shares of x and y in each of a key's jobs, from the shares that opened each
+abbrev pub pairs_at : (Box → Key → Lending) → Box → Key → List ℕ
+pairs_at book b key = pairs_of (side_of b) key.task (book b key)
 
 -- tapes by box, number and width, and the shares that opened each job
 module _ (tapes : Box → ℕ → ℕ → List ℕ) (book : Box → Key → Lending) where
@@ -82,8 +87,8 @@ module _ (tapes : Box → ℕ → ℕ → List ℕ) (book : Box → Key → Lend
       rw (after_length own (holding box2 key i r) (message others (holding box1 key i r) (suc r)) (suc r)) (holding_room box2 key i r)
 
   -- a job's part of what is sent
-  pub sent_part : (b : Box) (key : Key) (i r : ℕ) → i < key.count
+  pub sent_part : (b : Box) (key : Key) (i r : ℕ) → i < count_of key.task
       → words_part key.width (suc r) (sent_by tapes book b key (suc r)) i ≡ sent_in tapes book b key i (suc r)
   sent_part b key i r less =
-      part_chained key.count (round_words key.width (suc r)) (λ k. sent_in tapes book b key k (suc r)) i less
+      part_chained (count_of key.task) (round_words key.width (suc r)) (λ k. sent_in tapes book b key k (suc r)) i less
       (λ k l. rw (sent_is b key k r) (message_length (party_at tapes book b key k) (holding b key k r) (suc r)))

@@ -17,7 +17,7 @@ pub record LowState (s s' : State) : Type 0 where
   pub tally : s.tally ≡ s'.tally
   pub phase : s.phase ≡ s'.phase
   pub first : s.batch.first ≡ s'.batch.first
-  pub count : s.batch.count ≡ s'.batch.count
+  pub task : s.batch.task ≡ s'.batch.task
   pub ranged : in_range s ≡ in_range s'
 
 pub record LowMemory (m m' : Memory) : Type 0 where

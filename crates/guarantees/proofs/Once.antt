@@ -9,9 +9,11 @@ use borrow.Author.Tests.{ltb-true, ltb-false}
 use lib.Dec.{ltb}
 use lib.ListN.{length}
 use Rattle.tally.specs.Tally.{is_fresh}
+use Rattle.rules.specs.Tasks.{count_of}
 use Rattle.rules.specs.Answers.{started}
 use Rattle.rules.specs.Grounds.{start_ground}
 use Rattle.rules.specs.Calls.{start_rule}
+use Rattle.rules.specs.declared.state.Task.{Task}
 use Rattle.rules.specs.declared.state.State.{State}
 use Rattle.rules.proofs.Passed.{start_passed}
 use Rattle.guarantees.specs.Boxes.{Box}
@@ -74,55 +76,55 @@ marked_next w w' one h = record { unopened = go }
 
 -- ---- a start that is not refused, in the log of the run from there on
 
-started_said : (s : State) (first count : ℕ) (shares tapes work tally : List ℕ) → start_ground s first count shares tapes work tally ≡ 0
-    → (start_rule s first count shares tapes work tally).reply ≡ started
+started_said : (s : State) (first : ℕ) (task : Task) (shares tapes work tally : List ℕ) → start_ground s first task shares tapes work tally ≡ 0
+    → (start_rule s first task shares tapes work tally).reply ≡ started
 unfolding start_rule
-started_said s first count shares tapes work tally cause = rw cause refl
+started_said s first task shares tapes work tally cause = rw cause refl
 
-module _ (g : Setting) (place : ℕ) (w : World) (b : Box) (first count : ℕ) (lent : Lent) (es : List Entry) where
+module _ (g : Setting) (place : ℕ) (w : World) (b : Box) (first : ℕ) (task : Task) (lent : Lent) (es : List Entry) where
   abbrev longer : List Event
-  longer = (run g (suc place) (stepped g place w b (start first count lent)) es).log
+  longer = (run g (suc place) (stepped g place w b (start first task lent)) es).log
 
   abbrev start_event : Event
   start_event =
       let m = memory_of w b in
       record {
         box = b;
-        key = job_key first count m.state.n;
+        key = job_key first task m.state.n;
         round = 0;
-        said = replied (start_rule m.state first count (g.shares b place) (tape_words g lent) m.work m.tally).reply;
+        said = replied (start_rule m.state first task (g.shares b place) (tape_words g lent) m.work m.tally).reply;
         spoken = [];
         incoming = [];
       }
 
-  grown : Grown (stepped g place w b (start first count lent)).log longer
-  grown = run_grows g (suc place) (stepped g place w b (start first count lent)) es
+  grown : Grown (stepped g place w b (start first task lent)).log longer
+  grown = run_grows g (suc place) (stepped g place w b (start first task lent)) es
 
   longer_is : longer ≡ w.log ++ (start_event ∷ grown.more)
   unfolding stepped
   longer_is = grown.is ∙ ap (λ (l : List Event). l ++ grown.more) (after_log w b _ start_event) ∙ append_assoc w.log (start_event ∷ []) grown.more
 
   module _ (h : Marked w)
-      (cause : start_ground (memory_of w b).state first count (g.shares b place) (tape_words g lent) (memory_of w b).work (memory_of w b).tally
+      (cause : start_ground (memory_of w b).state first task (g.shares b place) (tape_words g lent) (memory_of w b).work (memory_of w b).tally
       ≡ 0) where
     -- each of its numbers is found again at its place
-    pub found : (i : ℕ) → i < count → taken_at longer b (first + i) ≡ length w.log
+    pub found : (i : ℕ) → i < count_of task → taken_at longer b (first + i) ≡ length w.log
     found i less =
         let m = memory_of w b in
         let shares = g.shares b place in
         ap (λ (l : List Event). taken_at l b (first + i)) longer_is
         ∙ at_end w.log start_event grown.more b (first + i)
-        (h.unopened b (first + i) ((start_passed m.state first count shares (tape_words g lent) m.work m.tally cause).fresh i less))
+        (h.unopened b (first + i) ((start_passed m.state first task shares (tape_words g lent) m.work m.tally cause).fresh i less))
         (takes_lem b (first + i) start_event
         (record {
           box = refl;
           from = omega arith;
           below = omega arith;
-          told = rw (started_said m.state first count shares (tape_words g lent) m.work m.tally cause) refl;
+          told = rw (started_said m.state first task shares (tape_words g lent) m.work m.tally cause) refl;
         }))
 
     -- and what is found is its job
-    pub found_key : (i : ℕ) → i < count → key_found longer b (first + i) ≡ job_key first count (memory_of w b).state.n
+    pub found_key : (i : ℕ) → i < count_of task → key_found longer b (first + i) ≡ job_key first task (memory_of w b).state.n
     found_key i less =
         ap (λ (e : Event). e.key)
         (ap (event_at longer) (found i less) ∙ ap (λ (l : List Event). event_at l (length w.log)) longer_is ∙ event_at_lem w.log start_event grown.more)
@@ -185,9 +187,10 @@ once_run g place w (e ∷ es) marked once =
 
 -- each job that was opened has one number at least
 abbrev pub SomeEach : List Event → Type 0
-SomeEach log = (k : ℕ) → is_opening (kind_of (event_at log k).said) ≡ true → 0 < (event_at log k).key.count
+SomeEach log = (k : ℕ) → is_opening (kind_of (event_at log k).said) ≡ true → 0 < count_of (event_at log k).key.task
 
-some_more : (log : List Event) (e : Event) → SomeEach log → (is_opening (kind_of e.said) ≡ true → 0 < e.key.count) → SomeEach (log ++ (e ∷ []))
+some_more : (log : List Event) (e : Event) → SomeEach log → (is_opening (kind_of e.said) ≡ true → 0 < count_of e.key.task)
+    → SomeEach (log ++ (e ∷ []))
 some_more [] e old new zero = new
 some_more [] e old new (suc k) = old k
 some_more (d ∷ log) e old new zero = old zero

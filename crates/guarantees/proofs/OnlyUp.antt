@@ -9,6 +9,7 @@ use native.Mathlib.Omega.{arith}
 use lib.ListN.{length}
 use Rattle.tally.specs.Tally.{is_fresh}
 use Rattle.tally.proofs.Late.{spent_below}
+use Rattle.rules.specs.Tasks.{count_of}
 use Rattle.rules.specs.Answers.{started}
 use Rattle.guarantees.specs.Boxes.{Box}
 use Rattle.guarantees.specs.Keys.{Key}
@@ -70,7 +71,7 @@ module _ (g : Setting) where
   -- so it takes the job's numbers, and there is one
   module _ (place : ℕ) (w : World) (e : Entry) (es : List Entry) (b : Box) (key : Key)
       (h : Happened (run g place w (e ∷ es)).log (length w.log) b key (replied started)) where
-    all_taken : (number : ℕ) → key.first ≤ number → number < key.first + key.count
+    all_taken : (number : ℕ) → key.first ≤ number → number < key.first + count_of key.task
         → Taken (memory_of w b).tally (memory_of (stepped g place w e.box e.step) b).tally number
     all_taken number from below =
         let one = one_more g place w e.box e.step in
@@ -78,7 +79,7 @@ module _ (g : Setting) where
         one.taken b number
         (takes_lem b number one.event (record { box = sym o.box; from = rw o.under from; below = rw o.under below; told = o.told }))
 
-    some_taken : 0 < key.count
+    some_taken : 0 < count_of key.task
     some_taken =
         let o = first_opens place w e es b key h in
         rw (← o.under) ((one_more g place w e.box e.step).some o.told)
@@ -101,7 +102,7 @@ module _ (g : Setting) where
   -- from a point on
   rising : (place : ℕ) (w : World) (es : List Entry) (b : Box) (earlier later : ℕ) (key key' : Key) → length w.log ≤ earlier → earlier < later
       → Happened (run g place w es).log earlier b key (replied started) → Happened (run g place w es).log later b key' (replied started)
-      → key.first + key.count ≤ key'.first
+      → key.first + count_of key.task ≤ key'.first
   rising place w [] b earlier later key key' from less h h' = absurd (omega (arith, h.within, from))
   rising place w (e ∷ es) b earlier later key key' from less h h' =
       let one = one_more g place w e.box e.step in
@@ -112,7 +113,7 @@ module _ (g : Setting) where
       let opened = rw (← here) at h in
       let some = some_taken place w e es b key opened in
       -- the highest of the earlier job's numbers
-      let highest = key.first + (key.count - 1) in
+      let highest = key.first + (count_of key.task - 1) in
       let spent = taken_spent w next one b highest (all_taken place w e es b key opened highest (omega arith) (omega (arith, some))) in
       omega (arith, above (suc place) next es b highest later key' spent (omega (arith, here, less, long)) h'))
       (λ past. rising (suc place) next es b earlier later key key' (omega (arith, past, long)) less h h')

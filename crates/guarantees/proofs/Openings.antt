@@ -13,10 +13,12 @@ use Rattle.tally.specs.Tally.{Mark, tapes_of, is_fresh, late, first_marks, cut_m
 use Rattle.tally.proofs.Starts.{first_length, first_spent, first_others, cut_first_length, cut_first_others, none_freed}
 use Rattle.protocol.specs.Rounds.{last_round}
 use Rattle.rules.specs.Answers.{started, heard, finished}
+use Rattle.rules.specs.Tasks.{count_of, pairs_of}
 use Rattle.rules.specs.Modes.{in_phase}
 use Rattle.rules.specs.Batches.{batch_of, answer_shares}
 use Rattle.rules.specs.Grounds.{wake_ground, start_ground, speak_ground, hear_ground, drop_ground}
 use Rattle.rules.specs.Calls.{Result, wake_rule, start_rule, speak_rule, heard_after, hear_rule, drop_rule}
+use Rattle.rules.specs.declared.state.Task.{Task}
 use Rattle.rules.specs.declared.state.Turn.TheVariants.{Speak}
 use Rattle.rules.specs.declared.state.Phase.TheVariants.{Job}
 use Rattle.rules.specs.declared.state.State.{State}
@@ -78,20 +80,20 @@ same_self box2 = refl
 pub record Opening (b : Box) (number : ℕ) (e : Event) : Type 0 where
   pub box : b ≡ e.box
   pub from : e.key.first ≤ number
-  pub below : number < e.key.first + e.key.count
+  pub below : number < e.key.first + count_of e.key.task
   pub told : is_opening (kind_of e.said) ≡ true
 
 pub opening : (b : Box) (number : ℕ) (e : Event) → takes b number e ≡ true → Opening b number e
 opening b number e h =
     let own = same_box b e.box in
     let from = leb e.key.first number in
-    let below = ltb number (e.key.first + e.key.count) in
+    let below = ltb number (e.key.first + count_of e.key.task) in
     let place = and_left (own && from && below) (is_opening (kind_of e.said)) h in
     let start = and_left (own && from) below place in
     record {
       box = same_box_lem b e.box (and_left own from start);
       from = leb-true e.key.first number (and_right own from start);
-      below = ltb-true number (e.key.first + e.key.count) (and_right (own && from) below place);
+      below = ltb-true number (e.key.first + count_of e.key.task) (and_right (own && from) below place);
       told = and_right (own && from && below) (is_opening (kind_of e.said)) h;
     }
 
@@ -100,7 +102,7 @@ takes_lem b number e o =
     and_both
     (and_both
     (and_both (ap (same_box b) (sym o.box) ∙ same_self b) (le-leb e.key.first number o.from))
-    (lt-ltb number (e.key.first + e.key.count) o.below))
+    (lt-ltb number (e.key.first + count_of e.key.task) o.below))
     o.told
 
 -- ---- one entry
@@ -119,7 +121,7 @@ pub record OneMore (w w' : World) : Type 0 where
   pub same_length : (c : Box) → length (memory_of w' c).tally ≡ length (memory_of w c).tally
   pub was_fresh : (c : Box) (number : ℕ) → is_fresh (memory_of w' c).tally number ≡ true → is_fresh (memory_of w c).tally number ≡ true
   pub taken : (c : Box) (number : ℕ) → takes c number event ≡ true → Taken (memory_of w c).tally (memory_of w' c).tally number
-  pub some : is_opening (kind_of event.said) ≡ true → 0 < event.key.count
+  pub some : is_opening (kind_of event.said) ≡ true → 0 < count_of event.key.task
 
 -- the entry's own box goes on, the other box's memory stays
 at_each : (w : World) (b : Box) (m : Memory) (e : Event) (P : Box → Memory → Memory → Type 0) → P b (memory_of w b) m
@@ -131,7 +133,7 @@ at_each w box2 m e P here there box2 = here
 
 more : (w : World) (b : Box) (m : Memory) (e : Event) → e.box ≡ b
     → ((number : ℕ) → Opening b number e → Taken (memory_of w b).tally m.tally number)
-    → (is_opening (kind_of e.said) ≡ true → 0 < e.key.count)
+    → (is_opening (kind_of e.said) ≡ true → 0 < count_of e.key.task)
     → ((number : ℕ) → is_fresh m.tally number ≡ true → is_fresh (memory_of w b).tally number ≡ true)
     → length m.tally ≡ length (memory_of w b).tally → OneMore w (after w b m e)
 more w b m e at taken some was_fresh long =
@@ -163,13 +165,14 @@ same_tally w b m e at none same = dull w b m e at none (λ number f. ap (λ (t :
 
 -- ---- a start that is not refused
 
-module _ (s : State) (first count : ℕ) (shares tapes work tally : List ℕ) (p : StartPassed s first count shares tapes work tally) where
-  some_jobs : 0 < count
-  some_jobs = (count_most count p.counted).0
+module _ (s : State) (first : ℕ) (task : Task) (shares tapes work tally : List ℕ) (p : StartPassed s first task shares tapes work tally) where
+  some_jobs : 0 < count_of task
+  some_jobs = (count_most (count_of task) p.counted).0
 
   -- it takes all of its numbers
-  all_taken : (number : ℕ) → first ≤ number → number < first + count → Taken tally (first_marks tally first count) number
+  all_taken : (number : ℕ) → first ≤ number → number < first + count_of task → Taken tally (first_marks tally first (count_of task)) number
   all_taken number from below =
+      let count = count_of task in
       let i : ℕ = number - first in
       let less : i < count = omega arith in
       let same : first + i ≡ number = omega arith in
@@ -182,29 +185,34 @@ module _ (s : State) (first count : ℕ) (shares tapes work tally : List ℕ) (p
         spent = first_spent tally first count room i less;
       })
 
-start_more : (w : World) (b : Box) (first count : ℕ) (shares tapes : List ℕ)
+start_more : (w : World) (b : Box) (first : ℕ) (task : Task) (shares tapes : List ℕ)
     → let m = memory_of w b in
-    let r = start_rule m.state first count shares tapes m.work m.tally in
+    let r = start_rule m.state first task shares tapes m.work m.tally in
     OneMore w
     (after w b (after_start m r)
-    (record { box = b; key = job_key first count m.state.n; round = 0; said = replied r.reply; spoken = []; incoming = [] }))
+    (record { box = b; key = job_key first task m.state.n; round = 0; said = replied r.reply; spoken = []; incoming = [] }))
 unfolding start_rule
-start_more w b first count shares tapes =
+start_more w b first task shares tapes =
     let m = memory_of w b in
     let tally = m.tally in
+    let count = count_of task in
     let opened : Result =
-    record { reply = started; state = in_phase m.state (Job (Speak 1)) (batch_of first count shares); buffer = first_marks tally first count } in
+    record {
+      reply = started;
+      state = in_phase m.state (Job (Speak 1)) (batch_of first task (pairs_of m.state.side task shares));
+      buffer = first_marks tally first count;
+    } in
     decide
     (λ r.
     OneMore w
     (after w b (after_start m r)
-    (record { box = b; key = job_key first count m.state.n; round = 0; said = replied r.reply; spoken = []; incoming = [] })))
-    (start_ground m.state first count shares tapes m.work tally) m.state tally _
+    (record { box = b; key = job_key first task m.state.n; round = 0; said = replied r.reply; spoken = []; incoming = [] })))
+    (start_ground m.state first task shares tapes m.work tally) m.state tally _
     (λ cause.
-    let p = start_passed m.state first count shares tapes m.work tally cause in
+    let p = start_passed m.state first task shares tapes m.work tally cause in
     more w b (after_start m opened) _ refl
-    (λ number o. all_taken m.state first count shares tapes m.work tally p number o.from o.below)
-    (λ told. some_jobs m.state first count shares tapes m.work tally p)
+    (λ number o. all_taken m.state first task shares tapes m.work tally p number o.from o.below)
+    (λ told. some_jobs m.state first task shares tapes m.work tally p)
     (none_freed tally (first_marks tally first count) first count p.fresh (first_others tally first count)) (first_length tally first count))
     (same_tally w b _ _ refl refl refl)
 
@@ -232,7 +240,7 @@ cut_more w b m e cause first count at mark own none was left = go (eqb cause 0 &
 pub one_more : (g : Setting) (place : ℕ) (w : World) (b : Box) (step : Step) → OneMore w (stepped g place w b step)
 unfolding stepped
 one_more g place w b (wake n side p) = same_tally w b _ _ refl (wake_opens (memory_of w b).state n side p (memory_of w b).tally) refl
-one_more g place w b (start first count lent) = start_more w b first count (g.shares b place) (tape_words g lent)
+one_more g place w b (start first task lent) = start_more w b first task (g.shares b place) (tape_words g lent)
 one_more g place w b (speak first round lent out) =
     same_tally w b _ _ refl (speak_opens (memory_of w b).state first round (tape_words g lent) (memory_of w b).work out) refl
 one_more g place w b (hear first round lent incoming) =
@@ -243,12 +251,12 @@ one_more g place w b drop = same_tally w b _ _ refl (drop_opens (memory_of w b).
 one_more g place w b (cut room) =
     let m = memory_of w b in
     same_tally w b (after_cut g place room m m.tally) _ refl (ap is_opening (cut_plain m.state)) refl
-one_more g place w b (cut_start first count lent at mark room) =
+one_more g place w b (cut_start first task lent at mark room) =
     let m = memory_of w b in
     let shares = g.shares b place in
-    cut_more w b _ _ (start_ground m.state first count shares (tape_words g lent) m.work m.tally) first count at mark refl
+    cut_more w b _ _ (start_ground m.state first task shares (tape_words g lent) m.work m.tally) first (count_of task) at mark refl
     (ap is_opening (cut_plain m.state))
-    (λ cause. (start_passed m.state first count shares (tape_words g lent) m.work m.tally cause).fresh) refl
+    (λ cause. (start_passed m.state first task shares (tape_words g lent) m.work m.tally cause).fresh) refl
 
 -- ---- the log over a run
 

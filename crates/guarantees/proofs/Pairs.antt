@@ -1,6 +1,6 @@
 -- One key's exchange as both boxes of a run see it: what protocol/specs/Pairing.antt says of the box in question, said of box 1 and box 2.
 use Prim.Native.Nat.{ℕ, zero, suc, ◌+◌, ◌<◌}
-use mathlib.Core.Path.{◌≡◌, refl, sym, ◌∙◌}
+use mathlib.Core.Path.{◌≡◌, refl, sym, ap, ◌∙◌}
 use mathlib.Core.List.{List}
 use native.Mathlib.Nat.{le_of_eq}
 use lib.ListN.{length-replicate}
@@ -11,7 +11,8 @@ use Rattle.protocol.specs.Products.{Party}
 use Rattle.protocol.specs.Rounds.{earlier_rounds, last_round}
 use Rattle.protocol.specs.Exchange.{Both, exchanged, sent_own, sent_others, answer_own, answer_others}
 use Rattle.protocol.specs.Pairing.{Roomy, LooksAlike}
-use Rattle.rules.specs.Batches.{x_in, y_in}
+use Rattle.rules.specs.Tasks.{count_of, pairs_of}
+use Rattle.rules.specs.Batches.{x_in, y_in, answers_given}
 use Rattle.rules.proofs.Batches.{each_same}
 use Rattle.guarantees.specs.Boxes.{Box, box1, box2, side_of, other_box}
 use Rattle.guarantees.specs.Keys.{Key}
@@ -42,16 +43,21 @@ answer_swap own others w = rw (exchanged_swap own others w earlier_rounds, own_s
 
 -- ---- alike under two tapes and two lists of shares of box b
 
+-- the shares of x and y of a box's jobs, as its book has them
+abbrev pub pairs_in : (Box → Key → Lending) → Box → Key → List ℕ
+pairs_in book b key = pairs_of (side_of b) key.task (book b key)
+
 -- job i of a key
 abbrev pub JobAlike : Box → (Box → ℕ → ℕ → List ℕ) → (Box → ℕ → ℕ → List ℕ) → (Box → Key → Lending) → (Box → Key → Lending) → Key → ℕ → Type 0
 JobAlike b tapes tapes' book book' key i =
-    LooksAlike key.width (side_of b) (x_in (book b key) i) (y_in (book b key) i) (x_in (book' b key) i) (y_in (book' b key) i)
-    (x_in (book (other_box b) key) i) (y_in (book (other_box b) key) i) (tapes (other_box b) (key.first + i) key.width)
+    LooksAlike key.width (side_of b) (x_in (pairs_in book b key) i) (y_in (pairs_in book b key) i)
+    (x_in (pairs_in book' b key) i) (y_in (pairs_in book' b key) i)
+    (x_in (pairs_in book (other_box b) key) i) (y_in (pairs_in book (other_box b) key) i) (tapes (other_box b) (key.first + i) key.width)
     (tapes b (key.first + i) key.width) (tapes' b (key.first + i) key.width)
 
 -- all its jobs
 abbrev pub KeyAlike : Box → (Box → ℕ → ℕ → List ℕ) → (Box → ℕ → ℕ → List ℕ) → (Box → Key → Lending) → (Box → Key → Lending) → Key → Type 0
-KeyAlike b tapes tapes' book book' key = (i : ℕ) → i < key.count → JobAlike b tapes tapes' book book' key i
+KeyAlike b tapes tapes' book book' key = (i : ℕ) → i < count_of key.task → JobAlike b tapes tapes' book book' key i
 
 roomy : (n : ℕ) → Roomy n (blank n)
 roomy n = record { own = le_of_eq (sym (length-replicate (work_length n) 0)); others = le_of_eq (sym (length-replicate (work_length n) 0)) }
@@ -72,7 +78,7 @@ module _ (tapes tapes' : Box → ℕ → ℕ → List ℕ) (book book' : Box →
   first_in box2 h i = rw (party_stays box2 h i) refl
 
   pub first_alike : (c : Box) → Stays c → sent_by tapes book c key 1 ≡ sent_by tapes' book' c key 1
-  first_alike c h = chained_same key.count _ _ (λ i less. first_in c h i)
+  first_alike c h = chained_same (count_of key.task) _ _ (λ i less. first_in c h i)
 
   -- the other box has the same under both, and b's jobs look alike
   sent_job : (b : Box) → Stays (other_box b) → (i : ℕ) → JobAlike b tapes tapes' book book' key i
@@ -95,7 +101,7 @@ module _ (tapes tapes' : Box → ℕ → ℕ → List ℕ) (book book' : Box →
 
   pub sent_alike : (b : Box) → Stays (other_box b) → KeyAlike b tapes tapes' book book' key
       → (c : Box) (r : ℕ) → r < last_round → sent_by tapes book c key (suc r) ≡ sent_by tapes' book' c key (suc r)
-  sent_alike b h k c r l = chained_same key.count _ _ (λ i less. sent_job b h i (k i less) c r l)
+  sent_alike b h k c r l = chained_same (count_of key.task) _ _ (λ i less. sent_job b h i (k i less) c r l)
 
   answer_job : (b : Box) → Stays (other_box b) → (i : ℕ) → JobAlike b tapes tapes' book book' key i
       → answer_in tapes book (other_box b) key i ≡ answer_in tapes' book' (other_box b) key i
@@ -111,4 +117,6 @@ module _ (tapes tapes' : Box → ℕ → ℕ → List ℕ) (book book' : Box →
   pub answers_alike : (b : Box) → Stays (other_box b) → KeyAlike b tapes tapes' book book' key
       → answers_by tapes book (other_box b) key ≡ answers_by tapes' book' (other_box b) key
   answers_alike b h k =
-      each_same key.count (answer_in tapes book (other_box b) key) (answer_in tapes' book' (other_box b) key) (λ i less. answer_job b h i (k i less))
+      ap (answers_given key.width (side_of (other_box b)) key.task)
+      (each_same (count_of key.task) (answer_in tapes book (other_box b) key) (answer_in tapes' book' (other_box b) key)
+      (λ i less. answer_job b h i (k i less)))

@@ -1,10 +1,14 @@
 -- Two runs at one place: what makes their grounds of refusal the same.
 use Prim.Native.Nat.{ℕ}
-use mathlib.Core.Path.{◌≡◌, sym, ap, ◌∙◌}
-use mathlib.Core.Logic.{inl, inr}
+use mathlib.Core.Path.{◌≡◌, refl, sym, ap, ◌∙◌}
+use mathlib.Core.Logic.{inl, inr, by_cases}
+use native.Mathlib.Decide.{dec_lt}
+use native.Mathlib.Omega.{arith}
 use borrow.Author.Tests.{lt-ltb}
-use lib.ListN.{get_or}
+use lib.ListN.{length, get_or, get_or-eq_default}
+use Rattle.rules.specs.Tasks.{count_of}
 use Rattle.rules.specs.Grounds.{start_ground}
+use Rattle.rules.specs.declared.state.Task.{Task}
 use Rattle.guarantees.specs.Boxes.{Box}
 use Rattle.guarantees.specs.Keys.{Key, key_at}
 use Rattle.guarantees.specs.Entries.{Lent, dealt, Incoming, Step, wake, start, speak, hear, drop, cut, cut_start}
@@ -28,7 +32,12 @@ share_alike m v v' (inr (inl asleep)) = inl asleep
 share_alike m v v' (inr (inr fits)) = inr (lt-ltb _ _ fits.0 ∙ sym (lt-ltb _ _ fits.1))
 
 shares_alike : (m : Memory) (vs vs' : Lending) → SharesInBoth m vs vs' → SharesAlike m.state vs vs'
-shares_alike m vs vs' h = (h.0, λ i less. share_alike m (get_or vs i 0) (get_or vs' i 0) (h.1 i less))
+shares_alike m vs vs' h = (h.0, each)
+  where
+    each : (i : ℕ) → ShareAlike m.state (get_or vs i 0) (get_or vs' i 0)
+    each i =
+        by_cases (dec_lt i (length vs)) (λ less. share_alike m (get_or vs i 0) (get_or vs' i 0) (h.1 i less))
+        (λ past. inr (rw (get_or-eq_default vs 0 {n = i} (omega arith), get_or-eq_default vs' 0 {n = i} (omega (arith, h.0))) refl))
 
 -- seen from the second run
 in_both_back : {m m' : Memory} (v v' : ℕ) → LowMemory m m' → InBoth m v v' → InBoth m' v' v
@@ -42,25 +51,25 @@ shares_back vs vs' t h = (sym h.0, λ i less. in_both_back (get_or vs i 0) (get_
 pub compatible_back : (g g' : Setting) (place : ℕ) (w w' : World) (c : Box) (step : Step) → LowEquivalent w w' → Compatible g'.shares g place w c step
     → Compatible g.shares g' place w' c step
 compatible_back g g' place w w' c (wake n side p) k h = tt
-compatible_back g g' place w w' c (start first count lent) k h = shares_back (g.shares c place) (g'.shares c place) (k.memories c) h
+compatible_back g g' place w w' c (start first task lent) k h = shares_back (g.shares c place) (g'.shares c place) (k.memories c) h
 compatible_back g g' place w w' c (speak first round lent out) k h = tt
 compatible_back g g' place w w' c (hear first round lent incoming) k h = tt
 compatible_back g g' place w w' c drop k h = tt
 compatible_back g g' place w w' c (cut room) k h = tt
-compatible_back g g' place w w' c (cut_start first count lent at mark room) k h = shares_back (g.shares c place) (g'.shares c place) (k.memories c) h
+compatible_back g g' place w w' c (cut_start first task lent at mark room) k h = shares_back (g.shares c place) (g'.shares c place) (k.memories c) h
 
 -- ---- a start
 
 module _ (g g' : Setting) (pair : ℕ) (orders : InOrder g pair) (orders' : InOrder g' pair) (w w' : World) (k : LowEquivalent w w') where
-  pub start_ground_lem : (place : ℕ) (c : Box) (first count : ℕ) (lent : Lent) → SharesInBoth (memory_of w c) (g.shares c place) (g'.shares c place)
-      → SameGround g g' place w w' c (start first count lent)
-  start_ground_lem place c first count lent h =
+  pub start_ground_lem : (place : ℕ) (c : Box) (first : ℕ) (task : Task) (lent : Lent) → SharesInBoth (memory_of w c) (g.shares c place) (g'.shares c place)
+      → SameGround g g' place w w' c (start first task lent)
+  start_ground_lem place c first task lent h =
       let m = memory_of w c in
       let m' = memory_of w' c in
       let t = k.memories c in
-      start_same t.state first count (g.shares c place) (g'.shares c place) (tape_words g lent) (tape_words g' lent) m.work m'.work m.tally
-      (tapes_alike g g' pair orders orders' m.state first count lent) (shares_alike m _ _ h) t.room
-      ∙ ap (start_ground m'.state first count (g'.shares c place) (tape_words g' lent) m'.work) t.tally
+      start_same t.state first task (g.shares c place) (g'.shares c place) (tape_words g lent) (tape_words g' lent) m.work m'.work m.tally
+      (tapes_alike g g' pair orders orders' m.state first (count_of task) lent) (shares_alike m _ _ h) t.room
+      ∙ ap (start_ground m'.state first task (g'.shares c place) (tape_words g' lent) m'.work) t.tally
 
 -- ---- messages
 
@@ -105,14 +114,15 @@ module _ (w w' : World) (k : LowEquivalent w w') where
 
 -- a call names the same dealt tapes in both
 dealt_same : {w w' : World} (k : LowEquivalent w w') (c : Box) (first : ℕ)
-    → dealt c first (memory_of w c).state.batch.count (memory_of w c).state.n ≡ dealt c first (memory_of w' c).state.batch.count (memory_of w' c).state.n
-dealt_same k c first = ap (λ (key : Key). dealt c key.first key.count key.width) (key_same k c first)
+    → dealt c first (count_of (memory_of w c).state.batch.task) (memory_of w c).state.n
+    ≡ dealt c first (count_of (memory_of w' c).state.batch.task) (memory_of w' c).state.n
+dealt_same k c first = ap (λ (key : Key). dealt c key.first (count_of key.task) key.width) (key_same k c first)
 
 -- with the same grounds of refusal the second run keeps to what the first keeps to
 pub keeps_too : (g g' : Setting) (place : ℕ) (w w' : World) (k : LowEquivalent w w') (c : Box) (step : Step) → SameGround g g' place w w' c step
     → Keeps g place w c step → Keeps g' place w' c step
 keeps_too g g' place w w' k c (wake n side p) f h = tt
-keeps_too g g' place w w' k c (start first count lent) f h = tt
+keeps_too g g' place w w' k c (start first task lent) f h = tt
 keeps_too g g' place w w' k c (speak first round lent out) f h = λ cause. h (f ∙ cause) ∙ dealt_same k c first
 keeps_too g g' place w w' k c (hear first round lent incoming) f h =
     λ cause.
@@ -120,4 +130,4 @@ keeps_too g g' place w w' k c (hear first round lent incoming) f h =
     (kept.0 ∙ dealt_same k c first, true_too w w' k c _ _ round incoming (key_same k c first) kept.1)
 keeps_too g g' place w w' k c drop f h = tt
 keeps_too g g' place w w' k c (cut room) f h = tt
-keeps_too g g' place w w' k c (cut_start first count lent at mark room) f h = tt
+keeps_too g g' place w w' k c (cut_start first task lent at mark room) f h = tt

@@ -8,6 +8,7 @@ use native.Mathlib.Nat.{le_of_eq}
 use lib.ListN.{length}
 use Rattle.refusals.specs.Grounds.{earliest_of}
 use Rattle.refusals.proofs.Chains.{first_none, both_none}
+use Rattle.rules.specs.Tasks.{count_of}
 use Rattle.rules.specs.Grounds.{turn_grounds, word_grounds, words_fit, hear_ground}
 use Rattle.rules.specs.declared.state.Turn.TheVariants.{Hear}
 use Rattle.rules.specs.declared.state.State.{State}
@@ -51,7 +52,8 @@ turn_taken s first round tapes work incoming taken =
     (both_none (turn_grounds s first (Hear round) tapes work incoming) (word_grounds s.n incoming) taken).0
 
 module _ {s s' : State} (t : LowState s s') (first round : ℕ) (tapes tapes' work work' incoming incoming' : List ℕ)
-    (lent : TapesAlike s s.batch.first s.batch.count tapes tapes') (room : length work ≡ length work') (long : length incoming ≡ length incoming') where
+    (lent : TapesAlike s s.batch.first (count_of s.batch.task) tapes tapes') (room : length work ≡ length work')
+    (long : length incoming ≡ length incoming') where
   turns : earliest_of (turn_grounds s first (Hear round) tapes work incoming) ≡ earliest_of (turn_grounds s' first (Hear round) tapes' work' incoming')
   turns = turn_same t first (Hear round) tapes tapes' work work' incoming incoming' lent room long
 
@@ -100,37 +102,37 @@ module _ (g g' : Setting) (pair : ℕ) (orders : InOrder g pair) (orders' : InOr
   -- what the second run asks of the first: a message taken there has its words below p here
   abbrev Below : World → World → Box → Step → Type 0
   Below w w' c (wake n side p) = Unit {0}
-  Below w w' c (start first count lent) = Unit {0}
+  Below w w' c (start first task lent) = Unit {0}
   Below w w' c (speak first round lent out) = Unit {0}
   Below w w' c (hear first round lent incoming) =
       hear_ground (memory_of w' c).state first round (tape_words g' lent) (memory_of w' c).work (line_words w'.log incoming) ≡ 0
       → words_fit (memory_of w c).state.n (line_words w.log incoming) ≡ true
   Below w w' c drop = Unit {0}
   Below w w' c (cut room) = Unit {0}
-  Below w w' c (cut_start first count lent at mark room) = Unit {0}
+  Below w w' c (cut_start first task lent at mark room) = Unit {0}
 
   same_ground : (place : ℕ) (w w' : World) (c : Box) (step : Step) → Comparable w w' → Compatible g'.shares g place w c step
       → Keeps g place w c step → Below w w' c step → SameGround g g' place w w' c step
   same_ground place w w' c (wake n side p) j h keeps below = tt
-  same_ground place w w' c (start first count lent) j h keeps below = start_ground_lem g g' pair orders orders' w w' j.low place c first count lent h
+  same_ground place w w' c (start first task lent) j h keeps below = start_ground_lem g g' pair orders orders' w w' j.low place c first task lent h
   same_ground place w w' c (speak first round lent out) j h keeps below =
       let s = (memory_of w c).state in
       let t = j.low.memories c in
-      speak_same t.state first round _ _ _ _ out (tapes_alike g g' pair orders orders' s s.batch.first s.batch.count lent) t.room
+      speak_same t.state first round _ _ _ _ out (tapes_alike g g' pair orders orders' s s.batch.first (count_of s.batch.task) lent) t.room
   same_ground place w w' c (hear first round lent incoming) j h keeps below =
       let s = (memory_of w c).state in
       let t = j.low.memories c in
       let spelled = ground_lent g place (memory_of w c) w.log first round lent incoming in
       spelled
-      ∙ hear_alike t.state first round _ _ _ _ _ _ (tapes_alike g g' pair orders orders' s s.batch.first s.batch.count lent) t.room
+      ∙ hear_alike t.state first round _ _ _ _ _ _ (tapes_alike g g' pair orders orders' s s.batch.first (count_of s.batch.task) lent) t.room
       (long_same w w' j.low incoming)
       (λ taken. true_fits w'.log j.fits' c (key_at s first) round incoming (true_too w w' j.low c _ _ round incoming refl (keeps (spelled ∙ taken)).1))
       below
       ∙ sym (ground_lent g' place (memory_of w' c) w'.log first round lent incoming)
   same_ground place w w' c drop j h keeps below = tt
   same_ground place w w' c (cut room) j h keeps below = tt
-  same_ground place w w' c (cut_start first count lent at mark room) j h keeps below =
-      start_ground_lem g g' pair orders orders' w w' j.low place c first count lent h
+  same_ground place w w' c (cut_start first task lent at mark room) j h keeps below =
+      start_ground_lem g g' pair orders orders' w w' j.low place c first task lent h
 
   comparable_next : (place : ℕ) (w w' : World) (c : Box) (step : Step) → Comparable w w' → SameGround g g' place w w' c step
       → Comparable (stepped g place w c step) (stepped g' place w' c step)
@@ -145,7 +147,7 @@ module _ (g g' : Setting) (pair : ℕ) (orders : InOrder g pair) (orders' : InOr
 
   true_below : (place : ℕ) (w w' : World) (c : Box) (step : Step) → Comparable w w' → Keeps g' place w' c step → Below w w' c step
   true_below place w w' c (wake n side p) j keeps = tt
-  true_below place w w' c (start first count lent) j keeps = tt
+  true_below place w w' c (start first task lent) j keeps = tt
   true_below place w w' c (speak first round lent out) j keeps = tt
   true_below place w w' c (hear first round lent incoming) j keeps =
       λ taken.
@@ -154,7 +156,7 @@ module _ (g g' : Setting) (pair : ℕ) (orders : InOrder g pair) (orders' : InOr
       (keeps (ground_lent g' place (memory_of w' c) w'.log first round lent incoming ∙ taken)).1)
   true_below place w w' c drop j keeps = tt
   true_below place w w' c (cut room) j keeps = tt
-  true_below place w w' c (cut_start first count lent at mark room) j keeps = tt
+  true_below place w w' c (cut_start first task lent at mark room) j keeps = tt
 
   pub same_schedule : (es : List Entry) (place : ℕ) (w w' : World) → Comparable w w' → AllCompatible g'.shares g place w es
       → Meets g place w es → Meets g' place w' es → LowEquivalent (run g place w es) (run g' place w' es)
@@ -178,7 +180,7 @@ module _ (g g' : Setting) (pair : ℕ) (orders : InOrder g pair) (orders' : InOr
   -- so a hear is refused with 13 for other words only, which are the same in both runs
   narrow_below : (place : ℕ) (w w' : World) (c : Box) (step : Step) → Comparable w w' → Narrow g place w c step → Below w w' c step
   narrow_below place w w' c (wake n side p) j narrow = tt
-  narrow_below place w w' c (start first count lent) j narrow = tt
+  narrow_below place w w' c (start first task lent) j narrow = tt
   narrow_below place w w' c (speak first round lent out) j narrow = tt
   narrow_below place w w' c (hear first round lent (spoken_at from)) j narrow = λ taken. go (words_fit m.state.n incoming) refl taken
     where
@@ -198,18 +200,18 @@ module _ (g g' : Setting) (pair : ℕ) (orders : InOrder g pair) (orders' : InOr
           (narrow
           (ground_lent g place (memory_of w c) w.log first round lent (spoken_at from)
           ∙ hear_thirteen t.state first round _ _ _ _ incoming _
-          (tapes_alike g g' pair orders orders' m.state m.state.batch.first m.state.batch.count lent) t.room
+          (tapes_alike g g' pair orders orders' m.state m.state.batch.first (count_of m.state.batch.task) lent) t.room
           (j.low.events from).long taken unfit))
   narrow_below place w w' c (hear first round lent (other words)) j narrow =
       λ taken. rw (j.low.memories c).state.n (hear_passed (memory_of w' c).state first round _ _ words taken).words
   narrow_below place w w' c drop j narrow = tt
   narrow_below place w w' c (cut room) j narrow = tt
-  narrow_below place w w' c (cut_start first count lent at mark room) j narrow = tt
+  narrow_below place w w' c (cut_start first task lent at mark room) j narrow = tt
 
   narrow_too : (place : ℕ) (w w' : World) (c : Box) (step : Step) → LowEquivalent w w' → SameGround g g' place w w' c step → Narrow g place w c step
       → Narrow g' place w' c step
   narrow_too place w w' c (wake n side p) k f narrow = tt
-  narrow_too place w w' c (start first count lent) k f narrow = tt
+  narrow_too place w w' c (start first task lent) k f narrow = tt
   narrow_too place w w' c (speak first round lent out) k f narrow = tt
   narrow_too place w w' c (hear first round lent (spoken_at from)) k f narrow =
       λ cause count said.
@@ -218,7 +220,7 @@ module _ (g g' : Setting) (pair : ℕ) (orders : InOrder g pair) (orders' : InOr
   narrow_too place w w' c (hear first round lent (other words)) k f narrow = λ cause. tt
   narrow_too place w w' c drop k f narrow = tt
   narrow_too place w w' c (cut room) k f narrow = tt
-  narrow_too place w w' c (cut_start first count lent at mark room) k f narrow = tt
+  narrow_too place w w' c (cut_start first task lent at mark room) k f narrow = tt
 
   -- what then holds of the second run
   pub record Lasts (es : List Entry) (place : ℕ) (w' : World) : Type 0 where

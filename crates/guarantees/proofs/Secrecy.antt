@@ -13,8 +13,9 @@ use Rattle.tape.proofs.Orders.{readable}
 use Rattle.protocol.specs.Rounds.{last_round}
 use Rattle.protocol.specs.Change.{Shares, shares_of}
 use Rattle.protocol.specs.Shift.{shifted}
-use Rattle.protocol.specs.Pairing.{Moves}
+use Rattle.protocol.specs.Pairing.{LooksAlike, Moves}
 use Rattle.protocol.proofs.Secrecy.{moves}
+use Rattle.rules.specs.Tasks.{count_of, pairs_of}
 use Rattle.rules.specs.Batches.{x_in, y_in}
 use Rattle.guarantees.specs.Boxes.{Box, box1, box2, side_of, other_box}
 use Rattle.guarantees.specs.Keys.{Key}
@@ -30,7 +31,7 @@ use Rattle.guarantees.specs.Secrecy.{Hidden, Paired, Secrecy}
 use Rattle.guarantees.proofs.First.{first_again, low_first, orders, invariant_first, marked_first, once_first}
 use Rattle.guarantees.proofs.Once.{Once, once_run}
 use Rattle.guarantees.proofs.Unwinding.{other_twice, Alike, Related, views}
-use Rattle.guarantees.proofs.Books.{reduced, Took, took_all, book_of}
+use Rattle.guarantees.proofs.Books.{clip_pairs, reduced, Took, took_all, book_of}
 use Rattle.guarantees.proofs.Runs.{Both, both}
 use Rattle.guarantees.proofs.Pairs.{KeyAlike, Stays, first_alike, sent_alike, answers_alike}
 use Rattle.guarantees.proofs.Views.{SamePlaces, same_view, same_low}
@@ -43,12 +44,12 @@ use Rattle.guarantees.proofs.Schedule.{same_schedule}
 matching_listed : (c : Common) (b : Box) (number n : ℕ) (tape : List ℕ) → Matching c b number n tape → listed n ≡ true
 matching_listed c b number n tape m = (readable n c.pair (side_of b) number tape m.own_order).width
 
--- the shares of job i of two lists
-abbrev shares_in : ℕ → Box → Lending → Lending → ℕ → Shares
+-- the shares of job i of two lists of x and y
+abbrev shares_in : ℕ → Box → List ℕ → List ℕ → ℕ → Shares
 shares_in n b own others i = shares_of n (side_of b) (x_in (clip n own) i) (y_in (clip n own) i) (x_in (clip n others) i) (y_in (clip n others) i)
 
 -- one tape, moved by them
-moves_by : (c : Common) (b : Box) (number n : ℕ) (own own' others : Lending) (i : ℕ) → listed n ≡ true
+moves_by : (c : Common) (b : Box) (number n : ℕ) (own own' others : List ℕ) (i : ℕ) → listed n ≡ true
     → let v = shares_in n b own others i in
     let v' = shares_in n b own' others i in
     Moves n c.pair number (side_of b) v.x v.y v'.x v'.y v.xo v.yo (c.others number n)
@@ -94,12 +95,12 @@ compatible_self g place w (e ∷ es) = (one e.box e.step, compatible_self g (suc
 
     one : (b : Box) (step : Step) → Compatible g.shares g place w b step
     one b (wake n side p) = tt
-    one b (start first count tapes) = lent b
+    one b (start first task tapes) = lent b
     one b (speak first round tapes out) = tt
     one b (hear first round tapes incoming) = tt
     one b drop = tt
     one b (cut room) = tt
-    one b (cut_start first count tapes at mark room) = lent b
+    one b (cut_start first task tapes at mark room) = lent b
 
 -- ---- the two runs
 
@@ -116,25 +117,42 @@ own_or_other box2 box2 = inl refl
 -- a run's log, and the log that the maps go by, which finds the same places
 module _ (log log₀ : List Event) (once : Once log) (e : SamePlaces log₀ log) where
   -- the tape of each job of a key that b opened is moved by the shares of that job, b's own and those of the other box's start of that number
-  key_shares : (c : Common) (b : Box) (shares : ℕ → Lending) (key : Key) → Took log b key → (i : ℕ) → i < key.count
+  key_shares : (c : Common) (b : Box) (shares : ℕ → Lending) (key : Key) → Took log b key → (i : ℕ) → i < count_of key.task
       → tape_shares c b log₀ shares (key.first + i) key.width
-      ≡ shares_in key.width b (shares (taken_at log b key.first)) (c.lendings (taken_at log (other_box b) key.first)) i
+      ≡ shares_in key.width b (pairs_of (side_of b) key.task (shares (taken_at log b key.first)))
+      (pairs_of (side_of (other_box b)) key.task (c.lendings (taken_at log (other_box b) key.first))) i
   key_shares c b shares key t i less =
       let same = took_all log once b key t i less in
       let key_is = (e b (key.first + i)).1 ∙ ap (λ (k : ℕ). (event_at log k).key) same ∙ t.key_is in
       rw (key_is, (e b (key.first + i)).0 ∙ same, (e (other_box b) key.first).0, add-sub_cancel_left key.first i) refl
 
   module _ (c : Common) (shares shares' : ℕ → Lending) (own : TapeSet) where
-    -- so its exchanges look the same with the tapes and the first shares as with the moved tapes and the second
+    -- so in each of its jobs a tape of b's looks like the moved one. A band's bounds are in range, so there the book has the reduced shares too
+    job_alike : (b : Box) → Valid c b own → (key : Key) → listed key.width ≡ true → Took log b key → (i : ℕ) → i < count_of key.task
+        → let at = taken_at log b key.first in
+        let v = pairs_of (side_of b) key.task (clip key.width (shares at)) in
+        let v' = pairs_of (side_of b) key.task (clip key.width (shares' at)) in
+        let others = pairs_of (side_of (other_box b)) key.task (clip key.width (c.lendings (taken_at log (other_box b) key.first))) in
+        LooksAlike key.width (side_of b) (x_in v i) (y_in v i) (x_in v' i) (y_in v' i) (x_in others i) (y_in others i)
+        (c.others (key.first + i) key.width) (own (key.first + i) key.width) (image (there_by c b log₀ shares shares') own (key.first + i) key.width)
+    job_alike b v key l t i less =
+        let at = taken_at log b key.first in
+        let reduced_pairs = λ (side : ℕ) (lent : Lending). clip_pairs key.width side key.task lent t.fits in
+        rw (
+          key_shares c b shares key t i less,
+          key_shares c b shares' key t i less,
+          ← reduced_pairs (side_of b) (shares at),
+          ← reduced_pairs (side_of b) (shares' at),
+          ← reduced_pairs (side_of (other_box b)) (c.lendings (taken_at log (other_box b) key.first)),
+        )
+        ((moves_by c b (key.first + i) key.width _ _ _ i l).alike (own (key.first + i) key.width) (v (key.first + i) key.width l))
+
+    -- and its exchanges look the same with the tapes and the first shares as with the moved tapes and the second
     key_alike : (b : Box) → Valid c b own → (key : Key) → listed key.width ≡ true → Took log b key
         → KeyAlike b (by_box b own c.others) (by_box b (image (there_by c b log₀ shares shares') own) c.others)
         (book_of (by_box b shares c.lendings) log) (book_of (by_box b shares' c.lendings) log) key
-    key_alike box1 v key l t i less =
-        rw (key_shares c box1 shares key t i less, key_shares c box1 shares' key t i less)
-        ((moves_by c box1 (key.first + i) key.width _ _ _ i l).alike (own (key.first + i) key.width) (v (key.first + i) key.width l))
-    key_alike box2 v key l t i less =
-        rw (key_shares c box2 shares key t i less, key_shares c box2 shares' key t i less)
-        ((moves_by c box2 (key.first + i) key.width _ _ _ i l).alike (own (key.first + i) key.width) (v (key.first + i) key.width l))
+    key_alike box1 = job_alike box1
+    key_alike box2 = job_alike box2
 
 module _ (c : Common) (b : Box) where
   moved_valid : (log : List Event) (shares shares' : ℕ → Lending) (own : TapeSet) → Valid c b own

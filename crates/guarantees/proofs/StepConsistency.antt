@@ -12,11 +12,13 @@ use Rattle.lists.proofs.Tabulate.{length_tabulate}
 use Rattle.protocol.specs.Rounds.{last_round}
 use Rattle.rules.specs.Answers.{refused, spoken_words}
 use Rattle.rules.specs.Modes.{round_of, round_fits, in_range, mode_of, is_asleep, in_phase}
+use Rattle.rules.specs.Tasks.{pairs_of}
 use Rattle.rules.specs.Batches.{no_batch, batch_of, joined_after}
 use Rattle.rules.specs.Grounds.{wake_ground, start_ground, speak_ground, hear_ground}
 use Rattle.rules.specs.Calls.{Result, unless, wake_rule, start_rule, speak_rule, heard_after, hear_rule, drop_rule}
 use Rattle.rules.specs.declared.state.Turn.{Turn}
 use Rattle.rules.specs.declared.state.Turn.TheVariants.{Speak, Hear}
+use Rattle.rules.specs.declared.state.Task.{Task}
 use Rattle.rules.specs.declared.state.Phase.{Phase}
 use Rattle.rules.specs.declared.state.Phase.TheVariants.{Asleep, Idle, Job}
 use Rattle.rules.specs.declared.state.Batch.{Batch}
@@ -38,9 +40,9 @@ use Rattle.guarantees.proofs.Logs.{after_log, log_length, events_more}
 -- what an entry asks: the same ground of refusal in both runs; wake and drop have it in any case
 abbrev pub SameGround : Setting → Setting → ℕ → World → World → Box → Step → Type 0
 SameGround g g' place w w' b (wake n side pair) = Unit {0}
-SameGround g g' place w w' b (start first count lent) =
-    start_ground (memory_of w b).state first count (g.shares b place) (tape_words g lent) (memory_of w b).work (memory_of w b).tally
-    ≡ start_ground (memory_of w' b).state first count (g'.shares b place) (tape_words g' lent) (memory_of w' b).work (memory_of w' b).tally
+SameGround g g' place w w' b (start first task lent) =
+    start_ground (memory_of w b).state first task (g.shares b place) (tape_words g lent) (memory_of w b).work (memory_of w b).tally
+    ≡ start_ground (memory_of w' b).state first task (g'.shares b place) (tape_words g' lent) (memory_of w' b).work (memory_of w' b).tally
 SameGround g g' place w w' b (speak first round lent out) =
     speak_ground (memory_of w b).state first round (tape_words g lent) (memory_of w b).work out
     ≡ speak_ground (memory_of w' b).state first round (tape_words g' lent) (memory_of w' b).work out
@@ -49,9 +51,9 @@ SameGround g g' place w w' b (hear first round lent incoming) =
     ≡ hear_ground (memory_of w' b).state first round (tape_words g' lent) (memory_of w' b).work (incoming_words g' place (memory_of w' b).state w'.log incoming)
 SameGround g g' place w w' b drop = Unit {0}
 SameGround g g' place w w' b (cut room) = Unit {0}
-SameGround g g' place w w' b (cut_start first count lent at mark room) =
-    start_ground (memory_of w b).state first count (g.shares b place) (tape_words g lent) (memory_of w b).work (memory_of w b).tally
-    ≡ start_ground (memory_of w' b).state first count (g'.shares b place) (tape_words g' lent) (memory_of w' b).work (memory_of w' b).tally
+SameGround g g' place w w' b (cut_start first task lent at mark room) =
+    start_ground (memory_of w b).state first task (g.shares b place) (tape_words g lent) (memory_of w b).work (memory_of w b).tally
+    ≡ start_ground (memory_of w' b).state first task (g'.shares b place) (tape_words g' lent) (memory_of w' b).work (memory_of w' b).tally
 
 -- ---- results
 
@@ -92,15 +94,15 @@ in_phase_lem t phase batch =
       tally = t.tally;
       phase = refl;
       first = refl;
-      count = refl;
+      task = refl;
       ranged = rw (t.n, t.side, t.tally) refl;
     }
 
 -- a turn in jobs of the same numbers, in range in both
-job_low : {s s' : State} → LowState s s' → (turn : Turn) (batch batch' : Batch) → batch.first ≡ batch'.first → batch.count ≡ batch'.count
+job_low : {s s' : State} → LowState s s' → (turn : Turn) (batch batch' : Batch) → batch.first ≡ batch'.first → batch.task ≡ batch'.task
     → in_range (in_phase s (Job turn) batch) ≡ true → in_range (in_phase s' (Job turn) batch') ≡ true
     → LowState (in_phase s (Job turn) batch) (in_phase s' (Job turn) batch')
-job_low t turn batch batch' first count ranged ranged' =
+job_low t turn batch batch' first task ranged ranged' =
     record {
       n = t.n;
       side = t.side;
@@ -108,7 +110,7 @@ job_low t turn batch batch' first count ranged ranged' =
       tally = t.tally;
       phase = refl;
       first = first;
-      count = count;
+      task = task;
       ranged = ranged ∙ sym ranged';
     }
 
@@ -133,12 +135,12 @@ abbrev SameCount : Result → Result → Type 0
 SameCount r r' = length (spoken_words r.reply r.buffer) ≡ length (spoken_words r'.reply r'.buffer)
 
 -- the jobs that a start takes are in range
-started_range : (s : State) (first count : ℕ) (shares tapes work tally : List ℕ) → start_ground s first count shares tapes work tally ≡ 0
-    → in_range (in_phase s (Job (Speak 1)) (batch_of first count shares)) ≡ true
+started_range : (s : State) (first : ℕ) (task : Task) (shares tapes work tally : List ℕ) → start_ground s first task shares tapes work tally ≡ 0
+    → in_range (in_phase s (Job (Speak 1)) (batch_of first task (pairs_of s.side task shares))) ≡ true
 unfolding start_rule
-started_range s first count shares tapes work tally z =
-    awake_range (in_phase s (Job (Speak 1)) (batch_of first count shares))
-    (ap is_asleep (rw z at (started_job s first count shares tapes work tally z)))
+started_range s first task shares tapes work tally z =
+    awake_range (in_phase s (Job (Speak 1)) (batch_of first task (pairs_of s.side task shares)))
+    (ap is_asleep (rw z at (started_job s first task shares tapes work tally z)))
 
 module _ {s s' : State} (t : LowState s s') where
   wake_low : (n side pair : ℕ) (tally tally' : List ℕ) → tally ≡ tally'
@@ -155,7 +157,7 @@ module _ {s s' : State} (t : LowState s s') where
           tally = rw equal;
           phase = refl;
           first = refl;
-          count = refl;
+          task = refl;
           ranged = rw equal;
         };
         reply = rw equal;
@@ -169,18 +171,18 @@ module _ {s s' : State} (t : LowState s s') where
       (λ passed. record { state = in_phase_lem t Idle no_batch; reply = refl; buffer = tt })
 
   -- a start that is not refused has its shares in range, in both runs
-  start_low : (first count : ℕ) (shares shares' tapes tapes' work work' tally tally' : List ℕ) → tally ≡ tally'
-      → start_ground s first count shares tapes work tally ≡ start_ground s' first count shares' tapes' work' tally'
-      → LowResult SameBuffer (start_rule s first count shares tapes work tally) (start_rule s' first count shares' tapes' work' tally')
+  start_low : (first : ℕ) (task : Task) (shares shares' tapes tapes' work work' tally tally' : List ℕ) → tally ≡ tally'
+      → start_ground s first task shares tapes work tally ≡ start_ground s' first task shares' tapes' work' tally'
+      → LowResult SameBuffer (start_rule s first task shares tapes work tally) (start_rule s' first task shares' tapes' work' tally')
   unfolding start_rule
-  start_low first count shares shares' tapes tapes' work work' tally tally' equal e =
+  start_low first task shares shares' tapes tapes' work work' tally tally' equal e =
       unless_low SameBuffer _ _ s s' tally tally' _ _ e t equal
       (λ passed.
       record {
         state =
-            job_low t (Speak 1) (batch_of first count shares) (batch_of first count shares') refl refl
-            (started_range s first count shares tapes work tally passed)
-            (started_range s' first count shares' tapes' work' tally' (sym e ∙ passed));
+            job_low t (Speak 1) (batch_of first task (pairs_of s.side task shares)) (batch_of first task (pairs_of s'.side task shares')) refl refl
+            (started_range s first task shares tapes work tally passed)
+            (started_range s' first task shares' tapes' work' tally' (sym e ∙ passed));
         reply = refl;
         buffer = rw equal;
       })
@@ -197,10 +199,10 @@ module _ {s s' : State} (t : LowState s s') where
       let p' = (speak_passed s' first round tapes' work' out (sym e ∙ passed)).turn in
       record {
         state =
-            job_low t (Hear round) s.batch s'.batch t.first t.count (turned_range s first (Speak round) tapes (Hear round) p p.range.in_rounds)
+            job_low t (Hear round) s.batch s'.batch t.first t.task (turned_range s first (Speak round) tapes (Hear round) p p.range.in_rounds)
             (turned_range s' first (Speak round) tapes' (Hear round) p' p'.range.in_rounds);
-        reply = rw (t.n, t.count);
-        buffer = simp (length-take, length-sets, t.n, t.count);
+        reply = rw (t.n, t.task);
+        buffer = simp (length-take, length-sets, t.n, t.task);
       })
 
   hear_low : (first round : ℕ) (tapes tapes' work work' incoming incoming' : List ℕ) → length work ≡ length work'
@@ -219,7 +221,7 @@ module _ {s s' : State} (t : LowState s s') where
       rw (le-leb 1 (round + 1) (omega arith), le-leb (round + 1) last_round (omega (arith, p.range.last, eqb-false round last_round before))) in
       record {
         state =
-            job_low t (Speak (round + 1)) s.batch s'.batch t.first t.count (turned_range s first (Hear round) tapes (Speak (round + 1)) p fits)
+            job_low t (Speak (round + 1)) s.batch s'.batch t.first t.task (turned_range s first (Hear round) tapes (Speak (round + 1)) p fits)
             (turned_range s' first (Hear round) tapes' (Speak (round + 1)) p' fits);
         reply = refl;
         buffer = lengths;
@@ -258,7 +260,7 @@ after_low {w} {w'} {m} {m'} {e} {e'} b k t more =
 
 -- a call names the same job in both
 pub key_low : {s s' : State} → LowState s s' → (first : ℕ) → key_at s first ≡ key_at s' first
-key_low t first = rw (t.n, t.count) refl
+key_low t first = rw (t.n, t.task) refl
 
 -- low-equivalent states have the same job open
 open_key_lem : {s s' : State} → LowState s s' → open_key s ≡ open_key s'
@@ -291,14 +293,14 @@ step_consistent g g' place w w' b (wake n side pair) k same_ground =
     after_low b k
     (record { state = r.state; tally = t.tally; room = t.room })
     (record { box = refl; key = refl; round = refl; said = r.reply; long = refl })
-step_consistent g g' place w w' b (start first count lent) k same_ground =
+step_consistent g g' place w w' b (start first task lent) k same_ground =
     let t = k.memories b in
     let r =
-    start_low t.state first count (g.shares b place) (g'.shares b place) (tape_words g lent) (tape_words g' lent)
+    start_low t.state first task (g.shares b place) (g'.shares b place) (tape_words g lent) (tape_words g' lent)
     (memory_of w b).work (memory_of w' b).work (memory_of w b).tally (memory_of w' b).tally t.tally same_ground in
     after_low b k
     (record { state = r.state; tally = r.buffer; room = t.room })
-    (record { box = refl; key = ap (job_key first count) t.state.n; round = refl; said = r.reply; long = refl })
+    (record { box = refl; key = ap (job_key first task) t.state.n; round = refl; said = r.reply; long = refl })
 step_consistent g g' place w w' b (speak first round lent out) k same_ground =
     let t = k.memories b in
     let r =
@@ -325,7 +327,7 @@ step_consistent g g' place w w' b (cut room) k same_ground =
     let t = k.memories b in
     after_low b k (cut_low g g' place room t t.tally)
     (cut_event b t.state)
-step_consistent g g' place w w' b (cut_start first count lent at mark room) k same_ground =
+step_consistent g g' place w w' b (cut_start first task lent at mark room) k same_ground =
     let t = k.memories b in
     after_low b k (cut_low g g' place room t (rw (same_ground, t.tally)))
     (cut_event b t.state)

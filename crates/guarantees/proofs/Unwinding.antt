@@ -9,6 +9,7 @@ use Rattle.field.specs.Width.{listed}
 use Rattle.shares.specs.Reading.{read_words}
 use Rattle.shares.proofs.Reading.{delivered_read}
 use Rattle.protocol.specs.Rounds.{last_round}
+use Rattle.rules.specs.Tasks.{count_of}
 use Rattle.rules.specs.Grounds.{words_fit}
 use Rattle.guarantees.specs.Boxes.{Box, box1, box2, other_box}
 use Rattle.guarantees.specs.Keys.{Key, key_at}
@@ -166,22 +167,22 @@ module _ (b : Box) (g g' : Setting) (pair : ℕ) (book book' : Box → Key → L
     -- the same ground of refusal in both runs
     pub same_ground : (place : ℕ) (c : Box) (step : Step) → Compatible g'.shares g place w c step → SameGround g g' place w w' c step
     same_ground place c (wake n side p) h = tt
-    same_ground place c (start first count lent) h = start_ground_lem g g' pair a.orders a.orders' w w' j.low place c first count lent h
+    same_ground place c (start first task lent) h = start_ground_lem g g' pair a.orders a.orders' w w' j.low place c first task lent h
     same_ground place c (speak first round lent out) h =
         let s = (memory_of w c).state in
         let t = j.low.memories c in
-        speak_same t.state first round _ _ _ _ out (tapes_alike g g' pair a.orders a.orders' s s.batch.first s.batch.count lent) t.room
+        speak_same t.state first round _ _ _ _ out (tapes_alike g g' pair a.orders a.orders' s s.batch.first (count_of s.batch.task) lent) t.room
     same_ground place c (hear first round lent incoming) h =
         let m = memory_of w c in
         let s = m.state in
         let t = j.low.memories c in
         ground_lent g place m w.log first round lent incoming
-        ∙ hear_same t.state first round _ _ _ _ _ _ (tapes_alike g g' pair a.orders a.orders' s s.batch.first s.batch.count lent) t.room
+        ∙ hear_same t.state first round _ _ _ _ _ _ (tapes_alike g g' pair a.orders a.orders' s s.batch.first (count_of s.batch.task) lent) t.room
         (ap length (words_same incoming)) (λ passed. ap (words_fit s.n) (words_same incoming))
         ∙ sym (ground_lent g' place (memory_of w' c) w'.log first round lent incoming)
     same_ground place c drop h = tt
     same_ground place c (cut room) h = tt
-    same_ground place c (cut_start first count lent at mark room) h = start_ground_lem g g' pair a.orders a.orders' w w' j.low place c first count lent h
+    same_ground place c (cut_start first task lent at mark room) h = start_ground_lem g g' pair a.orders a.orders' w w' j.low place c first task lent h
 
     -- each run's board spells the words its own way; the reading is the same
     read_same : (place : ℕ) (c : Box) (first : ℕ) (incoming : Incoming)
@@ -194,13 +195,13 @@ module _ (b : Box) (g g' : Setting) (pair : ℕ) (book book' : Box → Key → L
     heard_next : (place : ℕ) (c : Box) (step : Step) → HeardSame (stepped g place w c step).log (stepped g' place w' c step).log
     unfolding stepped
     heard_next place c (wake n side p) = heard_after_lem w w' c _ _ _ _ j.low.places j.heard_same refl
-    heard_next place c (start first count lent) = heard_after_lem w w' c _ _ _ _ j.low.places j.heard_same refl
+    heard_next place c (start first task lent) = heard_after_lem w w' c _ _ _ _ j.low.places j.heard_same refl
     heard_next place c (speak first round lent out) = heard_after_lem w w' c _ _ _ _ j.low.places j.heard_same refl
     heard_next place c (hear first round lent incoming) =
         heard_after_lem w w' c _ _ _ _ j.low.places j.heard_same (read_same place c first incoming)
     heard_next place c drop = heard_after_lem w w' c _ _ _ _ j.low.places j.heard_same refl
     heard_next place c (cut room) = heard_after_lem w w' c _ _ _ _ j.low.places j.heard_same refl
-    heard_next place c (cut_start first count lent at mark room) = heard_after_lem w w' c _ _ _ _ j.low.places j.heard_same refl
+    heard_next place c (cut_start first task lent at mark room) = heard_after_lem w w' c _ _ _ _ j.low.places j.heard_same refl
 
     -- one entry
     pub related_next : (place : ℕ) (c : Box) (step : Step) → Keeps g place w c step → Compatible g'.shares g place w c step
