@@ -6,13 +6,11 @@ use mathlib.Core.List.{List, [], ◌∷◌}
 use native.Mathlib.Nat.{le_of_eq, mod-eq_of_lt}
 use native.Mathlib.Omega.{arith}
 use lib.Dec.{ltb}
-use lib.ListN.{length, length-replicate, replicate, get_or}
+use lib.ListN.{length, length-replicate, get_or}
 use Rattle.field.specs.Width.{listed, modulus}
 use Rattle.field.proofs.Widths.{bounds}
-use Rattle.shares.specs.Side.{is_side, other}
-use Rattle.shares.proofs.Sides.{constant_total}
+use Rattle.shares.specs.Side.{other}
 use Rattle.tape.specs.Dealt.{Matched}
-use Rattle.encoding.specs.Matching.{indicator}
 use Rattle.protocol.specs.Work.{work_length}
 use Rattle.protocol.specs.Sizes.{count_fits}
 use Rattle.protocol.proofs.Halves.{indicator_bit}
@@ -96,6 +94,10 @@ only_start log once some c key place t =
 abbrev job_bit : ℕ → List ℕ → List ℕ → ℕ → ℕ
 job_bit n pairs1 pairs2 i = right_bit n (Compare 1) pairs1 pairs2 i
 
+-- blank works have their room
+blank_room : (n : ℕ) → work_length n ≤ length (blank n).own
+blank_room n = le_of_eq (sym (length-replicate (work_length n) 0))
+
 -- the exchange's theorem in it
 exchange_right : (tapes : Box → ℕ → ℕ → List ℕ) (lent : Box → Key → Lending) (pair : ℕ) (key : Key) (i : ℕ) → listed key.width ≡ true
     → Matched key.width pair (key.first + i) (side_of box1) (tapes box1 (key.first + i) key.width) (tapes box2 (key.first + i) key.width)
@@ -107,7 +109,7 @@ exchange_right tapes lent pair key i l m l1 l2 =
     let pairs1 = pairs_at lent box1 key in
     let pairs2 = pairs_at lent box2 key in
     let test = ltb ((x_in pairs1 i + x_in pairs2 i) % modulus key.width) ((y_in pairs1 i + y_in pairs2 i) % modulus key.width) in
-    let room : work_length key.width ≤ length (replicate (work_length key.width) 0) = le_of_eq (sym (length-replicate (work_length key.width) 0)) in
+    let room = blank_room key.width in
     (right m (x_in pairs1 i) (y_in pairs1 i) (x_in pairs2 i) (y_in pairs2 i) l1 l2 (blank key.width) room room).same
     ∙ mod-eq_of_lt (omega (arith, indicator_bit test, bounds l))
 
