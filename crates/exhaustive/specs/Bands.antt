@@ -22,7 +22,11 @@ unfoldable pub band_agrees : ℕ → ℕ → ℕ → ℕ → ℕ → List ℕ �
 band_agrees n low high a1 a2 t1 t2 =
     eqb (band_at n low high a1 a2 t1 t2).refusal 0 && eqb (band_at n low high a1 a2 t1 t2).less (inside low high ((a1 + a2) % modulus n))
 
--- 1 if so for input c of the bounds, which are c / p and c % p, where the first is below the second
+-- 1 if input c of the bounds, which are c / p and c % p, has the first below the second
+abbrev pub bounds_at : ℕ → ℕ → ℕ
+bounds_at p c = indicator (ltb (c / p) (c % p))
+
+-- 1 if so, and the band with them agrees
 abbrev pub band_right_at : ℕ → ℕ → ℕ → ℕ → List ℕ → List ℕ → ℕ → ℕ
 band_right_at p n a1 a2 t1 t2 c = indicator (ltb (c / p) (c % p) && band_agrees n (c / p) (c % p) a1 a2 t1 t2)
 
@@ -56,3 +60,9 @@ bands_right_on p n i = bands_right_with n (i / p) (i % p)
 -- how many of all a1, a2 and bounds
 unfoldable pub all_bands_right : ℕ → ℕ
 all_bands_right n = sum (modulus n * modulus n) (bands_right_on (modulus n) n)
+
+-- ---- the request's cases
+
+-- at width 3 with the bounds 2 and 5, a shared as 6 and a + 1
+abbrev pub case_at : ℕ → Compared
+case_at a = band_at 3 2 5 6 ((a + 1) % 7) (two_tapes 3 1 1) (two_tapes 3 1 2)

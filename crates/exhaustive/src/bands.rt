@@ -1,8 +1,8 @@
 // Bands of a width (document 02, P10): for every a each way to share it, with each pair of bounds.
-ghost use Rattle.std.specs.Prelude.{◌≡◌, ◌+◌, ◌%◌, ◌*◌, ◌<◌, ◌≤◌, length};
+ghost use Rattle.std.specs.Prelude.{◌≡◌, true, ◌+◌, ◌%◌, ◌*◌, ◌<◌, ◌≤◌, length};
 ghost use Rattle.field.specs.Width.{modulus};
 ghost use Rattle.protocol.specs.Sizes.{tape_for};
-ghost use Rattle.exhaustive.specs.Bands.{inside, band_agrees, bands_right_of, pairs_of_bounds, all_bands_right, TwoDealt};
+ghost use Rattle.exhaustive.specs.Bands.{inside, band_agrees, bands_right_of, pairs_of_bounds, all_bands_right, TwoDealt, case_at};
 
 use crate::tapes::{NUMBER, PAIR};
 use field::Width;
@@ -18,6 +18,7 @@ fn inside(n: Width, low: u32, high: u32, a1: u32, a2: u32) -> u32
 }
 
 // Whether the boxes take the band and answer as the ordinary comparison does. Each box has two fresh tapes.
+#[tactic(auto, unfolding(crate::specs::Bands::band_agrees))]
 fn agrees(n: Width, low: u32, high: u32, a1: u32, a2: u32, t1: &[u32], t2: &[u32]) -> bool
     requires { (low < high) × (high < modulus n.bits) × (a1 < modulus n.bits) × (a2 < modulus n.bits) }
     ensures value { result ≡ band_agrees n.bits low high a1 a2 t1.now t2.now }
@@ -30,6 +31,7 @@ fn agrees(n: Width, low: u32, high: u32, a1: u32, a2: u32, t1: &[u32], t2: &[u32
 }
 
 // All bounds, with one pair of tapes of two.
+#[tactic(auto, using(crate::proofs::Small::small), unfolding(crate::specs::Bands::bands_right_of))]
 fn right_of(n: Width, a1: u32, a2: u32, t1: &[u32], t2: &[u32]) -> u64
     requires { (n.bits ≤ 5) × (a1 < modulus n.bits) × (a2 < modulus n.bits) }
     ensures value { result ≡ bands_right_of n.bits a1 a2 t1.now t2.now }
@@ -46,6 +48,7 @@ fn right_of(n: Width, a1: u32, a2: u32, t1: &[u32], t2: &[u32]) -> u64
 }
 
 // All shares of a, p^2 of them, with all bounds: all are right.
+#[tactic(auto, using(crate::proofs::Small::small), unfolding(crate::specs::Bands::all_bands_right))]
 fn right(n: Width, t1: &mut [u32], t2: &mut [u32]) -> u64
     requires { (n.bits ≤ 5) × (length t1.old ≡ tape_for n.bits 2) × (length t2.old ≡ tape_for n.bits 2) }
     ensures value { result ≡ all_bands_right n.bits }
@@ -75,10 +78,12 @@ pub fn count(n: Width) -> u64
     right(n, t1, t2)
 }
 
-// The request's cases: what the boxes answer at width 3 with the bounds 2 and 5. a is shared so that it goes past p, as 6 and a + 1.
+// The request's cases: what the boxes answer at width 3 with the bounds 2 and 5. The shares of a are 6 and a + 1, whose sum is past p.
+#[tactic(auto, unfolding(field::specs::Width::listed))]
 pub fn case(a: u32) -> u32
     requires { a < 7 }
-    ensures { result ≡ inside 2 5 a }
+    ensures value { result ≡ (case_at a).less }
+    ensures right { result ≡ inside 2 5 a }
 {
     let n = Width { bits: 3 };
     let mut t1 = exchange::rooms::blank_tapes();

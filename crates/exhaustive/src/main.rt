@@ -42,6 +42,6 @@ fn main(rt: HostRuntime) -> io::Result<()> {
     run(&rt, "width 3", three, Source::Dealt, 2401)?;
     run(&rt, "width 5", five, Source::Dealt, 923521)?;
     cases(&rt)?;
-    run_bands(&rt, "bands of width 3", three, 1029)?;
-    run_bands(&rt, "bands of width 5", five, 446865)
+    run_bands(&rt, "width 3, bands", three, 1029)?;
+    run_bands(&rt, "width 5, bands", five, 446865)
 }

@@ -1,5 +1,5 @@
 // Which tapes the inputs are run on.
-ghost use Rattle.std.specs.Prelude.{◌≡◌, ◌<◌, length};
+ghost use Rattle.std.specs.Prelude.{◌≡◌, ◌<◌, ◌≤◌, length};
 ghost use Rattle.tape.specs.Layout.{tape_length};
 ghost use Rattle.tape.specs.Dealt.{Dealt};
 ghost use Rattle.protocol.specs.Sizes.{tape_for};
@@ -11,10 +11,10 @@ use tape::Label;
 
 pub const PAIR: u32 = 7;
 
-// The number of a job's tape, and of a band's first.
+// The number of a job's tape, or of a band's first.
 pub const NUMBER: u32 = 0;
 
-// As many seeds as there are for both shares of x, or of a.
+// The seeds for two shares are 1 to 961. A band's second tapes have those after them.
 const SEEDS: u32 = 31 * 31;
 
 const BOX1: Label = Label {
