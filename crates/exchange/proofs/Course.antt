@@ -12,7 +12,8 @@ use Rattle.protocol.specs.Sizes.{round_for}
 use Rattle.protocol.proofs.Lengths.{most_words, message_length}
 use Rattle.rules.specs.Answers.{Reply, finished}
 use Rattle.rules.specs.Modes.{in_phase}
-use Rattle.rules.specs.Batches.{each_job, work_part, words_part, party_of, joined_message, joined_after, answer_shares}
+use Rattle.rules.specs.Tasks.{count_of}
+use Rattle.rules.specs.Batches.{each_job, work_part, words_part, party_of, joined_message, joined_after, answers_given, answer_shares}
 use Rattle.rules.specs.Calls.{outcome, heard_after}
 use Rattle.rules.proofs.Batches.{each_same}
 use Rattle.rules.proofs.Ranges.{ranged}
@@ -27,7 +28,7 @@ use Rattle.exchange.proofs.Ready.{turned, heard_next, heard_last}
 pub record Course (begun : State) (first : ℕ) (tapes : List ℕ) (k : ℕ) (held : ℕ → List ℕ) (s : State) (work : List ℕ) : Type 0 where
   pub due : Ready s first (Speak (k + 1)) tapes work
   pub same : s ≡ turned begun (Speak (k + 1))
-  pub so_far : (i : ℕ) → i < begun.batch.count → work_part begun.n work i ≡ held i
+  pub so_far : (i : ℕ) → i < count_of begun.batch.task → work_part begun.n work i ≡ held i
 
 pub course_first : (s : State) (first : ℕ) (tapes work : List ℕ) → Ready s first (Speak 1) tapes work
     → Course s first tapes 0 (work_part s.n work) s work
@@ -39,34 +40,35 @@ module _ {begun : State} {first : ℕ} {tapes : List ℕ} {k : ℕ} {held : ℕ 
   pub course_width : s.n ≡ begun.n
   course_width = ap (λ (b : State). b.n) c.same
 
-  pub course_count : s.batch.count ≡ begun.batch.count
-  course_count = ap (λ (b : State). b.batch.count) c.same
+  pub course_count : count_of s.batch.task ≡ count_of begun.batch.task
+  course_count = ap (λ (b : State). count_of b.batch.task) c.same
 
   -- out has room for any round
-  pub course_room : (round : ℕ) (out : List ℕ) → round_for begun.n begun.batch.count 1 ≤ length out → round_for s.n s.batch.count round ≤ length out
+  pub course_room : (round : ℕ) (out : List ℕ) → round_for begun.n (count_of begun.batch.task) 1 ≤ length out
+      → round_for s.n (count_of s.batch.task) round ≤ length out
   course_room round out room =
-      let most = mul-le-mul_left s.batch.count (most_words s.n round (ranged s c.due.ranged).width) in
+      let most = mul-le-mul_left (count_of s.batch.task) (most_words s.n round (ranged s c.due.ranged).width) in
       let same = ap₂ (λ (n count : ℕ). round_for n count 1) course_width course_count in
       omega (arith, room, most, same)
 
   -- what it sends is what the exchange says
   pub course_sends : (round : ℕ) → joined_message s tapes work round
-      ≡ chained begun.batch.count (λ i. message (party_of begun tapes i) (held i) round)
+      ≡ chained (count_of begun.batch.task) (λ i. message (party_of begun tapes i) (held i) round)
   unfolding joined_message
   course_sends round =
       rw c.same
-      (chained_same begun.batch.count _ _ (λ i less. ap (λ (w : List ℕ). message (party_of begun tapes i) w round) (c.so_far i less)))
+      (chained_same (count_of begun.batch.task) _ _ (λ i less. ap (λ (w : List ℕ). message (party_of begun tapes i) w round) (c.so_far i less)))
 
   -- so a box of the same width and count is told, comparison by comparison
-  pub course_tells : (n count : ℕ) → n ≡ begun.n → count ≡ begun.batch.count → (round i : ℕ) → i < count
+  pub course_tells : (n count : ℕ) → n ≡ begun.n → count ≡ count_of begun.batch.task → (round i : ℕ) → i < count
       → words_part n round (joined_message s tapes work round) i ≡ message (party_of begun tapes i) (held i) round
   course_tells n count width same round i less =
       rw (width, course_sends round)
-      (part_chained begun.batch.count (round_words begun.n round) _ i (omega (arith, same, less))
+      (part_chained (count_of begun.batch.task) (round_words begun.n round) _ i (omega (arith, same, less))
       (λ j l. message_length (party_of begun tapes j) (held j) round))
 
   -- it hears words that have so much for each comparison
-  module _ (incoming : List ℕ) (sent : ℕ → List ℕ) (told : (i : ℕ) → i < begun.batch.count → words_part begun.n (k + 1) incoming i ≡ sent i)
+  module _ (incoming : List ℕ) (sent : ℕ → List ℕ) (told : (i : ℕ) → i < count_of begun.batch.task → words_part begun.n (k + 1) incoming i ≡ sent i)
       (reply : Reply) (s' : State) (work' : List ℕ) where
     -- one round more
     pub course_next : k < earlier_rounds → outcome reply s' work' ≡ heard_after s tapes work (k + 1) incoming → (held' : ℕ → List ℕ)
@@ -89,14 +91,17 @@ module _ {begun : State} {first : ℕ} {tapes : List ℕ} {k : ℕ} {held : ℕ 
 
     -- the last one
     pub course_last : k ≡ earlier_rounds → outcome reply s' work' ≡ heard_after s tapes work (k + 1) incoming
-        → reply ≡ finished (each_job begun.batch.count (λ i. answer_share (party_of begun tapes i) (held i) (sent i)))
+        → reply
+        ≡ finished
+        (answers_given begun.n begun.side begun.batch.task
+        (each_job (count_of begun.batch.task) (λ i. answer_share (party_of begun tapes i) (held i) (sent i))))
     unfolding answer_shares
     course_last all e =
         let last : k + 1 ≡ last_round = omega (arith, all) in
         heard_last s first (k + 1) tapes work c.due incoming reply s' work' last e
         ∙ rw c.same
-        (ap finished
-        (each_same begun.batch.count _ _
+        (ap (λ (vs : List ℕ). finished (answers_given begun.n begun.side begun.batch.task vs))
+        (each_same (count_of begun.batch.task) _ _
         (λ i less.
         ap₂ (λ (w v : List ℕ). answer_share (party_of begun tapes i) w v) (c.so_far i less)
         (ap (λ (r : ℕ). words_part begun.n r incoming i) (sym last) ∙ told i less))))

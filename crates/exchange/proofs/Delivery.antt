@@ -8,6 +8,7 @@ use lib.ListN.{length, take}
 use lib.Seq.{sets, length-sets}
 use Rattle.shares.specs.Reading.{read_words}
 use Rattle.protocol.specs.Sizes.{round_for}
+use Rattle.rules.specs.Tasks.{count_of}
 use Rattle.rules.specs.Batches.{joined_message}
 use Rattle.rules.specs.Grounds.{words_fit}
 use Rattle.rules.specs.Answers.{Reply}
@@ -25,7 +26,7 @@ module _ (s : State) (first round : ℕ) (tapes work : List ℕ) (r : Ready s fi
   words = joined_message s tapes work round
 
   -- what a speak leaves: out, and the state
-  pub spoken : (out out' : List ℕ) (reply : Reply) (s' : State) → round_for s.n s.batch.count round ≤ length out
+  pub spoken : (out out' : List ℕ) (reply : Reply) (s' : State) → round_for s.n (count_of s.batch.task) round ≤ length out
       → outcome reply s' out' ≡ speak_rule s first round tapes work out
       → (out' ≡ sets out 0 words) × (s' ≡ turned s (Hear round))
   spoken out out' reply s' room e =
@@ -33,7 +34,7 @@ module _ (s : State) (first round : ℕ) (tapes work : List ℕ) (r : Ready s fi
       (ap (λ (q : Result). q.buffer) all, ap (λ (q : Result). q.state) all)
 
   -- the other box, of the same width and count and ready too, hears words that are read as the message
-  pub hears : (s' : State) (tapes' work' : List ℕ) → Ready s' first (Speak round) tapes' work' → s.n ≡ s'.n → s.batch.count ≡ s'.batch.count
+  pub hears : (s' : State) (tapes' work' : List ℕ) → Ready s' first (Speak round) tapes' work' → s.n ≡ s'.n → count_of s.batch.task ≡ count_of s'.batch.task
       → (next : State) (incoming : List ℕ) (reply : Reply) (after' : State) (after : List ℕ) → next ≡ turned s' (Hear round)
       → read_words s'.n incoming ≡ read_words s'.n words → outcome reply after' after ≡ hear_rule next first round tapes' work' incoming
       → outcome reply after' after ≡ heard_after s' tapes' work' round words
@@ -54,8 +55,8 @@ pub record AtFront (words out : List ℕ) (count : ℕ) : Type 0 where
   pub within : count ≤ length out
   pub long : count ≡ length (take count out)
 
-pub at_front : (s : State) (tapes work : List ℕ) (round : ℕ) (out out' : List ℕ) (count : ℕ) → count ≡ round_for s.n s.batch.count round
-    → round_for s.n s.batch.count round ≤ length out → out' ≡ sets out 0 (joined_message s tapes work round)
+pub at_front : (s : State) (tapes work : List ℕ) (round : ℕ) (out out' : List ℕ) (count : ℕ) → count ≡ round_for s.n (count_of s.batch.task) round
+    → round_for s.n (count_of s.batch.task) round ≤ length out → out' ≡ sets out 0 (joined_message s tapes work round)
     → AtFront (joined_message s tapes work round) out' count
 at_front s tapes work round out out' count counted room written =
     let words = joined_message s tapes work round in

@@ -13,6 +13,7 @@ use Rattle.protocol.specs.Sizes.{tape_for, round_for, work_for}
 use Rattle.refusals.specs.Grounds.{earliest_of}
 use Rattle.rules.specs.Answers.{Reply, spoke, finished}
 use Rattle.rules.specs.Modes.{round_of, round_fits, mode_of, is_asleep, same_turn, in_phase}
+use Rattle.rules.specs.Tasks.{count_of}
 use Rattle.rules.specs.Batches.{joined_message, joined_after, answer_shares}
 use Rattle.rules.specs.Grounds.{words_fit, tape_ordered, message_fits, turn_grounds, speak_ground, hear_ground}
 use Rattle.rules.specs.Calls.{Result, outcome, speak_rule, heard_after, hear_rule}
@@ -39,7 +40,7 @@ module _ {s : State} {first : ℕ} {turn : Turn} {tapes work : List ℕ} (r : Re
   ready_round = (job_range s ready_awake r.job).in_rounds
 
   -- with another turn it is ready for that one
-  ready_turned : (next : Turn) (work' : List ℕ) → round_fits (round_of next) ≡ true → work_for s.n s.batch.count ≤ length work'
+  ready_turned : (next : Turn) (work' : List ℕ) → round_fits (round_of next) ≡ true → work_for s.n (count_of s.batch.task) ≤ length work'
       → Ready (turned s next) first next tapes work'
   ready_turned next work' fits room =
       record {
@@ -59,7 +60,7 @@ same_turn_lem (Hear round) = eq-eqb round round refl
 
 module _ (s : State) (first : ℕ) (tapes work : List ℕ) where
   -- none of the grounds that a speak and a hear have in common holds
-  turn_goes : (turn : Turn) (buffer : List ℕ) → Ready s first turn tapes work → message_fits s.n s.batch.count turn (length buffer) ≡ true
+  turn_goes : (turn : Turn) (buffer : List ℕ) → Ready s first turn tapes work → message_fits s.n (count_of s.batch.task) turn (length buffer) ≡ true
       → earliest_of (turn_grounds s first turn tapes work buffer) ≡ 0
   turn_goes turn buffer r fits =
       rw (
@@ -67,22 +68,22 @@ module _ (s : State) (first : ℕ) (tapes work : List ℕ) where
         r.job,
         eq-eqb first s.batch.first r.first_is,
         same_turn_lem turn,
-        eq-eqb (length tapes) (tape_for s.n s.batch.count) r.long,
-        every_intro s.batch.count (tape_ordered s s.batch.first tapes) r.ordered,
-        le-leb (work_for s.n s.batch.count) (length work) r.room,
+        eq-eqb (length tapes) (tape_for s.n (count_of s.batch.task)) r.long,
+        every_intro (count_of s.batch.task) (tape_ordered s s.batch.first tapes) r.ordered,
+        le-leb (work_for s.n (count_of s.batch.task)) (length work) r.room,
         fits,
       )
 
-  speak_goes : (round : ℕ) (out : List ℕ) → Ready s first (Speak round) tapes work → round_for s.n s.batch.count round ≤ length out
+  speak_goes : (round : ℕ) (out : List ℕ) → Ready s first (Speak round) tapes work → round_for s.n (count_of s.batch.task) round ≤ length out
       → speak_ground s first round tapes work out ≡ 0
   unfolding speak_ground
-  speak_goes round out r room = turn_goes (Speak round) out r (le-leb (round_for s.n s.batch.count round) (length out) room)
+  speak_goes round out r room = turn_goes (Speak round) out r (le-leb (round_for s.n (count_of s.batch.task) round) (length out) room)
 
-  hear_goes : (round : ℕ) (incoming : List ℕ) → Ready s first (Hear round) tapes work → length incoming ≡ round_for s.n s.batch.count round
+  hear_goes : (round : ℕ) (incoming : List ℕ) → Ready s first (Hear round) tapes work → length incoming ≡ round_for s.n (count_of s.batch.task) round
       → words_fit s.n incoming ≡ true → hear_ground s first round tapes work incoming ≡ 0
   unfolding hear_ground
   hear_goes round incoming r long fits =
-      rw fits (turn_goes (Hear round) incoming r (eq-eqb (length incoming) (round_for s.n s.batch.count round) long))
+      rw fits (turn_goes (Hear round) incoming r (eq-eqb (length incoming) (round_for s.n (count_of s.batch.task) round) long))
 
 -- ---- a round of a box that is ready for it
 
@@ -96,17 +97,17 @@ next_fits : (k : ℕ) → k < last_round → round_fits (k + 1) ≡ true
 next_fits k less = rw (le-leb 1 (k + 1) (omega arith), le-leb (k + 1) last_round (omega arith))
 
 module _ (s : State) (first round : ℕ) (tapes work : List ℕ) (r : Ready s first (Speak round) tapes work) where
-  pub speak_ready : (out : List ℕ) → round_for s.n s.batch.count round ≤ length out
+  pub speak_ready : (out : List ℕ) → round_for s.n (count_of s.batch.task) round ≤ length out
       → speak_rule s first round tapes work out
       ≡ record {
-        reply = spoke (round_for s.n s.batch.count round);
+        reply = spoke (round_for s.n (count_of s.batch.task) round);
         state = turned s (Hear round);
         buffer = sets out 0 (joined_message s tapes work round);
       }
   unfolding speak_rule
   speak_ready out room = rw (speak_goes s first tapes work round out r room)
 
-  pub hear_ready : (incoming : List ℕ) → length incoming ≡ round_for s.n s.batch.count round → words_fit s.n incoming ≡ true
+  pub hear_ready : (incoming : List ℕ) → length incoming ≡ round_for s.n (count_of s.batch.task) round → words_fit s.n incoming ≡ true
       → hear_rule (turned s (Hear round)) first round tapes work incoming ≡ heard_after s tapes work round incoming
   unfolding hear_rule heard_after joined_after answer_shares
   hear_ready incoming long fits =
@@ -127,7 +128,7 @@ module _ (s : State) (first round : ℕ) (tapes work : List ℕ) (r : Ready s fi
         let other = ne_eqb round last_round (λ last. omega (arith, last, more)) in
         let same : s' ≡ turned s (Speak (round + 1)) = ap (λ (q : Result). q.state) e ∙ rw other in
         let after : work' ≡ joined_after s tapes work round incoming = ap (λ (q : Result). q.buffer) e ∙ rw other in
-        let room : work_for s.n s.batch.count ≤ length work' = omega (arith, ap length after, joined_after_length s tapes work round incoming, r.room) in
+        let room : work_for s.n (count_of s.batch.task) ≤ length work' = omega (arith, ap length after, joined_after_length s tapes work round incoming, r.room) in
         record {
           ready = rw same (ready_turned r (Speak (round + 1)) work' (next_fits round more) room);
           same = same;

@@ -4,7 +4,8 @@ use Rattle.protocol.specs.Sizes.{tape_for, work_for}
 use Rattle.protocol.specs.Exchange.{Both, exchanged, answer_own, answer_others}
 use Rattle.rules.specs.Modes.{in_range}
 use Rattle.rules.specs.Grounds.{tape_ordered}
-use Rattle.rules.specs.Batches.{each_job, work_part, party_of}
+use Rattle.rules.specs.Tasks.{count_of}
+use Rattle.rules.specs.Batches.{each_job, work_part, party_of, answers_given}
 use Rattle.rules.specs.declared.state.Turn.{Turn}
 use Rattle.rules.specs.declared.state.Phase.TheVariants.{Job}
 use Rattle.rules.specs.declared.state.State.{State}
@@ -14,9 +15,9 @@ pub record Ready (s : State) (first : ℕ) (turn : Turn) (tapes work : List ℕ)
   pub ranged : in_range s ≡ true
   pub job : s.phase ≡ Job turn
   pub first_is : first ≡ s.batch.first
-  pub long : length tapes ≡ tape_for s.n s.batch.count
-  pub ordered : (i : ℕ) → i < s.batch.count → tape_ordered s s.batch.first tapes i ≡ true
-  pub room : work_for s.n s.batch.count ≤ length work
+  pub long : length tapes ≡ tape_for s.n (count_of s.batch.task)
+  pub ordered : (i : ℕ) → i < count_of s.batch.task → tape_ordered s s.batch.first tapes i ≡ true
+  pub room : work_for s.n (count_of s.batch.task) ≤ length work
 
 -- both works
 abbrev pub works : List ℕ → List ℕ → Both
@@ -37,9 +38,9 @@ answer1 s1 s2 t1 t2 w1 w2 i = answer_own (party_of s1 t1 i) (party_of s2 t2 i) (
 abbrev pub answer2 : State → State → List ℕ → List ℕ → List ℕ → List ℕ → ℕ → ℕ
 answer2 s1 s2 t1 t2 w1 w2 i = answer_others (party_of s1 t1 i) (party_of s2 t2 i) (works_of s1 s2 w1 w2 i)
 
--- in the order of the comparisons
+-- the answer shares that they give: in the order of the comparisons, or a band's one from its two
 abbrev pub answers1 : State → State → List ℕ → List ℕ → List ℕ → List ℕ → List ℕ
-answers1 s1 s2 t1 t2 w1 w2 = each_job s1.batch.count (answer1 s1 s2 t1 t2 w1 w2)
+answers1 s1 s2 t1 t2 w1 w2 = answers_given s1.n s1.side s1.batch.task (each_job (count_of s1.batch.task) (answer1 s1 s2 t1 t2 w1 w2))
 
 abbrev pub answers2 : State → State → List ℕ → List ℕ → List ℕ → List ℕ → List ℕ
-answers2 s1 s2 t1 t2 w1 w2 = each_job s2.batch.count (answer2 s1 s2 t1 t2 w1 w2)
+answers2 s1 s2 t1 t2 w1 w2 = answers_given s2.n s2.side s2.batch.task (each_job (count_of s2.batch.task) (answer2 s1 s2 t1 t2 w1 w2))

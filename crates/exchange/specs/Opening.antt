@@ -4,6 +4,7 @@ use Rattle.rules.specs.Answers.{Reply, fresh, started, spoke, heard, finished, d
 use Rattle.rules.specs.Batches.{no_batch}
 use Rattle.rules.specs.Calls.{Result, wake_rule, start_rule}
 use Rattle.rules.specs.declared.state.Phase.TheVariants.{Asleep}
+use Rattle.rules.specs.declared.state.Task.{Task}
 use Rattle.rules.specs.declared.state.State.{State}
 
 -- a box at first
@@ -21,7 +22,7 @@ refusal_of dropped = 0
 refusal_of (refused k) = k
 
 -- the start's result, or the wake's where that is refused
-unfoldable pub begun : State → ℕ → ℕ → ℕ → ℕ → ℕ → List ℕ → List ℕ → List ℕ → List ℕ → Result
-begun s n side pair first count shares tapes work tally =
+unfoldable pub begun : State → ℕ → ℕ → ℕ → ℕ → Task → List ℕ → List ℕ → List ℕ → List ℕ → Result
+begun s n side pair first task shares tapes work tally =
     let woken = wake_rule s n side pair tally in
-    cond (eqb (refusal_of woken.reply) 0) (start_rule woken.state first count shares tapes work tally) woken
+    cond (eqb (refusal_of woken.reply) 0) (start_rule woken.state first task shares tapes work tally) woken

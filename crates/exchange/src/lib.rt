@@ -1,5 +1,5 @@
 // Both boxes of a job in one memory, through the five calls: the opening, one round, the whole exchange, and the answers that it opens. A job is
-// what one start takes: 1 to 8 comparisons on consecutive tapes.
+// what one start takes: 1 to 8 comparisons on consecutive tapes, or a band, which is two of them.
 #![tactic(auto)]
 
 ghost use Rattle.std.specs.Prelude.{ℕ, ◌≡◌, cond, ◌+◌, ◌%◌, ◌<◌, ◌≤◌, length, get_or, IfOk, IsOkAnd, IsSome};
@@ -10,19 +10,20 @@ ghost use Rattle.protocol.specs.Sizes.{most_jobs, round_for};
 ghost use Rattle.refusals.specs.Checks.{ground_of};
 ghost use Rattle.rules.specs.Answers.{started, heard_or_finished, reply_of};
 ghost use Rattle.rules.specs.Modes.{in_phase};
+ghost use Rattle.rules.specs.Tasks.{count_of, answer_count};
 ghost use Rattle.rules.specs.Batches.{joined_message};
 ghost use Rattle.rules.specs.Calls.{outcome, heard_after, hear_rule};
 ghost use Rattle.rules.specs.declared.state.Turn.TheVariants.{Speak, Hear};
 ghost use Rattle.rules.specs.declared.state.Phase.TheVariants.{Job as InJob};
 ghost use Rattle.exchange.specs.Opening.{begun};
 ghost use Rattle.exchange.specs.Boxes.{Ready, answers1, answers2};
-ghost use Rattle.exchange.specs.Jobs.{lent, roomy, opened_bits, no_bits, bits_of, ended, job_of, DealtAt, right_bit};
+ghost use Rattle.exchange.specs.Jobs.{lent, roomy, opened_bits, no_bits, bits_of, ended, job_of, DealtFor, right_bit};
 
 use compare::words::LAST_ROUND;
 use field::Width;
 use refusals::Refusal;
 use rules::state;
-use rules::state::{MOST_JOBS, State};
+use rules::state::{MOST_JOBS, State, Task};
 
 pub mod memory;
 pub mod rooms;
@@ -44,13 +45,14 @@ pub struct Job {
     pub box2: Shares,
 }
 
-// The same of so many comparisons, on tapes from the first number on. A box's list has its shares x and y of the first comparison, then of the next.
+// The same of any task, on tapes from the first number on. A box's list has its shares x and y of the first comparison, then of the next, or, of a band, its
+// one share of a.
 #[derive(Clone, Copy)]
 pub struct Jobs<'a> {
     pub n: u32,
     pub pair: u32,
     pub first: u32,
-    pub count: u32,
+    pub task: Task,
     pub box1: &'a [u32],
     pub box2: &'a [u32],
 }
@@ -64,24 +66,30 @@ pub type Heard = (
     Result<Option<[u32; MOST_JOBS]>, Refusal>,
 );
 
-// A box wakes and starts its job.
+// A box wakes and starts its job. Of a band's list its start takes the first word.
 pub fn begin(
     state: &mut State,
     n: u32,
     side: u32,
     pair: u32,
     first: u32,
-    count: u32,
+    task: Task,
     shares: &[u32],
     tapes: &[u32],
     work: &[u32],
     tally: &mut [u8],
 ) -> Result<(), Refusal>
     ensures { outcome (reply_of (λ _. started) result) state.new tally.new
-        ≡ begun state.old n side pair first count shares.now tapes.now work.now tally.old }
+        ≡ begun state.old n side pair first task shares.now tapes.now work.now tally.old }
 {
     limit_box::wake(state, n, side, pair, &*tally)?;
-    limit_box::start(state, first, count, shares, tapes, work, tally)
+    match task {
+        Task::Compare(count) => limit_box::start(state, first, count, shares, tapes, work, tally),
+        Task::Band(low, high) => {
+            let share = shares.first().copied().unwrap_or(0);
+            limit_box::start_band(state, first, low, high, share, tapes, work, tally)
+        }
+    }
 }
 
 // Here and below both boxes' states and buffers go side by side: a round writes some of them and reads others, and each clause is of one box, so a
@@ -99,8 +107,8 @@ pub fn both_speak(
     o1: &mut [u32],
     o2: &mut [u32],
 )
-    requires box1 { Ready s1.old first (Speak round) t1.now w1.now × (round_for s1.old.n s1.old.batch.count round ≤ length o1.old) }
-    requires box2 { Ready s2.old first (Speak round) t2.now w2.now × (round_for s2.old.n s2.old.batch.count round ≤ length o2.old) }
+    requires box1 { Ready s1.old first (Speak round) t1.now w1.now × (round_for s1.old.n (count_of s1.old.batch.task) round ≤ length o1.old) }
+    requires box2 { Ready s2.old first (Speak round) t2.now w2.now × (round_for s2.old.n (count_of s2.old.batch.task) round ≤ length o2.old) }
     ensures box1 { (o1.new ≡ sets o1.old 0 (joined_message s1.old t1.now w1.now round))
         × (s1.new ≡ in_phase s1.old (InJob (Hear round)) s1.old.batch) }
     ensures box2 { (o2.new ≡ sets o2.old 0 (joined_message s2.old t2.now w2.now round))
@@ -146,9 +154,9 @@ fn round(
     o1: &mut [u32],
     o2: &mut [u32],
 ) -> Heard
-    requires box1 { Ready s1.old first (Speak round) t1.now w1.old × (round_for s1.old.n s1.old.batch.count round ≤ length o1.old) }
-    requires box2 { Ready s2.old first (Speak round) t2.now w2.old × (round_for s2.old.n s2.old.batch.count round ≤ length o2.old) }
-    requires same { (s1.old.n ≡ s2.old.n) × (s1.old.batch.count ≡ s2.old.batch.count) }
+    requires box1 { Ready s1.old first (Speak round) t1.now w1.old × (round_for s1.old.n (count_of s1.old.batch.task) round ≤ length o1.old) }
+    requires box2 { Ready s2.old first (Speak round) t2.now w2.old × (round_for s2.old.n (count_of s2.old.batch.task) round ≤ length o2.old) }
+    requires same { (s1.old.n ≡ s2.old.n) × (count_of s1.old.batch.task ≡ count_of s2.old.batch.task) }
     ensures box1 { (o1.new ≡ sets o1.old 0 (joined_message s1.old t1.now w1.old round))
         × (outcome (reply_of heard_or_finished result.0) s1.new w1.new
         ≡ heard_after s1.old t1.now w1.old round (joined_message s2.old t2.now w2.old round)) }
@@ -156,7 +164,7 @@ fn round(
         × (outcome (reply_of heard_or_finished result.1) s2.new w2.new
         ≡ heard_after s2.old t2.now w2.old round (joined_message s1.old t1.now w1.old round)) }
 {
-    let words = compare::words::words_for(Width { bits: s1.n }, s1.batch.count, round);
+    let words = compare::words::words_for(Width { bits: s1.n }, s1.batch.task.count(), round);
     both_speak(
         first, round, &mut *s1, &mut *s2, t1, t2, &*w1, &*w2, &mut *o1, &mut *o2,
     );
@@ -195,9 +203,9 @@ fn answers(
     o1: &mut [u32],
     o2: &mut [u32],
 ) -> ([u32; MOST_JOBS], [u32; MOST_JOBS])
-    requires box1 { Ready s1.old first (Speak 1) t1.now w1.old × (round_for s1.old.n s1.old.batch.count 1 ≤ length o1.old) }
-    requires box2 { Ready s2.old first (Speak 1) t2.now w2.old × (round_for s2.old.n s2.old.batch.count 1 ≤ length o2.old) }
-    requires same { (s1.old.n ≡ s2.old.n) × (s1.old.batch.count ≡ s2.old.batch.count) }
+    requires box1 { Ready s1.old first (Speak 1) t1.now w1.old × (round_for s1.old.n (count_of s1.old.batch.task) 1 ≤ length o1.old) }
+    requires box2 { Ready s2.old first (Speak 1) t2.now w2.old × (round_for s2.old.n (count_of s2.old.batch.task) 1 ≤ length o2.old) }
+    requires same { (s1.old.n ≡ s2.old.n) × (count_of s1.old.batch.task ≡ count_of s2.old.batch.task) }
     ensures box1 { result.0 ≡ answers1 s1.old s2.old t1.now t2.now w1.old w2.old }
     ensures box2 { result.1 ≡ answers2 s1.old s2.old t1.now t2.now w1.old w2.old }
 {
@@ -219,8 +227,8 @@ fn answers(
     (shares_in(heard1), shares_in(heard2))
 }
 
-// A whole job: the opened bits in the order of the comparisons, 0 past the count, or the first refusal. On a pair of tapes dealt by the rules a bit
-// is 1 if x < y, and 0 otherwise.
+// A whole job: the opened bits in the order of the comparisons, or a band's one, 0 past them, or the first refusal. On tapes dealt by the rules a bit is 1 if
+// x < y, or if a lies between the band's bounds, and 0 otherwise.
 pub fn less(
     jobs: Jobs<'_>,
     t1: &[u32],
@@ -233,34 +241,34 @@ pub fn less(
     o2: &mut [u32],
 ) -> Result<[u32; MOST_JOBS], Refusal>
     ensures ended { ended result k1.new k2.new
-        ≡ job_of jobs.entry.n jobs.entry.pair jobs.entry.first jobs.entry.count
+        ≡ job_of jobs.entry.n jobs.entry.pair jobs.entry.first jobs.entry.task
         (lent jobs.entry.box1.now t1.now w1.old k1.old o1.old)
         (lent jobs.entry.box2.now t2.now w2.old k2.old o2.old) }
-    ensures right { IfOk result (λ bits. (i : ℕ) → i < jobs.entry.count
-        → DealtAt jobs.entry.n jobs.entry.pair jobs.entry.first t1.now t2.now i
-        → get_or bits i 0 ≡ right_bit jobs.entry.n jobs.entry.box1.now jobs.entry.box2.now i) }
+    ensures right { IfOk result (λ bits. (i : ℕ) → i < answer_count jobs.entry.task
+        → DealtFor jobs.entry.n jobs.entry.pair jobs.entry.first jobs.entry.task t1.now t2.now i
+        → get_or bits i 0 ≡ right_bit jobs.entry.n jobs.entry.task jobs.entry.box1.now jobs.entry.box2.now i) }
 {
     let Jobs {
         n,
         pair,
         first,
-        count,
+        task,
         box1,
         box2,
     } = jobs;
     let mut s1 = state::FIRST;
     let mut s2 = state::FIRST;
-    begin(&mut s1, n, 1, pair, first, count, box1, t1, &*w1, k1)?;
-    begin(&mut s2, n, 2, pair, first, count, box2, t2, &*w2, k2)?;
+    begin(&mut s1, n, 1, pair, first, task, box1, t1, &*w1, k1)?;
+    begin(&mut s2, n, 2, pair, first, task, box2, t2, &*w2, k2)?;
     let n = Width { bits: n };
-    opened(n, first, count, &mut s1, &mut s2, t1, t2, w1, w2, o1, o2)
+    opened(n, first, task, &mut s1, &mut s2, t1, t2, w1, w2, o1, o2)
 }
 
 // Whether both outs have room for the first message, which is the longest.
-fn has_room(n: Width, count: u32, o1: &[u32], o2: &[u32]) -> bool
-    ensures { result ≡ roomy n.bits count o1.now o2.now }
+fn has_room(n: Width, task: Task, o1: &[u32], o2: &[u32]) -> bool
+    ensures { result ≡ roomy n.bits task o1.now o2.now }
 {
-    let words = compare::words::words_for(n, count, 1);
+    let words = compare::words::words_for(n, task.count(), 1);
     words <= o1.len() && words <= o2.len()
 }
 
@@ -276,7 +284,7 @@ fn added(n: Width, shares1: [u32; MOST_JOBS], shares2: [u32; MOST_JOBS]) -> [u32
 fn opened(
     n: Width,
     first: u32,
-    count: u32,
+    task: Task,
     s1: &mut State,
     s2: &mut State,
     t1: &[u32],
@@ -288,12 +296,12 @@ fn opened(
 ) -> Result<[u32; MOST_JOBS], Refusal>
     requires ready { Ready s1.old first (Speak 1) t1.now w1.old × Ready s2.old first (Speak 1) t2.now w2.old }
     requires width { (s1.old.n ≡ n.bits) × (s2.old.n ≡ n.bits) }
-    requires count { (s1.old.batch.count ≡ count) × (s2.old.batch.count ≡ count) }
-    ensures { (ground_of result ≡ cond (roomy n.bits count o1.old o2.old) 0 12)
-        × (bits_of result ≡ cond (roomy n.bits count o1.old o2.old)
-        (opened_bits n.bits count s1.old s2.old t1.now t2.now w1.old w2.old) no_bits) }
+    requires task { (s1.old.batch.task ≡ task) × (s2.old.batch.task ≡ task) }
+    ensures { (ground_of result ≡ cond (roomy n.bits task o1.old o2.old) 0 12)
+        × (bits_of result ≡ cond (roomy n.bits task o1.old o2.old)
+        (opened_bits n.bits task s1.old s2.old t1.now t2.now w1.old w2.old) no_bits) }
 {
-    if !has_room(n, count, &*o1, &*o2) {
+    if !has_room(n, task, &*o1, &*o2) {
         return Err(Refusal::Room);
     }
     let (shares1, shares2) = answers(first, s1, s2, t1, t2, w1, w2, o1, o2);

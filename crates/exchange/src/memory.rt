@@ -1,16 +1,19 @@
-// Memory for jobs of one comparison at any width: room for the longest tape, work and message, and a job with buffers of its own. There is no heap,
-// so a job of a narrower width uses the first words of each.
-ghost use Rattle.std.specs.Prelude.{◌≡◌, true, ◌+◌, ◌%◌, ◌<◌, ◌&&◌, eqb, ltb, length, take};
+// Memory for jobs of one comparison at any width: room for the longest tape, work and message, and jobs with buffers of their own, of one comparison and of a
+// band. There is no heap, so a job of a narrower width uses the first words of each.
+ghost use Rattle.std.specs.Prelude.{◌≡◌, true, ◌+◌, ◌%◌, ◌<◌, ◌&&◌, eqb, ltb, length, take, get_or};
 ghost use Rattle.field.specs.Width.{modulus};
 ghost use Rattle.tape.specs.Layout.{tape_length};
 ghost use Rattle.tape.specs.Dealt.{Dealt};
 ghost use Rattle.encoding.specs.Matching.{indicator};
 ghost use Rattle.refusals.specs.Checks.{ground_of};
-ghost use Rattle.exchange.specs.Memory.{blank_work, blank_words, shares_of, less_of, fresh_job};
+ghost use Rattle.exchange.specs.Jobs.{lent, job_of};
+ghost use Rattle.exchange.specs.Memory.{blank_work, blank_words, shares_of, less_of, fresh_job, fresh_band};
 
+use crate::rooms::{blank_messages, blank_works};
 use crate::{Job, Jobs, Shares};
 use field::Width;
 use refusals::Refusal;
+use rules::state::Task;
 
 // The only tape number of a pair with one tape.
 const FIRST_TAPE: u32 = 0;
@@ -53,6 +56,31 @@ fn list(own: Shares) -> [u32; 2]
     [own.x, own.y]
 }
 
+// A whole job: its first answer.
+fn first_answer(
+    jobs: Jobs<'_>,
+    t1: &[u32],
+    t2: &[u32],
+    w1: &mut [u32],
+    w2: &mut [u32],
+    k1: &mut [u8],
+    k2: &mut [u8],
+    o1: &mut [u32],
+    o2: &mut [u32],
+) -> Result<u32, Refusal>
+    ensures refusal { ground_of result
+        ≡ (job_of jobs.entry.n jobs.entry.pair jobs.entry.first jobs.entry.task
+        (lent jobs.entry.box1.now t1.now w1.old k1.old o1.old)
+        (lent jobs.entry.box2.now t2.now w2.old k2.old o2.old)).refusal }
+    ensures answer { less_of result
+        ≡ get_or (job_of jobs.entry.n jobs.entry.pair jobs.entry.first jobs.entry.task
+        (lent jobs.entry.box1.now t1.now w1.old k1.old o1.old)
+        (lent jobs.entry.box2.now t2.now w2.old k2.old o2.old)).bits 0 0 }
+{
+    let [first, ..] = crate::less(jobs, t1, t2, w1, w2, k1, k2, o1, o2)?;
+    Ok(first)
+}
+
 // A whole job of one comparison, on one fresh tape of each box.
 pub fn fresh_job(job: Job, t1: &[u32], t2: &[u32]) -> Result<u32, Refusal>
     ensures refusal { ground_of result ≡ (fresh_job job.n job.pair job.number job.box1 job.box2 t1.now t2.now).refusal }
@@ -75,14 +103,50 @@ pub fn fresh_job(job: Job, t1: &[u32], t2: &[u32]) -> Result<u32, Refusal>
         n,
         pair,
         first: number,
-        count: 1,
+        task: Task::Compare(1),
         box1: &list(box1),
         box2: &list(box2),
     };
-    let [less, ..] = crate::less(
+    first_answer(
         jobs, t1, t2, &mut w1, &mut w2, &mut k1, &mut k2, &mut o1, &mut o2,
-    )?;
-    Ok(less)
+    )
+}
+
+// The tally of a band's two tapes.
+const TWO_MARKS: usize = 2 * tally::MARK_BYTES;
+
+// A whole band, low < a and a < high, for the boxes' shares a1 and a2 of a, on two fresh tapes of each box.
+pub fn fresh_band(
+    n: u32,
+    pair: u32,
+    first: u32,
+    low: u32,
+    high: u32,
+    a1: u32,
+    a2: u32,
+    t1: &[u32],
+    t2: &[u32],
+) -> Result<u32, Refusal>
+    ensures refusal { ground_of result ≡ (fresh_band n pair first low high a1 a2 t1.now t2.now).refusal }
+    ensures less { less_of result ≡ (fresh_band n pair first low high a1 a2 t1.now t2.now).less }
+{
+    let mut w1 = blank_works();
+    let mut w2 = blank_works();
+    let mut k1 = [255u8; TWO_MARKS];
+    let mut k2 = [255u8; TWO_MARKS];
+    let mut o1 = blank_messages();
+    let mut o2 = blank_messages();
+    let jobs = Jobs {
+        n,
+        pair,
+        first,
+        task: Task::Band(low, high),
+        box1: &[a1],
+        box2: &[a2],
+    };
+    first_answer(
+        jobs, t1, t2, &mut w1, &mut w2, &mut k1, &mut k2, &mut o1, &mut o2,
+    )
 }
 
 // The ordinary comparison of what the boxes' shares add up to.

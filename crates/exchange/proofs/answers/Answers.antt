@@ -11,7 +11,8 @@ use Rattle.protocol.specs.Exchange.{Both, exchanged}
 use Rattle.protocol.specs.Rounds.{earlier_rounds, last_round}
 use Rattle.protocol.specs.Sizes.{round_for}
 use Rattle.rules.specs.Answers.{finished, heard_or_finished, reply_of}
-use Rattle.rules.specs.Batches.{party_of, joined_message}
+use Rattle.rules.specs.Tasks.{count_of}
+use Rattle.rules.specs.Batches.{party_of, joined_message, answers_given}
 use Rattle.rules.specs.Calls.{Result as Called, outcome, heard_after}
 use Rattle.rules.specs.declared.state.State.{State}
 use Rattle.rules.proofs.Batches.{each_same}
@@ -24,10 +25,10 @@ use Rattle.exchange.proofs.answers.Goals as goal
 
 -- room for any round, and one width and count
 record Fits (l : At-loop-heard) (round : ℕ) : Type 0 where
-  out1 : round_for l.loop-heard.s1.n l.loop-heard.s1.batch.count round ≤ length l.loop-heard.o1
-  out2 : round_for l.loop-heard.s2.n l.loop-heard.s2.batch.count round ≤ length l.loop-heard.o2
+  out1 : round_for l.loop-heard.s1.n (count_of l.loop-heard.s1.batch.task) round ≤ length l.loop-heard.o1
+  out2 : round_for l.loop-heard.s2.n (count_of l.loop-heard.s2.batch.task) round ≤ length l.loop-heard.o2
   width : l.loop-heard.s1.n ≡ l.loop-heard.s2.n
-  count : l.loop-heard.s1.batch.count ≡ l.loop-heard.s2.batch.count
+  count : count_of l.loop-heard.s1.batch.task ≡ count_of l.loop-heard.s2.batch.task
 
 fits : (l : At-loop-heard) (round : ℕ) → Fits l round
 fits l round =
@@ -83,22 +84,26 @@ module _ (a : After-loop-heard) where
     gives1 : gave ≡ heard_after a.loop-heard.s1 a.args.t1.now a.loop-heard.w1 last_round last2
         → r ≡ Ok (Some (answers1 a.args.s1.now a.args.s2.now a.args.t1.now a.args.t2.now a.args.w1.now a.args.w2.now))
     gives1 e =
-        let n = a.args.s1.now.n in
-        let count = a.args.s1.now.batch.count in
+        let box = a.args.s1.now in
+        let n = box.n in
+        let count = count_of box.batch.task in
         let told = course_tells ended2 n count a.requires.same.0 a.requires.same.1 last_round in
         told_shares r _
         (course_last ended1 _ _ told _ s w refl e
-        ∙ ap finished (each_same count _ _ (λ i less. sym (last_own (box1 i) (box2 i) (first i)))))
+        ∙ ap (λ (vs : List ℕ). finished (answers_given n box.side box.batch.task vs))
+        (each_same count _ _ (λ i less. sym (last_own (box1 i) (box2 i) (first i)))))
 
     gives2 : gave ≡ heard_after a.loop-heard.s2 a.args.t2.now a.loop-heard.w2 last_round last1
         → r ≡ Ok (Some (answers2 a.args.s1.now a.args.s2.now a.args.t1.now a.args.t2.now a.args.w1.now a.args.w2.now))
     gives2 e =
-        let n = a.args.s2.now.n in
-        let count = a.args.s2.now.batch.count in
+        let box = a.args.s2.now in
+        let n = box.n in
+        let count = count_of box.batch.task in
         let told = course_tells ended1 n count (sym a.requires.same.0) (sym a.requires.same.1) last_round in
         told_shares r _
         (course_last ended2 _ _ told _ s w refl e
-        ∙ ap finished (each_same count _ _ (λ i less. sym (last_others (box1 i) (box2 i) (first i)))))
+        ∙ ap (λ (vs : List ℕ). finished (answers_given n box.side box.batch.task vs))
+        (each_same count _ _ (λ i less. sym (last_others (box1 i) (box2 i) (first i)))))
 
 pub loop-heard-init : goal.loop-heard-init
 unfolding exchanged
@@ -127,8 +132,8 @@ loop-heard-preserved c =
     let less = c.loop-heard-test.true in
     let inv = c.loop-heard.invariant in
     let k = c.loop-heard.heard in
-    let told1 = course_tells inv.box2 s1.n s1.batch.count same.0 same.1 (k + 1) in
-    let told2 = course_tells inv.box1 s2.n s2.batch.count (sym same.0) (sym same.1) (k + 1) in
+    let told1 = course_tells inv.box2 s1.n (count_of s1.batch.task) same.0 same.1 (k + 1) in
+    let told2 = course_tells inv.box1 s2.n (count_of s2.batch.task) (sym same.0) (sym same.1) (k + 1) in
     let more1 = λ (i : ℕ). more_own (party_of s1 v.t1.now i) (party_of s2 v.t2.now i) (works_of s1 s2 v.w1.now v.w2.now i) k in
     let more2 = λ (i : ℕ). more_others (party_of s1 v.t1.now i) (party_of s2 v.t2.now i) (works_of s1 s2 v.w1.now v.w2.now i) k in
     record {

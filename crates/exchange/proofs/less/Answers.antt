@@ -19,18 +19,18 @@ lent2 s = let v = s.args in lent v.jobs.box2.now v.t2.now v.w2.now v.k2.now v.o2
 -- where neither box is refused
 ready1 : (e : In_ok-begin-2)
     → let v = e.args in
-    Begun v.jobs.n 1 v.jobs.pair v.jobs.first v.jobs.count v.jobs.box1.now v.t1.now v.w1.now v.k1.now e.begin.new.state
+    Begun v.jobs.n 1 v.jobs.pair v.jobs.first v.jobs.task v.jobs.box1.now v.t1.now v.w1.now v.k1.now e.begin.new.state
 ready1 e =
     let v = e.args in
-    begin_ready v.jobs.n 1 v.jobs.pair v.jobs.first v.jobs.count v.jobs.box1.now v.t1.now v.w1.now v.k1.now
+    begin_ready v.jobs.n 1 v.jobs.pair v.jobs.first v.jobs.task v.jobs.box1.now v.t1.now v.w1.now v.k1.now
     _ e.begin.new.state _ e.in_ok-begin.ensures refl
 
 ready2 : (e : In_ok-begin-2)
     → let v = e.args in
-    Begun v.jobs.n 2 v.jobs.pair v.jobs.first v.jobs.count v.jobs.box2.now v.t2.now v.w2.now v.k2.now e.begin-2.new.state
+    Begun v.jobs.n 2 v.jobs.pair v.jobs.first v.jobs.task v.jobs.box2.now v.t2.now v.w2.now v.k2.now e.begin-2.new.state
 ready2 e =
     let v = e.args in
-    begin_ready v.jobs.n 2 v.jobs.pair v.jobs.first v.jobs.count v.jobs.box2.now v.t2.now v.w2.now v.k2.now
+    begin_ready v.jobs.n 2 v.jobs.pair v.jobs.first v.jobs.task v.jobs.box2.now v.t2.now v.w2.now v.k2.now
     _ e.begin-2.new.state _ e.in_ok-begin-2.ensures refl
 
 pub returns-in_err-begin : goal.returns-in_err-begin
@@ -38,11 +38,11 @@ returns-in_err-begin c =
     let s = (goal.at.returns-in_err-begin c).Start in
     let v = s.args in
     let same : c.from_residual.result ≡ Err c.in_err-begin.field-0.0 = search rules in
-    let end = ends_at_box1 v.jobs.n v.jobs.pair v.jobs.first v.jobs.count (lent1 s) (lent2 s) c.in_err-begin.field-0.0 _ _ c.in_err-begin.ensures in
+    let end = ends_at_box1 v.jobs.n v.jobs.pair v.jobs.first v.jobs.task (lent1 s) (lent2 s) c.in_err-begin.field-0.0 _ _ c.in_err-begin.ensures in
     rw same
     (record {
       ended = end;
-      right = ended_right v.jobs.n v.jobs.pair v.jobs.first v.jobs.count (lent1 s) (lent2 s) (Err c.in_err-begin.field-0.0) _ _ end;
+      right = ended_right v.jobs.n v.jobs.pair v.jobs.first v.jobs.task (lent1 s) (lent2 s) (Err c.in_err-begin.field-0.0) _ _ end;
     })
 
 pub returns-in_err-begin-2 : goal.returns-in_err-begin-2
@@ -51,12 +51,12 @@ returns-in_err-begin-2 c =
     let v = s.args in
     let same : c.from_residual-in_err-begin-2.result ≡ Err c.in_err-begin-2.field-0.0 = search rules in
     let end =
-    ends_at_box2 v.jobs.n v.jobs.pair v.jobs.first v.jobs.count (lent1 s) (lent2 s) _ _ c.in_ok-begin.ensures
+    ends_at_box2 v.jobs.n v.jobs.pair v.jobs.first v.jobs.task (lent1 s) (lent2 s) _ _ c.in_ok-begin.ensures
     c.in_err-begin-2.field-0.0 _ _ c.in_err-begin-2.ensures in
     rw same
     (record {
       ended = end;
-      right = ended_right v.jobs.n v.jobs.pair v.jobs.first v.jobs.count (lent1 s) (lent2 s) (Err c.in_err-begin-2.field-0.0) _ _ end;
+      right = ended_right v.jobs.n v.jobs.pair v.jobs.first v.jobs.task (lent1 s) (lent2 s) (Err c.in_err-begin-2.field-0.0) _ _ end;
     })
 
 pub invariant_of-n : goal.invariant_of-n
@@ -72,7 +72,7 @@ opened-requires c =
     record {
       ready = (box1.ready, box2.ready);
       width = (ap (λ (b : State). b.n) box1.state, ap (λ (b : State). b.n) box2.state);
-      count = (ap (λ (b : State). b.batch.count) box1.state, ap (λ (b : State). b.batch.count) box2.state);
+      task = (ap (λ (b : State). b.batch.task) box1.state, ap (λ (b : State). b.batch.task) box2.state);
     }
 
 pub returns : goal.returns
@@ -80,6 +80,6 @@ returns c =
     let s = (goal.at.returns c).Start in
     let v = s.args in
     let end =
-    ends_opened v.jobs.n v.jobs.pair v.jobs.first v.jobs.count (lent1 s) (lent2 s) _ _ c.in_ok-begin.ensures _ _ c.in_ok-begin-2.ensures
+    ends_opened v.jobs.n v.jobs.pair v.jobs.first v.jobs.task (lent1 s) (lent2 s) _ _ c.in_ok-begin.ensures _ _ c.in_ok-begin-2.ensures
     c.opened.result c.opened.ensures.0 c.opened.ensures.1 in
-    record { ended = end; right = ended_right v.jobs.n v.jobs.pair v.jobs.first v.jobs.count (lent1 s) (lent2 s) c.opened.result _ _ end }
+    record { ended = end; right = ended_right v.jobs.n v.jobs.pair v.jobs.first v.jobs.task (lent1 s) (lent2 s) c.opened.result _ _ end }
