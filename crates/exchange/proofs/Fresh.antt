@@ -27,6 +27,7 @@ use Rattle.rules.specs.Grounds.{wake_ground, start_ground}
 use Rattle.rules.specs.Answers.{fresh}
 use Rattle.rules.specs.Calls.{wake_rule, start_rule}
 use Rattle.rules.specs.declared.state.Phase.TheVariants.{Idle}
+use Rattle.rules.specs.declared.state.Task.TheVariants.{Compare}
 use Rattle.rules.specs.declared.state.State.{State}
 use Rattle.exchange.specs.declared.Shares.{Shares}
 use Rattle.exchange.specs.Opening.{first_state, refusal_of, begun}
@@ -44,7 +45,7 @@ asleep = rw zero_unlisted refl
 
 -- a job of one comparison
 abbrev begins : ℕ → ℕ → ℕ → Shares → List ℕ → List ℕ → ℕ
-begins n side pair own tape work = refusal_of (begun first_state n side pair 0 1 (shares_of own) tape work one_fresh).reply
+begins n side pair own tape work = refusal_of (begun first_state n side pair 0 (Compare 1) (shares_of own) tape work one_fresh).reply
 
 module _ (n side pair : ℕ) (own : Shares) (tape work : List ℕ) (width : listed n ≡ true) (box : is_side side ≡ true)
     (long : length tape ≡ tape_length n) (order : in_order n pair side 0 tape ≡ true) (room : work_length n ≤ length work) where
@@ -70,7 +71,7 @@ module _ (n side pair : ℕ) (own : Shares) (tape work : List ℕ) (width : list
 
   -- of all that a start looks at, only the shares can be wrong
   share_test : (a b : Bool) → ltb own.x (modulus n) ≡ a → ltb own.y (modulus n) ≡ b
-      → refusal_of (start_rule idle 0 1 (shares_of own) tape work one_fresh).reply ≡ cond (a && b) 0 9
+      → refusal_of (start_rule idle 0 (Compare 1) (shares_of own) tape work one_fresh).reply ≡ cond (a && b) 0 9
   unfolding start_rule start_ground count_fits tapes_of is_fresh late
   share_test true true ea eb = rw (stays_idle, ea, eb, whole, ordered, enough) refl
   share_test true false ea eb = rw (stays_idle, ea, eb) refl
@@ -93,7 +94,7 @@ joined false b c = refl
 -- which job, and with what memory
 module _ (n pair : ℕ) (box1 box2 : Shares) (t1 t2 w1 w2 o1 o2 : List ℕ) where
   abbrev job : ℕ
-  job = job_refusal n pair 0 1 (lent (shares_of box1) t1 w1 one_fresh o1) (lent (shares_of box2) t2 w2 one_fresh o2)
+  job = job_refusal n pair 0 (Compare 1) (lent (shares_of box1) t1 w1 one_fresh o1) (lent (shares_of box2) t2 w2 one_fresh o2)
 
   -- with tapes dealt by the rules and with room, only the shares can be wrong: 9
   share_refusal : Dealt n pair 0 t1 t2 → work_length n ≤ length w1 → work_length n ≤ length w2
@@ -155,12 +156,12 @@ module _ (n pair : ℕ) (box1 box2 : Shares) (t1 t2 : List ℕ) where
       lent2 = fresh_lent box2 t2
 
       refusal : ℕ
-      refusal = job_refusal n pair 0 1 lent1 lent2
+      refusal = job_refusal n pair 0 (Compare 1) lent1 lent2
 
-      go : (t : Bool) → eqb refusal 0 ≡ t → get_or (job_of n pair 0 1 lent1 lent2).bits 0 0 ≡ cond (eqb refusal 0) less 0
+      go : (t : Bool) → eqb refusal 0 ≡ t → get_or (job_of n pair 0 (Compare 1) lent1 lent2).bits 0 0 ≡ cond (eqb refusal 0) less 0
       go true e =
           let zero = eqb-true refusal 0 e in
-          job_right n pair 0 1 lent1 lent2 zero 0 (omega arith) (dealt_first (dealt zero)) ∙ rw e
+          job_right n pair 0 (Compare 1) lent1 lent2 zero 0 (omega arith) (dealt_first (dealt zero)) ∙ rw e
       go false e = rw e
 
   -- so it is taken and right where the shares are in range

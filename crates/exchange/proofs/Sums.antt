@@ -17,7 +17,8 @@ use Rattle.field.proofs.Widths.{bounds}
 use Rattle.field.proofs.Subtraction.{minus_below}
 use Rattle.protocol.specs.Sizes.{most_jobs}
 use Rattle.protocol.proofs.Ranges.{tabulated_below}
-use Rattle.rules.specs.Tasks.{count_of}
+use Rattle.shares.specs.Share.{constant_share}
+use Rattle.rules.specs.Tasks.{count_of, band_share}
 use Rattle.rules.specs.Batches.{each_job, answers_given}
 use Rattle.rules.specs.declared.state.Task.{Task}
 use Rattle.rules.specs.declared.state.Task.TheVariants.{Compare, Band}
@@ -33,15 +34,19 @@ each_below {p} count f some below = (tabulated_below most_jobs (λ i. cond (ltb 
 pub given_below : (n side : ℕ) (task : Task) (f : ℕ → ℕ) → listed n ≡ true → ((i : ℕ) → f i < modulus n) → (i : ℕ)
     → get_or (answers_given n side task (each_job (count_of task) f)) i 0 < modulus n
 given_below n side (Compare count) f l below = each_below count f (omega (arith, bounds l)) below
-given_below n side (Band low high) f l below = each_below 1 _ (omega (arith, bounds l)) (λ i. minus_below n _ _ l)
+given_below n side (Band low high) f l below =
+    let each = each_job 2 f in
+    each_below 1 (λ i. band_share n side (get_or each 0 0) (get_or each 1 0)) (omega (arith, bounds l))
+    (λ i. minus_below n ((get_or each 0 0 + get_or each 1 0) % modulus n) (constant_share side 1) l)
 
 pub each_added : (p count : ℕ) (own others : List ℕ) → ((i : ℕ) → count ≤ i → get_or own i 0 ≡ 0) → ((i : ℕ) → count ≤ i → get_or others i 0 ≡ 0)
     → tabulate most_jobs (λ i. (get_or own i 0 + get_or others i 0) % p) ≡ each_job count (λ i. (get_or own i 0 + get_or others i 0) % p)
 each_added p count own others none1 none2 =
-    tabulate_same most_jobs _ _
+    let sum = λ (i : ℕ). (get_or own i 0 + get_or others i 0) % p in
+    tabulate_same most_jobs sum (λ i. cond (ltb i count) (sum i) 0)
     (λ i less.
     by_cases (dec_lt i count)
     (λ inside. rw (lt-ltb i count inside) refl)
     (λ outside.
-    let past = omega (arith, outside) in
+    let past : count ≤ i = omega (arith, outside) in
     rw (le-ltb i count past) (ap₂ (λ (x y : ℕ). (x + y) % p) (none1 i past) (none2 i past) ∙ zero-mod p)))

@@ -15,7 +15,7 @@ use Rattle.rules.specs.Batches.{party_of}
 use Rattle.rules.specs.declared.state.Task.{Task}
 use Rattle.rules.proofs.Batches.{given_past}
 use Rattle.rules.proofs.Ranges.{ranged}
-use Rattle.exchange.specs.Boxes.{works_of, answers1, answers2}
+use Rattle.exchange.specs.Boxes.{works_of, answer1, answer2, answers1, answers2}
 use Rattle.exchange.specs.Jobs.{roomy}
 use Rattle.exchange.proofs.Exchanges.{own_below, others_below}
 use Rattle.exchange.proofs.Sums.{given_below, each_added}
@@ -75,9 +75,11 @@ returns c =
     let s2 = v.s2.now in
     let enough = room (goal.at.returns c).Else-not-has_room in
     let p = modulus v.n.bits in
+    let each1 = answer1 s1 s2 v.t1.now v.t2.now v.w1.now v.w2.now in
+    let each2 = answer2 s1 s2 v.t1.now v.t2.now v.w1.now v.w2.now in
     let list1 = answers1 s1 s2 v.t1.now v.t2.now v.w1.now v.w2.now in
     let list2 = answers2 s1 s2 v.t1.now v.t2.now v.w1.now v.w2.now in
-    let past1 = subst (λ (t : Task). (i : ℕ) → answer_count t ≤ i → get_or list1 i 0 ≡ 0) c.requires.task.0 (given_past s1.n s1.side _ s1.batch.task) in
-    let past2 = subst (λ (t : Task). (i : ℕ) → answer_count t ≤ i → get_or list2 i 0 ≡ 0) c.requires.task.1 (given_past s2.n s2.side _ s2.batch.task) in
+    let past1 = subst (λ (t : Task). (i : ℕ) → answer_count t ≤ i → get_or list1 i 0 ≡ 0) c.requires.task.0 (given_past s1.n s1.side each1 s1.batch.task) in
+    let past2 = subst (λ (t : Task). (i : ℕ) → answer_count t ≤ i → get_or list2 i 0 ≡ 0) c.requires.task.1 (given_past s2.n s2.side each2 s2.batch.task) in
     let sums = ap₂ (λ (x y : List ℕ). tabulate most_jobs (λ i. (get_or x i 0 + get_or y i 0) % p)) c.answers.ensures.box1 c.answers.ensures.box2 in
     (rw enough refl, rw enough (c.added.ensures ∙ sums ∙ each_added p (answer_count v.task) list1 list2 past1 past2))
