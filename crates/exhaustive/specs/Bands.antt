@@ -22,13 +22,13 @@ unfoldable pub band_agrees : ℕ → ℕ → ℕ → ℕ → ℕ → List ℕ �
 band_agrees n low high a1 a2 t1 t2 =
     eqb (band_at n low high a1 a2 t1 t2).refusal 0 && eqb (band_at n low high a1 a2 t1 t2).less (inside low high ((a1 + a2) % modulus n))
 
--- 1 if input c of the bounds, which are c / p and c % p, has the first below the second
+-- 1 if input i of the bounds, which are i / p and i % p, has the first below the second
 abbrev pub bounds_at : ℕ → ℕ → ℕ
-bounds_at p c = indicator (ltb (c / p) (c % p))
+bounds_at p i = indicator (ltb (i / p) (i % p))
 
 -- 1 if so, and the band with them agrees
 abbrev pub band_right_at : ℕ → ℕ → ℕ → ℕ → List ℕ → List ℕ → ℕ → ℕ
-band_right_at p n a1 a2 t1 t2 c = indicator (ltb (c / p) (c % p) && band_agrees n (c / p) (c % p) a1 a2 t1 t2)
+band_right_at p n a1 a2 t1 t2 i = indicator (ltb (i / p) (i % p) && band_agrees n (i / p) (i % p) a1 a2 t1 t2)
 
 -- how many of all bounds, for one a1 and a2
 unfoldable pub bands_right_of : ℕ → ℕ → ℕ → List ℕ → List ℕ → ℕ
@@ -63,6 +63,6 @@ all_bands_right n = sum (modulus n * modulus n) (bands_right_on (modulus n) n)
 
 -- ---- the request's cases
 
--- at width 3 with the bounds 2 and 5, a shared as 6 and a + 1
+-- at width 3 with the bounds 2 and 5, of a that is shared as 6 and a + 1
 abbrev pub case_at : ℕ → Compared
 case_at a = band_at 3 2 5 6 ((a + 1) % 7) (two_tapes 3 1 1) (two_tapes 3 1 2)

@@ -30,7 +30,7 @@ fn agrees(n: Width, low: u32, high: u32, a1: u32, a2: u32, t1: &[u32], t2: &[u32
     }
 }
 
-// All bounds, with one pair of tapes of two.
+// All bounds, with one lot of tapes.
 #[tactic(auto, using(crate::proofs::Small::small), unfolding(crate::specs::Bands::bands_right_of))]
 fn right_of(n: Width, a1: u32, a2: u32, t1: &[u32], t2: &[u32]) -> u64
     requires { (n.bits ≤ 5) × (a1 < modulus n.bits) × (a2 < modulus n.bits) }
@@ -78,7 +78,7 @@ pub fn count(n: Width) -> u64
     right(n, t1, t2)
 }
 
-// The request's cases: what the boxes answer at width 3 with the bounds 2 and 5. The shares of a are 6 and a + 1, whose sum is past p.
+// The request's cases: what the boxes answer at width 3 with the bounds 2 and 5. The shares of a are 6 and a + 1.
 #[tactic(auto, unfolding(field::specs::Width::listed))]
 pub fn case(a: u32) -> u32
     requires { a < 7 }
