@@ -48,7 +48,15 @@ pub fn of_shares(first: u32, task: Task, shares: &[u32]) -> Tried
         (joined_tapes (1 ∷ 1 ∷ []) 0) (tabulate 200 (λ k. 0)) fresh_tally) }
 {
     let tapes: [u32; 298] = tapes::joined(&[1, 1], 0);
-    start(states::idle(), first, task, shares, &tapes, &[0; 200], FRESH)
+    start(
+        states::idle(),
+        first,
+        task,
+        shares,
+        &tapes,
+        &[0; 200],
+        FRESH,
+    )
 }
 
 // The second number would be past the words.
@@ -93,11 +101,7 @@ fn lengths_and_shares(rt: &impl Print) -> io::Result<()> {
         ("tapes of 299 words and job 1's x 7", 299, 7, 6),
     ] {
         print!(rt; "start of two, {what}")?;
-        line(
-            rt,
-            ": ",
-            of_tapes(Task::Compare(2), &[x1, 1, x2, 2], words),
-        )?;
+        line(rt, ": ", of_tapes(Task::Compare(2), &[x1, 1, x2, 2], words))?;
     }
     Ok(())
 }

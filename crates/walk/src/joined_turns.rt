@@ -100,14 +100,7 @@ fn hear_of(state: State, words: usize, place: usize, word: u32, room: usize) -> 
     let mut work = [FILLER; 200];
     let mut incoming = [0; 99];
     incoming[place] = word;
-    hear(
-        state,
-        0,
-        1,
-        &own(),
-        &mut work[..room],
-        &incoming[..words],
-    )
+    hear(state, 0, 1, &own(), &mut work[..room], &incoming[..words])
 }
 
 fn rooms(rt: &impl Print, jobs: &str, opened: State) -> io::Result<()> {

@@ -53,8 +53,10 @@ impl Pair {
     fn start(&mut self, job: Job<'_>)
         ensures { Stepped (asked_of job.entry) Start self.old self.new }
     {
-        self.box1.start(job.first, job.task1, job.shares1, job.tapes1);
-        self.box2.start(job.first, job.task2, job.shares2, job.tapes2);
+        self.box1
+            .start(job.first, job.task1, job.shares1, job.tapes1);
+        self.box2
+            .start(job.first, job.task2, job.shares2, job.tapes2);
     }
 
     fn speak(&mut self, job: Job<'_>, round: u32)
