@@ -3,7 +3,6 @@ use Prim.Native.Nat.{ℕ}
 use mathlib.Core.Path.{sym, ap, ap₂, ◌∙◌}
 use Rattle.shares.specs.Reading.{read_words}
 use Rattle.protocol.specs.Sizes.{round_for}
-use Rattle.rules.specs.Tasks.{count_of}
 use Rattle.rules.specs.Batches.{joined_message}
 use Rattle.rules.proofs.Ranges.{ranged}
 use Rattle.exchange.proofs.Delivery.{AtFront, at_front, hears}
@@ -16,7 +15,7 @@ front1 : (a : After-both_speak)
     AtFront (joined_message v.s1.now v.t1.now v.w1.now v.round) a.both_speak.new.o1 a.words_for-words.result
 front1 a =
     let v = a.args in
-    let counted = a.words_for-words.ensures in
+    let counted = a.words_for-words.ensures ∙ ap (λ (count : ℕ). round_for v.s1.now.n count v.round) a.count.ensures in
     at_front v.s1.now v.t1.now v.w1.now v.round v.o1.now _ a.words_for-words.result counted a.requires.box1.1 a.both_speak.ensures.box1.0
 
 front2 : (a : After-both_speak)
@@ -25,7 +24,7 @@ front2 : (a : After-both_speak)
 front2 a =
     let v = a.args in
     let same = a.requires.same in
-    let counted = a.words_for-words.ensures ∙ ap₂ (λ (n count : ℕ). round_for n count v.round) same.0 same.1 in
+    let counted = a.words_for-words.ensures ∙ ap₂ (λ (n count : ℕ). round_for n count v.round) same.0 (a.count.ensures ∙ same.1) in
     at_front v.s2.now v.t2.now v.w2.now v.round v.o2.now _ a.words_for-words.result counted a.requires.box2.1 a.both_speak.ensures.box2.0
 
 pub invariant_of-words_for : goal.invariant_of-words_for
