@@ -1,8 +1,9 @@
 // Whole bands of both boxes on plain tapes 1 and 2; and what comes of it where one box has a band and the other a joined pair, whose messages are as long.
 // The masks of the plain tapes are 0 and box 2's words all 0, so it holds no part of a product, and its answer share in a comparison is what comes
 // of its own low bits alone.
-ghost use Rattle.std.specs.Prelude.{◌≤◌};
+ghost use Rattle.std.specs.Prelude.{◌≤◌, [], ◌∷◌};
 ghost use Rattle.rules.specs.Tasks.{count_of};
+ghost use Rattle.rules.specs.declared.state.Task.TheVariants.{Band};
 ghost use Rattle.walk.specs.Courses.{Woken, CourseFrom};
 ghost use Rattle.walk.specs.Bands.{on_two};
 
@@ -37,7 +38,9 @@ fn reached(task1: Task, shares1: &[u32], task2: Task, shares2: &[u32], steps: u3
 }
 
 // Of a band, where a is 4 + 6 = 3 modulo 7.
-fn band(steps: u32) -> Pair {
+fn band(steps: u32) -> Pair
+    ensures { CourseFrom Woken (on_two (Band 2 5) (Band 2 5) (4 ∷ []) (6 ∷ [])) steps result }
+{
     reached(INSIDE, &[4], INSIDE, &[6], steps)
 }
 
