@@ -213,9 +213,9 @@ module _ (g : Setting) (book : Box → Key → Lending) (Known : Box → Key →
         width = l;
         counted = p.range.counted;
         early = omega (arith, p.range.last, inside.count);
-        y_fits = λ i less. rw (← side i less, ← inside.y_is i less) (p.range.y_fits i less);
+        y_fits = λ i less. rw (← own_y i less) (p.range.y_fits i less);
         side_is = side 0 (count_most (count_of s.batch.task) p.range.counted).0;
-        party_is = λ i less. rw (inside.x_is i less, inside.y_is i less, side i less, tape i less) refl;
+        party_is = λ i less. rw (own_x i less, own_y i less, side i less, tape i less) refl;
       }
     where
       s : State
@@ -239,6 +239,13 @@ module _ (g : Setting) (book : Box → Key → Lending) (Known : Box → Key →
           let number = s.batch.first + i in
           (order_key s.n s.pair s.side number s.n pair (side_of b) number (g.tapes b number s.n)
           (rw (← tape i less) (p.ordered i less)) (orders b number s.n l)).side_is
+
+      -- so its shares are those that the job's task gives at its box
+      own_x : (i : ℕ) → i < count_of s.batch.task → get_or s.batch.x i 0 ≡ x_in (pairs_at book b (own_key s)) i
+      own_x i less = inside.x_is i less ∙ ap (λ (c : ℕ). x_in (pairs_of c s.batch.task (book b (own_key s))) i) (side i less)
+
+      own_y : (i : ℕ) → i < count_of s.batch.task → get_or s.batch.y i 0 ≡ y_in (pairs_at book b (own_key s)) i
+      own_y i less = inside.y_is i less ∙ ap (λ (c : ℕ). y_in (pairs_of c s.batch.task (book b (own_key s))) i) (side i less)
 
   -- ---- speak
 
