@@ -1,5 +1,5 @@
 -- When a box comes to a job, by what its start answered.
-use Rattle.std.proofs.Common.{◌≡◌, ℕ, ◌+◌, ◌*◌, ◌<◌, ◌≤◌, Bool, true, false, ◌&&◌, cond, List, [], ◌∷◌, take, get_or, Option, Some, None, Result, Ok, Err, eqb, refl, sym, ap, ap₂, ◌∙◌, arith}
+use Rattle.std.proofs.Common.{◌≡◌, ℕ, ◌+◌, ◌*◌, ◌<◌, ◌≤◌, Bool, true, false, ◌&&◌, cond, List, [], ◌∷◌, take, Option, Some, None, Result, Ok, Err, eqb, refl, sym, ap, ap₂, ◌∙◌, arith}
 use mathlib.Core.Bool.{true≢false, false≢true}
 use borrow.Author.Tests.{ne_eqb}
 use Rattle.std.specs.Bool.{⊤}

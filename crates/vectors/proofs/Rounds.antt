@@ -141,8 +141,12 @@ module _ (text : List ℕ) (spelling : Spelling) (first : ℕ) (f1 f2 : State) (
         pub told_next : k < earlier_rounds → Told (k + 1) rest' s1' s2' w1' w2' (zeros + more)
         told_next less =
             record {
-              box1 = course_next r.box1 _ _ (course_tells r.box2 f1.n count begun.width same_count (k + 1)) _ s1' _ less hears1 _ (λ i. more_own (boxes1 i) (boxes2 i) (blanks i) k);
-              box2 = course_next r.box2 _ _ (course_tells r.box1 f2.n (count_of f2.batch.task) (sym begun.width) (sym same_count) (k + 1)) _ s2' _ less hears2 _ (λ i. more_others (boxes1 i) (boxes2 i) (blanks i) k);
+              box1 =
+                  course_next r.box1 _ _ (course_tells r.box2 f1.n count begun.width same_count (k + 1)) _ s1' _ less hears1 _
+                  (λ i. more_own (boxes1 i) (boxes2 i) (blanks i) k);
+              box2 =
+                  course_next r.box2 _ _ (course_tells r.box1 f2.n (count_of f2.batch.task) (sym begun.width) (sym same_count) (k + 1)) _ s2' _ less hears2 _
+                  (λ i. more_others (boxes1 i) (boxes2 i) (blanks i) k);
               read = reads (Some rest') read;
               counted = told_counts more here;
             }

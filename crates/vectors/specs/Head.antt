@@ -1,5 +1,5 @@
 -- What a text names of its job, before the tapes.
-use Rattle.std.specs.Prelude.{ℕ, ◌*◌, cond, List, [], ◌∷◌, get_or, replicate, Option, None}
+use Rattle.std.specs.Prelude.{ℕ, ◌*◌, cond, List, get_or, replicate, Option, None}
 use Rattle.std.specs.Option.{option_and_then}
 use Rattle.std.proofs.lemmas.List.Edits.{sets}
 use Rattle.protocol.specs.Sizes.{count_fits}

@@ -1,5 +1,5 @@
 -- What a text must say of a job: its numbers are the job's, then all that both boxes send, then their answer shares.
-use Rattle.std.specs.Prelude.{ℕ, zero, suc, ◌+◌, ◌*◌, ◌/◌, ◌%◌, Bool, ◌&&◌, List, [], ◌∷◌, ◌++◌, eqb, replicate, take, Option, None, Result, Ok, Err}
+use Rattle.std.specs.Prelude.{ℕ, zero, suc, ◌+◌, ◌/◌, ◌%◌, Bool, ◌&&◌, List, [], ◌∷◌, ◌++◌, eqb, replicate, take, Option, None, Result, Ok, Err}
 use Rattle.std.specs.Option.{is_some, unwrap_or}
 use Rattle.lists.specs.Joined.{chained}
 use Rattle.lists.specs.Tabulate.{tabulate}

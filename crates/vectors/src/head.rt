@@ -1,5 +1,5 @@
 // What a text names of its job, before the tapes.
-ghost use Rattle.std.specs.Prelude.{◌≡◌, ◌≤◌, length, IfSome};
+ghost use Rattle.std.specs.Prelude.{◌≡◌, ◌≤◌, IfSome};
 ghost use Rattle.std.specs.Option.{option_map};
 ghost use Rattle.protocol.specs.Sizes.{most_jobs};
 ghost use Rattle.rules.specs.Tasks.{count_of};

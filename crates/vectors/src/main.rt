@@ -1,6 +1,6 @@
 // Runs the jobs and test deals of data/, worked out by an independent model, and says which agree in every word: jobs of a single comparison by their tape
-// numbers, jobs of several joined (document 02, P9), bands (P10) and deals by the numbers that their texts name. The jobs run twice: the second time every zero of a
-// message comes to the other box as p (P3), and how many there were is said.
+// numbers, jobs of several joined (document 02, P9), bands (P10) and deals by the numbers that their texts name. The jobs run twice: the second time every
+// zero of a message comes to the other box as p (P3), and how many there were is said.
 #![tactic(auto)]
 
 ghost use Rattle.vectors.specs.Deal.{AgreeingDeal};
@@ -70,7 +70,7 @@ fn tell_task(rt: &impl Print, task: Task) -> io::Result<()> {
     }
 }
 
-// Says that a job agrees, and which: only of one that does.
+// Says that a job agrees, and which: only of one that does, in a text of that form.
 fn tell_job(rt: &impl Print, form: Form, told: Agreement, spelling: Spelling) -> io::Result<()>
     requires { Agreeing form spelling told }
 {
