@@ -101,6 +101,8 @@ fn job(
 
 // Of numbers 3 and 4 the second is past the tally.
 fn jobs(rt: &impl Print) -> io::Result<()> {
+    let late = spent();
+    let third = one_byte(12, 0);
     job(rt, "number 4 and share 7", 4, 7, [1, 1], 200, FRESH)?;
     job(
         rt,
@@ -109,7 +111,7 @@ fn jobs(rt: &impl Print) -> io::Result<()> {
         3,
         [1, 1],
         200,
-        spent(),
+        late,
     )?;
     job(
         rt,
@@ -118,7 +120,7 @@ fn jobs(rt: &impl Print) -> io::Result<()> {
         7,
         [1, 1],
         200,
-        spent(),
+        late,
     )?;
     job(
         rt,
@@ -136,45 +138,40 @@ fn jobs(rt: &impl Print) -> io::Result<()> {
         3,
         [1, 1],
         200,
-        one_byte(12, 0),
+        third,
     )?;
-    job(rt, "share 7 and job 2's number 4", 3, 7, [1, 1], 200, FRESH)?;
-    job(
-        rt,
-        "the other box's tape for job 1 and job 2's number 4",
-        3,
-        3,
-        [2, 1],
-        200,
-        FRESH,
-    )?;
-    job(
-        rt,
-        "job 2's number 4 and the other box's tape for job 2",
-        3,
-        3,
-        [1, 2],
-        200,
-        FRESH,
-    )?;
-    job(
-        rt,
-        "job 2's number 4 and work of 199 words",
-        3,
-        3,
-        [1, 1],
-        199,
-        FRESH,
-    )?;
-    job(
-        rt,
-        "the other box's tape for job 2 and work of 199 words",
-        0,
-        3,
-        [1, 2],
-        199,
-        FRESH,
-    )
+    second_job(rt)
+}
+
+fn second_job(rt: &impl Print) -> io::Result<()> {
+    for (what, first, share, sides, words) in [
+        ("share 7 and job 2's number 4", 3, 7, [1, 1], 200),
+        (
+            "the other box's tape for job 1 and job 2's number 4",
+            3,
+            3,
+            [2, 1],
+            200,
+        ),
+        (
+            "job 2's number 4 and the other box's tape for job 2",
+            3,
+            3,
+            [1, 2],
+            200,
+        ),
+        ("job 2's number 4 and work of 199 words", 3, 3, [1, 1], 199),
+        (
+            "the other box's tape for job 2 and work of 199 words",
+            0,
+            3,
+            [1, 2],
+            199,
+        ),
+    ] {
+        job(rt, what, first, share, sides, words, FRESH)?;
+    }
+    Ok(())
 }
 
 // One of many at once.
