@@ -28,7 +28,8 @@ use Rattle.rules.specs.declared.state.Task.TheVariants.{Compare, Band}
 use Rattle.rules.proofs.Tasks.{counted, bounds_in}
 use Rattle.rules.proofs.Batches.{count_most}
 use Rattle.rules.proofs.Sizes.{round_most, work_most}
-use Rattle.exchange.specs.Jobs.{Lent, lent, Ended, ended, job_of, DealtFor, right_bit}
+use Rattle.rules.specs.Bits.{right_bit}
+use Rattle.exchange.specs.Jobs.{Lent, lent, Ended, ended, job_of, DealtFor}
 use Rattle.bench.specs.Eight.{Small, Right, AllDealt, Next, marks}
 use Rattle.bench.proofs.Going.{Fit, JobGone, job_goes}
 use Rattle.bench.proofs.Marks.{marks_tapes, marks_fit, marks_fresh, marks_in_time, marks_more}

@@ -7,7 +7,8 @@ use Rattle.tally.specs.Tally.{first_marks}
 use Rattle.rules.specs.Tasks.{count_of, task_fits, answer_count}
 use Rattle.rules.specs.declared.state.Task.{Task}
 use Rattle.rules.specs.declared.state.Task.TheVariants.{Compare, Band}
-use Rattle.exchange.specs.Jobs.{lent, job_of, DealtAt, right_bit}
+use Rattle.rules.specs.Bits.{right_bit}
+use Rattle.exchange.specs.Jobs.{lent, job_of, DealtAt}
 use Rattle.bench.specs.declared.eight.Way.{Way}
 use Rattle.bench.specs.declared.eight.Way.TheVariants.{Joined, Singly, Pairs, Bands}
 

@@ -4,7 +4,7 @@ ghost use Rattle.lists.specs.Every.{every};
 ghost use Rattle.protocol.specs.Sizes.{tape_for};
 ghost use Rattle.rules.specs.Tasks.{count_of, answer_count};
 ghost use Rattle.rules.specs.declared.state.Task.TheVariants.{Compare};
-ghost use Rattle.exchange.specs.Jobs.{right_bit};
+ghost use Rattle.rules.specs.Bits.{right_bit};
 ghost use Rattle.bench.specs.Eight.{list, task_of, Small, Right, RightStarts, RightTurn, AllDealt, Next, marks};
 
 use exchange::Jobs;

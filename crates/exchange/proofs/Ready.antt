@@ -128,7 +128,8 @@ module _ (s : State) (first round : ℕ) (tapes work : List ℕ) (r : Ready s fi
         let other = ne_eqb round last_round (λ last. omega (arith, last, more)) in
         let same : s' ≡ turned s (Speak (round + 1)) = ap (λ (q : Result). q.state) e ∙ rw other in
         let after : work' ≡ joined_after s tapes work round incoming = ap (λ (q : Result). q.buffer) e ∙ rw other in
-        let room : work_for s.n (count_of s.batch.task) ≤ length work' = omega (arith, ap length after, joined_after_length s tapes work round incoming, r.room) in
+        let room : work_for s.n (count_of s.batch.task) ≤ length work' =
+        omega (arith, ap length after, joined_after_length s tapes work round incoming, r.room) in
         record {
           ready = rw same (ready_turned r (Speak (round + 1)) work' (next_fits round more) room);
           same = same;

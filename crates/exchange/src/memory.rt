@@ -18,6 +18,9 @@ use rules::state::Task;
 // The only tape number of a pair with one tape.
 const FIRST_TAPE: u32 = 0;
 
+// The tally of a band's two tapes.
+const TWO_MARKS: usize = 2 * tally::MARK_BYTES;
+
 // Zeros for the longest tape.
 pub fn blank_tape() -> [u32; 9053]
     ensures { length result ≡ 9053 }
@@ -111,9 +114,6 @@ pub fn fresh_job(job: Job, t1: &[u32], t2: &[u32]) -> Result<u32, Refusal>
         jobs, t1, t2, &mut w1, &mut w2, &mut k1, &mut k2, &mut o1, &mut o2,
     )
 }
-
-// The tally of a band's two tapes.
-const TWO_MARKS: usize = 2 * tally::MARK_BYTES;
 
 // A whole band, low < a and a < high, for the boxes' shares a1 and a2 of a, on two fresh tapes of each box.
 pub fn fresh_band(

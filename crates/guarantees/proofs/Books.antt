@@ -43,7 +43,7 @@ reduced n vs k l =
     let positive : 0 < modulus n = omega (arith, bounds l) in
     rw (get_d_map (λ v. v % modulus n) (mod-eq_of_lt positive) vs k) (mod-lt (get_or vs k 0) positive)
 
--- the shares of x and y that such shares give are in range too, where a band's bounds are
+-- it is the same whether what was lent is reduced or the shares of x and y that it gives, where a band's bounds are in range
 pub clip_pairs : (n side : ℕ) (task : Task) (vs : Lending) → task_fits n task ≡ true → clip n (pairs_of side task vs) ≡ pairs_of side task (clip n vs)
 clip_pairs n side (Compare count) vs fits = refl
 clip_pairs n side (Band low high) vs fits =

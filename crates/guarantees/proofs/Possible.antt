@@ -1,7 +1,7 @@
--- Lists that meet the premises: the checker runs them.
+-- Lists that meet the premises, and some that do not: the checker runs them.
 use Prim.Native.Nat.{ℕ, ◌+◌, ◌%◌}
-use mathlib.Core.Path.{◌≡◌, refl, ap}
-use mathlib.Core.Bool.{Bool, true}
+use mathlib.Core.Path.{◌≡◌, refl, sym, ap, ◌∙◌}
+use mathlib.Core.Bool.{Bool, true, false, false≢true}
 use mathlib.Core.List.{List}
 use borrow.Author.Tests.{ltb-true, eqb-true}
 use lib.Dec.{eqb, ltb}
@@ -30,22 +30,28 @@ use Rattle.protocol.specs.Rounds.{square_word, low_products, low_sum, level_prod
 use Rattle.protocol.specs.Answer.{half_opening, half_opened, answer_from}
 use Rattle.protocol.specs.Rounds.{half_word, answer_share, round_words, message, after_hearing}
 use Rattle.protocol.specs.Sizes.{count_fits}
-use Rattle.rules.specs.Answers.{started, finished}
+use Rattle.rules.specs.Answers.{started, heard, finished}
+use Rattle.rules.specs.Tasks.{answer_count}
+use Rattle.rules.specs.declared.state.Task.{Task}
+use Rattle.rules.specs.declared.state.Task.TheVariants.{Compare}
 use Rattle.tally.specs.Tally.{tally_fits, tapes_of, is_fresh, late, marked, cut_marked, fresh_count}
 use Rattle.rules.specs.Modes.{in_range, mode_of, is_asleep}
 use Rattle.rules.specs.Batches.{joined_message, joined_after, answer_shares}
 use Rattle.rules.specs.Grounds.{wake_ground, start_ground, speak_ground, hear_ground, drop_ground}
 use Rattle.rules.specs.Calls.{wake_rule, start_rule, speak_rule, heard_after, hear_rule, drop_rule}
+use Rattle.rules.specs.Bits.{right_bit}
 use Rattle.guarantees.specs.Boxes.{Box, box1, box2, other_box}
-use Rattle.guarantees.specs.Keys.{Key}
-use Rattle.guarantees.specs.Run.{Lending, Setting, Said, replied, Event, memory_of, event_at, stepped, run}
-use Rattle.guarantees.specs.Premises.{AtFirst, Meets, AllCompatible}
+use Rattle.guarantees.specs.Keys.{Key, key_at}
+use Rattle.guarantees.specs.Entries.{dealt, Incoming, spoken_at, other, hear}
+use Rattle.guarantees.specs.Run.{Lending, Setting, Said, replied, Event, memory_of, event_at, tape_words, incoming_words, stepped, run}
+use Rattle.guarantees.specs.Premises.{AtFirst, TrueMessage, Meets, AllCompatible}
 use Rattle.guarantees.specs.Comparison.{Valid, by_box}
-use Rattle.guarantees.specs.Correctness.{Happened, bit_for}
-use Rattle.guarantees.specs.Possible.{pair_number, shares_of, shares_anew, plain_set, zeros, last_hears, starts_twice}
-use Rattle.guarantees.specs.Possible.{Case, whole, respelled, again, joined, between, common_in, setting_in, world_in, log_in}
-use Rattle.guarantees.specs.Possible.{Possible, RightSumIn, RightSum, CutInMark, ZerosRespelled, UpAndDown}
-use Rattle.guarantees.proofs.Premises.{list_test, list_tested}
+use Rattle.guarantees.specs.Correctness.{Happened}
+use Rattle.guarantees.specs.Possible.{pair_number, shares_of, shares_anew, plain_set, zeros, last_hears, two_to_five}
+use Rattle.guarantees.specs.Possible.{Case, whole, respelled, again, joined, between, banded, band_again, band_between}
+use Rattle.guarantees.specs.Possible.{common_in, setting_in, world_in, log_in, starts_twice, setting_for, world_at_first, mixed, mixed_asks, one_to_five}
+use Rattle.guarantees.specs.Possible.{Possible, RightSumIn, RightSum, CutInMark, ZerosRespelled, UpAndDown, TakenThough, OtherKinds}
+use Rattle.guarantees.proofs.Premises.{same_task, list_test, list_tested}
 
 plain_valid : (k : Case) (b : Box) → Valid (common_in k b) b (plain_set b)
 unfolding other_side
@@ -90,7 +96,7 @@ happened log place b key said e =
 abbrev plain_setting : Case → Setting
 plain_setting k =
     let free = zeros k.respells in
-    record { tapes = plain_set; shares = shares_of k.counts; leftovers = free.leftovers; board = free.board }
+    record { tapes = plain_set; shares = shares_of k.asks; leftovers = free.leftovers; board = free.board }
 
 by_box_same : {A : Type 0} (f : Box → A) (b : Box) → by_box b (f b) (f (other_box b)) ≡ f
 by_box_same f b = fun_ext (at b)
@@ -102,14 +108,14 @@ by_box_same f b = fun_ext (at b)
     at box2 box2 = refl
 
 same_setting : (k : Case) (b : Box) → setting_in k b ≡ plain_setting k
-same_setting k b = rw (by_box_same plain_set b, by_box_same (shares_of k.counts) b) refl
+same_setting k b = rw (by_box_same plain_set b, by_box_same (shares_of k.asks) b) refl
 
 abbrev plain_log : Case → List Event
 plain_log k = (run (plain_setting k) 0 (world_in k box1) k.entries).log
 
 -- the second shares, by the box that is to stay hidden
 abbrev anew : Case → Box → Box → ℕ → Lending
-anew k hidden = by_box hidden (shares_anew k.counts) (shares_of k.counts (other_box hidden))
+anew k hidden = by_box hidden (shares_anew k.asks) (shares_of k.asks (other_box hidden))
 
 -- what is computed of a list
 record Summary : Type 0 where
@@ -192,18 +198,30 @@ pub between_possible : (b : Box) → Possible between b
 unfolding run_rules between
 between_possible = possible between refl
 
+pub banded_possible : (b : Box) → Possible banded b
+unfolding run_rules banded
+banded_possible = possible banded refl
+
+pub band_again_possible : (b : Box) → Possible band_again b
+unfolding run_rules band_again
+band_again_possible = possible band_again refl
+
+pub band_between_possible : (b : Box) → Possible band_between b
+unfolding run_rules band_between
+band_between_possible = possible band_between refl
+
 -- every index below the count, by a test of each
 sum_tested : (k : Case)
-    → every k.key.count
+    → every (answer_count k.key.task)
     (λ i.
     eqb ((get_or k.answers1 i 0 + get_or k.answers2 i 0) % modulus 3)
-    (bit_for 3 (shares_of k.counts box1 k.opened) (shares_of k.counts box2 (k.opened + 1)) i))
+    (right_bit 3 k.key.task (shares_of k.asks box1 k.opened) (shares_of k.asks box2 (k.opened + 1)) i))
     ≡ true
     → RightSumIn k
-sum_tested k t i below = eqb-true _ _ (every_at k.key.count _ t i below)
+sum_tested k t i below = eqb-true _ _ (every_at (answer_count k.key.task) _ t i below)
 
 pub right_sum : RightSum
-unfolding modulus whole respelled again joined between
+unfolding modulus whole respelled again joined between banded band_again band_between
 right_sum =
     record {
       in_whole = sum_tested whole refl;
@@ -211,14 +229,19 @@ right_sum =
       in_again = sum_tested again refl;
       in_joined = sum_tested joined refl;
       in_between = sum_tested between refl;
+      in_banded = sum_tested banded refl;
+      in_band_again = sum_tested band_again refl;
+      in_band_between = sum_tested band_between refl;
     }
 
 pub cut_in_mark : CutInMark
-unfolding run_rules again between
+unfolding run_rules again between band_again band_between
 cut_in_mark =
     record {
       in_again = record { passed = refl; tape0 = refl; tape1 = refl };
       in_between = record { passed = refl; tape0 = refl; tape1 = refl };
+      in_band_again = record { passed = refl; tape0 = refl; tape1 = refl };
+      in_band_between = record { passed = refl; tape0 = refl; tape1 = refl };
     }
 
 pub zeros_respelled : ZerosRespelled
@@ -227,4 +250,63 @@ zeros_respelled = (refl, refl)
 
 pub up_and_down : UpAndDown
 unfolding run_rules starts_twice
-up_and_down = record { up = refl; down = refl; onto_first = refl; onto_second = refl }
+up_and_down = record { up = refl; down = refl; onto_first = refl; onto_second = refl; onto_band = refl }
+
+-- ---- a message of another kind of job
+
+-- a message named by its place was spoken under the key
+spoken_under : {log : List Event} {b : Box} {key : Key} {round place : ℕ} → TrueMessage log b key round (spoken_at place) → (event_at log place).key ≡ key
+spoken_under {log} t = ap (λ k. (event_at log k).key) (ap place_of t.named) ∙ t.under
+  where
+    place_of : Incoming → ℕ
+    place_of (spoken_at place) = place
+    place_of (other words) = 0
+
+-- what is computed of a list with such a hear at its end: whether it meets the premises without it, what the hear comes to and its ground, and the tasks
+-- in the keys of the job that the message was spoken in and of the job that hears it
+record Mixed : Type 0 where
+  meets : Bool
+  said : Said
+  ground : ℕ
+  spoken_in : Task
+  heard_in : Task
+
+abbrev mixed_summary : Task → Task → Mixed
+mixed_summary task1 task2 =
+    let g = setting_for (mixed_asks task1 task2) in
+    let w = run g 0 world_at_first (mixed task1 task2) in
+    let m = w.memory2 in
+    let lent = dealt box2 0 2 3 in
+    record {
+      meets = list_test (λ hidden. g.shares) g 0 world_at_first (mixed task1 task2);
+      said = (event_at (stepped g 6 w box2 (hear 0 1 lent (spoken_at 4))).log 6).said;
+      ground = hear_ground m.state 0 1 (tape_words g lent) m.work (incoming_words g 6 m.state w.log (spoken_at 4));
+      spoken_in = (event_at w.log 4).key.task;
+      heard_in = (key_at m.state 0).task;
+    }
+
+abbrev mixed_expected : Task → Task → Mixed
+mixed_expected task1 task2 = record { meets = true; said = replied heard; ground = 0; spoken_in = task1; heard_in = task2 }
+
+taken_though : (task1 task2 : Task) → mixed_summary task1 task2 ≡ mixed_expected task1 task2
+    → same_task task1 task2 ≡ false → same_task task2 task2 ≡ true → TakenThough task1 task2
+unfolding mixed
+taken_though task1 task2 e apart same =
+    let g = setting_for (mixed_asks task1 task2) in
+    record {
+      taken = ap (λ (s : Mixed). s.said) e;
+      before = (list_tested (λ hidden. g.shares) g 0 world_at_first (mixed task1 task2) (ap (λ (s : Mixed). s.meets) e)).0;
+      not_met = λ m.
+          let under = spoken_under (m.1.1.1.1.1.1.0 (ap (λ (s : Mixed). s.ground) e)).1 in
+          let tasks = sym (ap (λ (s : Mixed). s.spoken_in) e) ∙ ap (λ (k : Key). k.task) under ∙ ap (λ (s : Mixed). s.heard_in) e in
+          false≢true (sym apart ∙ ap (λ t. same_task t task2) tasks ∙ same);
+    }
+
+pub other_kinds : OtherKinds
+unfolding run_rules mixed
+other_kinds =
+    record {
+      pair_to_band = taken_though (Compare 2) two_to_five refl refl refl;
+      band_to_pair = taken_though two_to_five (Compare 2) refl refl refl;
+      other_bounds = taken_though two_to_five one_to_five refl refl refl;
+    }

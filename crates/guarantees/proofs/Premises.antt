@@ -1,6 +1,6 @@
 -- A computed test of the premises, for lists in which no entry is to be refused.
 use Prim.Native.Nat.{ℕ, suc}
-use mathlib.Core.Path.{◌≡◌, refl, sym}
+use mathlib.Core.Path.{◌≡◌, refl, ap}
 use mathlib.Core.Bool.{Bool, true, false, ◌&&◌, false≢true}
 use mathlib.Core.List.{List, [], ◌∷◌}
 use mathlib.Core.Logic.{inr}
@@ -11,6 +11,9 @@ use Rattle.lists.specs.Every.{every}
 use Rattle.lists.proofs.Tests.{and_left, and_right}
 use Rattle.lists.proofs.Every.{every_at}
 use Rattle.field.specs.Width.{modulus}
+use Rattle.rules.specs.Tasks.{count_of}
+use Rattle.rules.specs.declared.state.Task.{Task}
+use Rattle.rules.specs.declared.state.Task.TheVariants.{Compare, Band}
 use Rattle.guarantees.specs.Boxes.{Box, box1, box2, other_box}
 use Rattle.guarantees.specs.Keys.{Key, key_at}
 use Rattle.guarantees.specs.Outcomes.{kind_of}
@@ -23,30 +26,52 @@ use Rattle.guarantees.proofs.Outcomes.{is_message, message_of_lem}
 
 -- ---- a true message and the box's own tapes
 
+abbrev pub same_task : Task → Task → Bool
+same_task (Compare count) (Compare count') = eqb count count'
+same_task (Compare count) (Band low high) = false
+same_task (Band low high) (Compare count) = false
+same_task (Band low high) (Band low' high') = eqb low low' && eqb high high'
+
+same_task_lem : (t t' : Task) → same_task t t' ≡ true → t ≡ t'
+same_task_lem (Compare count) (Compare count') e = ap Compare (eqb-true count count' e)
+same_task_lem (Compare count) (Band low high) e = absurd (false≢true e)
+same_task_lem (Band low high) (Compare count) e = absurd (false≢true e)
+same_task_lem (Band low high) (Band low' high') e =
+    rw (eqb-true low low' (and_left (eqb low low') (eqb high high') e), eqb-true high high' (and_right (eqb low low') (eqb high high') e)) refl
+
 abbrev same_key : Key → Key → Bool
-same_key k k' = eqb k.first k'.first && (eqb k.count k'.count && eqb k.width k'.width)
+same_key k k' = eqb k.first k'.first && (same_task k.task k'.task && eqb k.width k'.width)
 
 same_key_lem : (k k' : Key) → same_key k k' ≡ true → k ≡ k'
 same_key_lem k k' e =
-    let sizes = eqb k.count k'.count && eqb k.width k'.width in
+    let sizes = same_task k.task k'.task && eqb k.width k'.width in
     let rest = and_right (eqb k.first k'.first) sizes e in
     rw (
       eqb-true k.first k'.first (and_left (eqb k.first k'.first) sizes e),
-      eqb-true k.count k'.count (and_left (eqb k.count k'.count) (eqb k.width k'.width) rest),
-      eqb-true k.width k'.width (and_right (eqb k.count k'.count) (eqb k.width k'.width) rest),
+      same_task_lem k.task k'.task (and_left (same_task k.task k'.task) (eqb k.width k'.width) rest),
+      eqb-true k.width k'.width (and_right (same_task k.task k'.task) (eqb k.width k'.width) rest),
     )
     refl
 
 -- the box's own dealt tapes of that job
 abbrev own_tapes : Box → Key → Lent → Bool
-own_tapes b key (dealt c first count n) = same_box c b && same_key (record { first = first; count = count; width = n }) key
+own_tapes b key (dealt c first count n) =
+    same_box c b && (eqb first key.first && (eqb count (count_of key.task) && eqb n key.width))
 own_tapes b key (loose words) = false
 
-own_tapes_lem : (b : Box) (key : Key) (lent : Lent) → own_tapes b key lent ≡ true → lent ≡ dealt b key.first key.count key.width
+own_tapes_lem : (b : Box) (key : Key) (lent : Lent) → own_tapes b key lent ≡ true → lent ≡ dealt b key.first (count_of key.task) key.width
 own_tapes_lem b key (dealt c first count n) e =
-    let named : Key = record { first = first; count = count; width = n } in
-    let job = same_key_lem named key (and_right (same_box c b) (same_key named key) e) in
-    rw (same_box_lem c b (and_left (same_box c b) (same_key named key) e), sym job) refl
+    let sizes = eqb count (count_of key.task) && eqb n key.width in
+    let named = eqb first key.first && sizes in
+    let rest = and_right (same_box c b) named e in
+    let last = and_right (eqb first key.first) sizes rest in
+    rw (
+      same_box_lem c b (and_left (same_box c b) named e),
+      eqb-true first key.first (and_left (eqb first key.first) sizes rest),
+      eqb-true count (count_of key.task) (and_left (eqb count (count_of key.task)) (eqb n key.width) last),
+      eqb-true n key.width (and_right (eqb count (count_of key.task)) (eqb n key.width) last),
+    )
+    refl
 own_tapes_lem b key (loose words) e = absurd (false≢true e)
 
 -- the other box spoke it earlier, under that job and round
@@ -109,14 +134,14 @@ module _ (anew : Box → Box → ℕ → Lending) (g : Setting) where
 
   abbrev entry_test : ℕ → World → Box → Step → Bool
   entry_test place w b (wake n side p) = true
-  entry_test place w b (start first count lent) = lend_test place w b
+  entry_test place w b (start first task lent) = lend_test place w b
   entry_test place w b (speak first round lent out) = own_tapes b (key_at (memory_of w b).state first) lent
   entry_test place w b (hear first round lent incoming) =
       let key = key_at (memory_of w b).state first in
       own_tapes b key lent && true_test w.log b key round incoming
   entry_test place w b drop = true
   entry_test place w b (cut room) = true
-  entry_test place w b (cut_start first count lent at mark room) = lend_test place w b
+  entry_test place w b (cut_start first task lent at mark room) = lend_test place w b
 
   lent_in_both : (place : ℕ) (w : World) (b : Box) → lend_test place w b ≡ true
       → (hidden : Box) → SharesInBoth (memory_of w b) (g.shares b place) (anew hidden b place)
@@ -126,7 +151,7 @@ module _ (anew : Box → Box → ℕ → Lending) (g : Setting) where
   entry_tested : (place : ℕ) (w : World) (b : Box) (s : Step) → entry_test place w b s ≡ true
       → Keeps g place w b s × ((hidden : Box) → Compatible (anew hidden) g place w b s)
   entry_tested place w b (wake n side p) t = (tt, λ hidden. tt)
-  entry_tested place w b (start first count lent) t = (tt, lent_in_both place w b t)
+  entry_tested place w b (start first task lent) t = (tt, lent_in_both place w b t)
   entry_tested place w b (speak first round lent out) t = (λ _. own_tapes_lem b (key_at (memory_of w b).state first) lent t, λ hidden. tt)
   entry_tested place w b (hear first round lent incoming) t =
       let key = key_at (memory_of w b).state first in
@@ -135,7 +160,7 @@ module _ (anew : Box → Box → ℕ → Lending) (g : Setting) where
       (λ _. (own_tapes_lem b key lent (and_left own said t), true_message w.log b key round incoming (and_right own said t)), λ hidden. tt)
   entry_tested place w b drop t = (tt, λ hidden. tt)
   entry_tested place w b (cut room) t = (tt, λ hidden. tt)
-  entry_tested place w b (cut_start first count lent at mark room) t = (tt, lent_in_both place w b t)
+  entry_tested place w b (cut_start first task lent at mark room) t = (tt, lent_in_both place w b t)
 
   abbrev pub list_test : ℕ → World → List Entry → Bool
   list_test place w [] = true

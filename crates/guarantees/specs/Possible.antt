@@ -1,7 +1,7 @@
 -- The premises of demand 3 are not empty: lists at width 3 that meet them, on the plain tapes, in which both boxes start and finish a job. In one the
--- board spells every zero as p, in one a start takes two jobs, in one it takes a band, in four the power fails in the marks of a start, of comparisons or of a
--- band. Nor is the law for the depots: lists in which box 1 starts twice, upwards, downwards and onto a number that is taken. And lists that do not meet them: a
--- box takes a message of another kind of job on the same tapes, since it has no ground against that (document 02, P10).
+-- board spells every zero as p, in one a start takes two jobs, in one it takes a band, in four the power fails in the marks of a start, of comparisons
+-- or of a band. Nor is the law for the depots: lists in which box 1 starts twice, upwards, downwards and onto a number that is taken. And lists that do
+-- not meet them: a box takes a message of another kind of job on the same tapes, since it has no ground against that (document 02, P10).
 use Rattle.std.specs.Prelude.{ℕ, zero, suc, ◌+◌, ◌*◌, ◌%◌, ◌<◌, ◌≡◌, Bool, true, false, cond, eqb}
 use Rattle.std.specs.Prelude.{List, [], ◌∷◌, ◌++◌, get_or, take, replicate}
 use Rattle.field.specs.Width.{modulus}
@@ -14,6 +14,7 @@ use Rattle.rules.specs.Answers.{started, heard, finished, refused}
 use Rattle.rules.specs.Tasks.{count_of, answer_count}
 use Rattle.rules.specs.Grounds.{start_ground}
 use Rattle.rules.specs.Batches.{no_batch}
+use Rattle.rules.specs.Bits.{right_bit}
 use Rattle.rules.specs.declared.state.Task.{Task}
 use Rattle.rules.specs.declared.state.Task.TheVariants.{Compare, Band}
 use Rattle.rules.specs.declared.state.Phase.TheVariants.{Asleep}
@@ -23,7 +24,7 @@ use Rattle.guarantees.specs.Entries.{dealt, spoken_at, Step, wake, start, speak,
 use Rattle.guarantees.specs.Run.{Lending, Said, Setting, replied, Event, World, event_at, tape_words, run}
 use Rattle.guarantees.specs.Premises.{Meets}
 use Rattle.guarantees.specs.Comparison.{TapeSet, Valid, Common, Loose, world_of, setting_of, Premises}
-use Rattle.guarantees.specs.Correctness.{Happened, bit_for}
+use Rattle.guarantees.specs.Correctness.{Happened}
 
 abbrev pub pair_number : ℕ
 pair_number = 5
@@ -133,66 +134,65 @@ pub record Case : Type 0 where
 abbrev pub two_answers : ℕ → ℕ → List ℕ
 two_answers v v' = v ∷ v' ∷ replicate 6 0
 
--- box 2's answers are 0 in all of the lists
-abbrev pub case_of : List Entry → Asks → Bool → (opened : ℕ) → Key → List ℕ → Case
-case_of entries asks respells opened key answers1 =
+-- both boxes do a whole job, with the zeros on the line as they were spoken, or spelled p
+abbrev pub one_job : Bool → Task → (answers1 answers2 : List ℕ) → Case
+one_job respells task answers1 answers2 =
     record {
-      entries = entries;
-      asks = asks;
+      entries = wakes box1 ∷ wakes box2 ∷ job_from 2 0 task;
+      asks = λ place. task;
       respells = respells;
-      opened = opened;
-      key = key;
+      opened = 2;
+      key = job_key 0 task 3;
       answers1 = answers1;
-      answers2 = two_answers 0 0;
+      answers2 = answers2;
     }
 
--- a whole job, with the zeros on the line as they were spoken, or spelled p
-abbrev pub one_job : Bool → Case
-one_job respells =
-    case_of (wakes box1 ∷ wakes box2 ∷ job_from 2 0 (Compare 1)) (λ place. Compare 1) respells 2 (job_key 0 (Compare 1) 3) (two_answers 1 0)
+-- at first the power fails in the mark of job `at` of a start of box 1; the later job is another, from a first number on
+abbrev pub job_after_cut : Task → (at first : ℕ) → Task → (answers1 answers2 : List ℕ) → Case
+job_after_cut lost at first task answers1 answers2 =
+    record {
+      entries = wakes box1 ∷ wakes box2 ∷ cut_unmarked lost at ∷ wakes box1 ∷ job_from 4 first task;
+      asks = λ place. cond (eqb place 2) lost task;
+      respells = false;
+      opened = 4;
+      key = job_key first task 3;
+      answers1 = answers1;
+      answers2 = answers2;
+    }
 
 unfoldable pub whole : Case
-whole = one_job false
+whole = one_job false (Compare 1) (two_answers 1 0) (two_answers 0 0)
 
 unfoldable pub respelled : Case
-respelled = one_job true
+respelled = one_job true (Compare 1) (two_answers 1 0) (two_answers 0 0)
 
--- at first the power fails in box 1's mark; the later job is on that very tape
+-- the power fails in the only mark; the later job is on that very tape
 unfoldable pub again : Case
-again =
-    case_of (wakes box1 ∷ wakes box2 ∷ cut_unmarked (Compare 1) 0 ∷ wakes box1 ∷ job_from 4 0 (Compare 1)) (λ place. Compare 1) false 4
-    (job_key 0 (Compare 1) 3) (two_answers 1 0)
+again = job_after_cut (Compare 1) 0 0 (Compare 1) (two_answers 1 0) (two_answers 0 0)
 
 -- one start takes two jobs
 unfoldable pub joined : Case
-joined = case_of (wakes box1 ∷ wakes box2 ∷ job_from 2 0 (Compare 2)) (λ place. Compare 2) false 2 (job_key 0 (Compare 2) 3) (two_answers 0 1)
+joined = one_job false (Compare 2) (two_answers 0 1) (two_answers 0 0)
 
--- at first the power fails between the two marks of box 1's start of two jobs; the later job is on the second tape alone
+-- the power fails between the two marks of a start of two jobs; the later job is on the second tape alone
 unfoldable pub between : Case
-between =
-    case_of (wakes box1 ∷ wakes box2 ∷ cut_unmarked (Compare 2) 1 ∷ wakes box1 ∷ job_from 4 1 (Compare 1)) (λ place. Compare (cond (eqb place 2) 2 1)) false 4
-    (job_key 1 (Compare 1) 3) (two_answers 1 0)
+between = job_after_cut (Compare 2) 1 1 (Compare 1) (two_answers 1 0) (two_answers 0 0)
 
 -- is a in the band from 2 to 5
 abbrev pub two_to_five : Task
 two_to_five = Band 2 5
 
--- a whole band
+-- a whole band: one answer
 unfoldable pub banded : Case
-banded = case_of (wakes box1 ∷ wakes box2 ∷ job_from 2 0 two_to_five) (λ place. two_to_five) false 2 (job_key 0 two_to_five 3) (two_answers 1 0)
+banded = one_job false two_to_five (two_answers 6 0) (two_answers 2 0)
 
--- at first the power fails in the first mark of box 1's start of a band; the later band is on those very tapes
+-- the power fails in the first mark of a band's start; the later band is on those very tapes
 unfoldable pub band_again : Case
-band_again =
-    case_of (wakes box1 ∷ wakes box2 ∷ cut_unmarked two_to_five 0 ∷ wakes box1 ∷ job_from 4 0 two_to_five) (λ place. two_to_five) false 4
-    (job_key 0 two_to_five 3) (two_answers 1 0)
+band_again = job_after_cut two_to_five 0 0 two_to_five (two_answers 6 0) (two_answers 2 0)
 
--- at first it fails in the second; the later job is on the second tape alone
+-- it fails in the second one; the later job is on the second tape alone
 unfoldable pub band_between : Case
-band_between =
-    case_of (wakes box1 ∷ wakes box2 ∷ cut_unmarked two_to_five 1 ∷ wakes box1 ∷ job_from 4 1 (Compare 1))
-    (λ place. cond (eqb place 2) two_to_five (Compare 1)) false 4
-    (job_key 1 (Compare 1) 3) (two_answers 1 0)
+band_between = job_after_cut two_to_five 1 1 (Compare 1) (two_answers 1 0) (two_answers 0 0)
 
 -- box b being the one to stay hidden
 abbrev pub common_in : Case → Box → Common
@@ -225,7 +225,7 @@ abbrev pub RightSumIn : Case → Type 0
 RightSumIn k =
     (i : ℕ) → i < answer_count k.key.task
     → (get_or k.answers1 i 0 + get_or k.answers2 i 0) % modulus 3
-    ≡ bit_for 3 k.key.task (shares_of k.asks box1 k.opened) (shares_of k.asks box2 (k.opened + 1)) i
+    ≡ right_bit 3 k.key.task (shares_of k.asks box1 k.opened) (shares_of k.asks box2 (k.opened + 1)) i
 
 pub record RightSum : Type 0 where
   pub in_whole : RightSumIn whole
@@ -259,6 +259,17 @@ ZerosRespelled =
     let log = log_in respelled box1 in
     (get_or (event_at log 6).incoming 27 0 ≡ 7) × (get_or (event_at log 7).incoming 28 0 ≡ 7)
 
+-- ---- lists by themselves, box 1 being the one to stay hidden: what their runs are given, the world at first, and the log
+
+abbrev pub setting_for : Asks → Setting
+setting_for asks = setting_of (plain_common asks [] box1) box1 (plain_set box1) (shares_of asks box1) (zeros false)
+
+abbrev pub world_at_first : World
+world_at_first = world_of (plain_common (λ place. Compare 0) [] box1) (zeros false)
+
+abbrev pub log_for : Asks → List Entry → List Event
+log_for asks entries = (run (setting_for asks) 0 world_at_first entries).log
+
 -- ---- two starts
 
 -- box 1 opens a job, drops it and starts another
@@ -273,9 +284,7 @@ starts_twice first task first' task' =
 -- what its two starts come to: the events 1 and 3
 abbrev pub said_twice : (first : ℕ) → Task → (first' : ℕ) → Task → Said × Said
 said_twice first task first' task' =
-    let asks : Asks = λ place. cond (eqb place 1) task task' in
-    let c = plain_common asks (starts_twice first task first' task') box1 in
-    let log = (run (setting_of c box1 (plain_set box1) (shares_of asks box1) (zeros false)) 0 (world_of c (zeros false)) c.entries).log in
+    let log = log_for (λ place. cond (eqb place 1) task task') (starts_twice first task first' task') in
     ((event_at log 1).said, (event_at log 3).said)
 
 -- upwards both jobs are opened; downwards the second number is late. A start of two comparisons takes both numbers, and so does a band's, so where one of two
@@ -287,7 +296,7 @@ pub record UpAndDown : Type 0 where
   pub onto_second : said_twice 0 (Compare 2) 1 (Compare 1) ≡ (replied started, replied (refused 8))
   pub onto_band : said_twice 0 two_to_five 1 (Compare 1) ≡ (replied started, replied (refused 8))
 
--- ---- a message of another job on the same tapes
+-- ---- a message of another kind of job on the same tapes
 
 -- box 1 starts one job on two tapes, box 2 another; both speak round 1
 unfoldable pub mixed : Task → Task → List Entry
@@ -302,26 +311,27 @@ mixed task1 task2 =
     ∷ []
 
 -- and box 2 hears what box 1 spoke
-unfoldable pub mixed_heard : Task → Task → List Entry
+abbrev pub mixed_heard : Task → Task → List Entry
 mixed_heard task1 task2 = mixed task1 task2 ++ ((box2 does hear 0 1 (dealt box2 0 2 3) (spoken_at 4)) ∷ [])
+
+-- what its two starts ask
+abbrev pub mixed_asks : Task → Task → Asks
+mixed_asks task1 task2 place = cond (eqb place 2) task1 task2
+
+abbrev pub MeetsFor : Asks → List Entry → Type 0
+MeetsFor asks entries = Meets (setting_for asks) 0 world_at_first entries
 
 -- box 2 takes it, since no ground is against it; but the list does not meet the premises, which it meets without that hear
 pub record TakenThough (task1 task2 : Task) : Type 0 where
-  pub asks : Asks
-  pub asks_are : (asks 2 ≡ task1) × (asks 3 ≡ task2)
-  pub taken :
-      let c = plain_common asks (mixed_heard task1 task2) box1 in
-      (event_at (run (setting_of c box1 (plain_set box1) (shares_of asks box1) (zeros false)) 0 (world_of c (zeros false)) c.entries).log 6).said
-      ≡ replied heard
-  pub before :
-      let c = plain_common asks (mixed task1 task2) box1 in
-      Meets (setting_of c box1 (plain_set box1) (shares_of asks box1) (zeros false)) 0 (world_of c (zeros false)) c.entries
-  pub not_met :
-      let c = plain_common asks (mixed_heard task1 task2) box1 in
-      Meets (setting_of c box1 (plain_set box1) (shares_of asks box1) (zeros false)) 0 (world_of c (zeros false)) c.entries → ⊥
+  pub taken : (event_at (log_for (mixed_asks task1 task2) (mixed_heard task1 task2)) 6).said ≡ replied heard
+  pub before : MeetsFor (mixed_asks task1 task2) (mixed task1 task2)
+  pub not_met : MeetsFor (mixed_asks task1 task2) (mixed_heard task1 task2) → ⊥
+
+abbrev pub one_to_five : Task
+one_to_five = Band 1 5
 
 -- a joined pair's message lent to a band, a band's lent to a joined pair, and one of a band with other bounds
 pub record OtherKinds : Type 0 where
   pub pair_to_band : TakenThough (Compare 2) two_to_five
   pub band_to_pair : TakenThough two_to_five (Compare 2)
-  pub other_bounds : TakenThough two_to_five (Band 1 5)
+  pub other_bounds : TakenThough two_to_five one_to_five

@@ -1,5 +1,5 @@
 -- One job's part of a joined speak or hear, and what a turn of the loop over the jobs makes of out, of work and of the answers.
-use Prim.Native.Nat.{ℕ, suc, ◌+◌, ◌-◌, ◌*◌, ◌<◌, ◌≤◌}
+use Prim.Native.Nat.{ℕ, ◌+◌, ◌-◌, ◌*◌, ◌<◌, ◌≤◌}
 use mathlib.Core.Path.{◌≡◌, refl, sym, ap, ap₂, ◌∙◌}
 use mathlib.Core.Bool.{Bool, true, false, cond}
 use mathlib.Core.List.{List}
@@ -22,11 +22,10 @@ use Rattle.lists.proofs.Sets.{sets_whole}
 use Rattle.lists.proofs.Tabulate.{length_tabulate, get_d_tabulate, tabulated}
 use Rattle.field.specs.Width.{listed, modulus}
 use Rattle.field.proofs.Widths.{bounds}
-use Rattle.shares.specs.Reading.{legible}
 use Rattle.protocol.specs.Words.{FromLine}
 use Rattle.protocol.specs.Work.{work_length}
 use Rattle.protocol.specs.Products.{Party}
-use Rattle.protocol.specs.Rounds.{last_round, round_words, message, after_hearing, answer_share, share_after}
+use Rattle.protocol.specs.Rounds.{last_round, round_words, message, after_hearing, share_after}
 use Rattle.protocol.specs.Sizes.{most_jobs, round_for, work_for}
 use Rattle.protocol.proofs.Lengths.{message_length, after_length}
 use Rattle.protocol.proofs.Below.{answer_below}

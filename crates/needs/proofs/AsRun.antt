@@ -6,6 +6,7 @@ use mathlib.Core.List.{List, [], ◌∷◌, ◌++◌}
 use native.Mathlib.Nat.{one-mul}
 use native.Mathlib.Omega.{arith}
 use Rattle.std.proofs.Math.Bool.{or-false, or-true}
+use Rattle.std.proofs.lemmas.List.{append_assoc}
 use borrow.Author.Tests.{leb-true, leb-false, lt-ltb, le-ltb, eq-eqb, not-false}
 use lib.Dec.{leb, ltb}
 use lib.ListN.{length}
@@ -24,13 +25,16 @@ use Rattle.protocol.proofs.ByRound.{at_both}
 use Rattle.refusals.specs.Numbers.{number_of}
 use Rattle.refusals.specs.Grounds.{Ground, ◌when◌, earliest_of, joined}
 use Rattle.refusals.specs.declared.Refusal.TheVariants.{Room}
-use Rattle.refusals.proofs.Chains.{none, first_none, both_none}
+use Rattle.refusals.proofs.Chains.{None, none, first_none, both_none}
 use Rattle.rules.specs.Answers.{spoke}
 use Rattle.rules.specs.Modes.{mode_of}
+use Rattle.rules.specs.Tasks.{count_of, pairs_of}
 use Rattle.rules.specs.Batches.{tape_part}
-use Rattle.rules.specs.Grounds.{idle_grounds, count_grounds, tally_grounds, list_grounds, one_parts, job_grounds, due_grounds, tapes_grounds, room_grounds, message_fits, word_grounds, start_ground, speak_ground, hear_ground}
+use Rattle.rules.specs.Grounds.{idle_grounds, asked_parts, one_parts, job_grounds, due_grounds, tapes_grounds, room_grounds, message_fits, word_grounds, start_grounds, start_ground, speak_ground, hear_ground}
 use Rattle.rules.specs.Calls.{speak_rule}
 use Rattle.rules.specs.AnyCall.{start, ground_of}
+use Rattle.rules.specs.declared.state.Task.{Task}
+use Rattle.rules.specs.declared.state.Task.TheVariants.{Compare, Band}
 use Rattle.rules.specs.declared.state.State.{State}
 use Rattle.rules.specs.declared.state.Turn.{Turn}
 use Rattle.rules.specs.declared.state.Turn.TheVariants.{Speak, Hear}
@@ -106,23 +110,39 @@ module _ (g : Ground) where
 
 -- ---- a start
 
-module _ (s : State) (first count : ℕ) (shares tapes work tally : List ℕ) where
-  -- the grounds before its last
-  abbrev earlier : List Ground
-  earlier =
-      idle_grounds (mode_of s)
-      ++ (count_grounds count
-      ++ (tally_grounds s tally ++ (list_grounds count shares ++ chained count (λ i. joined (one_parts s first count shares tapes tally i)))))
+-- where what is asked has passed, there are 1 to 8 comparisons
+few : (s : State) (task : Task) (shares tally : List ℕ) → None (joined (asked_parts s task shares tally)) → count_fits (count_of task) ≡ true
+unfolding count_fits
+few s (Compare count) shares tally c = not-false (count_fits count) c.0
+few s (Band low high) shares tally c = refl
 
-  start_left : Reached 12 s (start first count shares tapes work tally)
-      → ground_of s (start first count shares tapes work tally) ≡ cond (ltb (length work) (work_needed s.n count)) 12 0
+module _ (s : State) (first : ℕ) (task : Task) (shares tapes work tally : List ℕ) where
+  abbrev asked : List Ground
+  asked = joined (asked_parts s task shares tally)
+
+  abbrev jobs : List Ground
+  jobs = chained (count_of task) (λ i. joined (one_parts s first (count_of task) (pairs_of s.side task shares) tapes tally i))
+
+  -- its last ground, and those before it
+  abbrev last : Ground
+  last = Room when not (leb (work_for s.n (count_of task)) (length work)) || not true
+
+  abbrev earlier : List Ground
+  earlier = idle_grounds (mode_of s) ++ (asked ++ jobs)
+
+  parted : start_grounds s first task shares tapes work tally ≡ earlier ++ (last ∷ [])
+  parted = ap (λ gs. idle_grounds (mode_of s) ++ gs) (sym (append_assoc asked jobs (last ∷ [])))
+
+  start_left : Reached 12 s (start first task shares tapes work tally)
+      → ground_of s (start first task shares tapes work tally) ≡ cond (ltb (length work) (work_needed s.n (count_of task))) 12 0
   unfolding start_ground
   start_left reached =
-      let last : Ground = Room when not (leb (work_for s.n count) (length work)) || not true in
-      let come : earliest_of earlier ≡ 0 = sym (ap earliest_of (before_last last earlier)) ∙ reached in
-      let c = none earlier come in
-      room s.n count work true earlier [] (awake_listed s c.0) (not-false (count_fits count) c.1.1.0) come
-      ∙ rw (or-false (ltb (length work) (work_needed s.n count))) refl
+      let come : earliest_of earlier ≡ 0 = ap earliest_of (sym (before_last last earlier) ∙ ap (before 12) (sym parted)) ∙ reached in
+      let idle = both_none (idle_grounds (mode_of s)) (asked ++ jobs) come in
+      let width = awake_listed s (none (idle_grounds (mode_of s)) idle.0).0 in
+      let fits = few s task shares tally (none asked (both_none asked jobs idle.1).0) in
+      ap earliest_of parted
+      ∙ (room s.n (count_of task) work true earlier [] width fits come ∙ rw (or-false (ltb (length work) (work_needed s.n (count_of task)))) refl)
 
 -- ---- a speak and a hear
 
@@ -137,16 +157,17 @@ module _ (s : State) (first : ℕ) (turn : Turn) (tapes : List ℕ) where
       turn_due s first turn tapes job.0 due.0 due.1
 
   turn_left : (work buffer : List ℕ) (later : List Ground) → earliest_of before_room ≡ 0
-      → earliest_of (before_room ++ (room_grounds s.n s.batch.count work (message_fits s.n s.batch.count turn (length buffer)) ++ later))
-      ≡ cond (ltb (length work) (work_needed s.n s.batch.count) || not (message_fits s.n s.batch.count turn (length buffer))) 12 (earliest_of later)
+      → earliest_of (before_room ++ (room_grounds s.n (count_of s.batch.task) work (message_fits s.n (count_of s.batch.task) turn (length buffer)) ++ later))
+      ≡ cond (ltb (length work) (work_needed s.n (count_of s.batch.task)) || not (message_fits s.n (count_of s.batch.task) turn (length buffer))) 12
+      (earliest_of later)
   turn_left work buffer later e =
       let t = turn_come e in
-      room s.n s.batch.count work (message_fits s.n s.batch.count turn (length buffer)) before_room later t.sound.width t.range.counted e
+      room s.n (count_of s.batch.task) work (message_fits s.n (count_of s.batch.task) turn (length buffer)) before_room later t.sound.width t.range.counted e
 
-  turn_round : (round : ℕ) → earliest_of before_room ≡ 0 → round_needed s.n s.batch.count round ≡ round_for s.n s.batch.count round
+  turn_round : (round : ℕ) → earliest_of before_room ≡ 0 → round_needed s.n (count_of s.batch.task) round ≡ round_for s.n (count_of s.batch.task) round
   turn_round round e =
       let t = turn_come e in
-      round_is s.n s.batch.count t.sound.width t.range.counted round
+      round_is s.n (count_of s.batch.task) t.sound.width t.range.counted round
 
 -- ---- the statement
 
@@ -154,24 +175,24 @@ pub as_run : AsRun
 unfolding start_ground speak_ground hear_ground speak_rule count_fits needs_ground needs_rule
 as_run =
     record {
-      start_tapes = λ s first count shares tapes work tally e.
-          let p = start_passed s first count shares tapes work tally e in
-          p.long ∙ sym (tape_is s.n count (awake_listed s p.awake) p.counted);
+      start_tapes = λ s first task shares tapes work tally e.
+          let p = start_passed s first task shares tapes work tally e in
+          p.long ∙ sym (tape_is s.n (count_of task) (awake_listed s p.awake) p.counted);
       speak_tapes = λ s first round tapes work out e.
           let t = (speak_passed s first round tapes work out e).turn in
-          t.long ∙ sym (tape_is s.n s.batch.count t.sound.width t.range.counted);
+          t.long ∙ sym (tape_is s.n (count_of s.batch.task) t.sound.width t.range.counted);
       hear_tapes = λ s first round tapes work incoming e.
           let t = (hear_passed s first round tapes work incoming e).turn in
-          t.long ∙ sym (tape_is s.n s.batch.count t.sound.width t.range.counted);
+          t.long ∙ sym (tape_is s.n (count_of s.batch.task) t.sound.width t.range.counted);
       tapes_fit = λ n pair side first count width box fits.
           (plain_long n pair side first width box count ∙ sym (tape_is n count width fits), plain_fit n pair side first width box count);
       spoken = λ s first round tapes work out e.
           let t = (speak_passed s first round tapes work out e).turn in
-          rw e (ap spoke (sym (round_is s.n s.batch.count t.sound.width t.range.counted round)));
+          rw e (ap spoke (sym (round_is s.n (count_of s.batch.task) t.sound.width t.range.counted round)));
       start_room = start_left;
       speak_room = λ s first round tapes work out reached.
           turn_left s first (Speak round) tapes work out [] reached
-          ∙ rw (not_leb (round_for s.n s.batch.count round) (length out), turn_round s first (Speak round) tapes round reached) refl;
+          ∙ rw (not_leb (round_for s.n (count_of s.batch.task) round) (length out), turn_round s first (Speak round) tapes round reached) refl;
       hear_room = λ s first round tapes work incoming reached.
           turn_left s first (Hear round) tapes work incoming (word_grounds s.n incoming) reached
           ∙ rw (turn_round s first (Hear round) tapes round reached) refl;

@@ -1,4 +1,4 @@
--- The figures are what a run of so many jobs takes and reports (document 02, P8 and P9), by the rules of the calls themselves.
+-- The figures are what a run of so many jobs takes and reports (document 02, P8 and P9), by the rules of the calls themselves. A band is a run of two (P10).
 use Rattle.std.specs.Prelude.{ℕ, ◌+◌, ◌*◌, ◌<◌, ◌≡◌, Bool, true, false, not, ◌||◌, cond, List, [], ◌∷◌, map, eqb, ltb, length}
 use Rattle.lists.specs.Joined.{chained}
 use Rattle.field.specs.Width.{listed}
@@ -10,9 +10,11 @@ use Rattle.protocol.specs.Sizes.{count_fits}
 use Rattle.refusals.specs.Numbers.{number_of}
 use Rattle.refusals.specs.Grounds.{Ground, earliest_of, numbers_of}
 use Rattle.rules.specs.Answers.{spoke}
+use Rattle.rules.specs.Tasks.{count_of}
 use Rattle.rules.specs.Batches.{tape_part}
 use Rattle.rules.specs.Grounds.{word_grounds}
 use Rattle.rules.specs.AnyCall.{Call, start, speak, hear, grounds_of, ground_of, result_of}
+use Rattle.rules.specs.declared.state.Task.{Task}
 use Rattle.rules.specs.declared.state.State.{State}
 use Rattle.needs.specs.Figures.{Figures, needs_grounds, needs_rule}
 
@@ -53,30 +55,30 @@ plain_tapes n pair side first count = chained count (λ i. plain_tape n pair sid
 
 pub record AsRun : Type 0 where
   -- tapes that a call takes have the figure's length, and no other
-  pub start_tapes : (s : State) (first count : ℕ) (shares tapes work tally : List ℕ) → ground_of s (start first count shares tapes work tally) ≡ 0
-      → length tapes ≡ tape_needed s.n count
+  pub start_tapes : (s : State) (first : ℕ) (task : Task) (shares tapes work tally : List ℕ) → ground_of s (start first task shares tapes work tally) ≡ 0
+      → length tapes ≡ tape_needed s.n (count_of task)
   pub speak_tapes : (s : State) (first round : ℕ) (tapes work out : List ℕ) → ground_of s (speak first round tapes work out) ≡ 0
-      → length tapes ≡ tape_needed s.n s.batch.count
+      → length tapes ≡ tape_needed s.n (count_of s.batch.task)
   pub hear_tapes : (s : State) (first round : ℕ) (tapes work incoming : List ℕ) → ground_of s (hear first round tapes work incoming) ≡ 0
-      → length tapes ≡ tape_needed s.n s.batch.count
+      → length tapes ≡ tape_needed s.n (count_of s.batch.task)
   -- and there are such tapes for every listed width, each box, any first number and each count: the plain tapes joined, of which each part is in order
   pub tapes_fit : (n pair side first count : ℕ) → listed n ≡ true → is_side side ≡ true → count_fits count ≡ true
       → (length (plain_tapes n pair side first count) ≡ tape_needed n count)
       × ((i : ℕ) → i < count → in_order n pair side (first + i) (tape_part n (plain_tapes n pair side first count) i) ≡ true)
   -- a speak that is not refused answers the round's figure
   pub spoken : (s : State) (first round : ℕ) (tapes work out : List ℕ) → ground_of s (speak first round tapes work out) ≡ 0
-      → (result_of s (speak first round tapes work out)).reply ≡ spoke (round_needed s.n s.batch.count round)
+      → (result_of s (speak first round tapes work out)).reply ≡ spoke (round_needed s.n (count_of s.batch.task) round)
   -- a start that comes to its last 12 is refused with it just when work is shorter than its figure
-  pub start_room : (s : State) (first count : ℕ) (shares tapes work tally : List ℕ) → Reached 12 s (start first count shares tapes work tally)
-      → ground_of s (start first count shares tapes work tally) ≡ cond (ltb (length work) (work_needed s.n count)) 12 0
+  pub start_room : (s : State) (first : ℕ) (task : Task) (shares tapes work tally : List ℕ) → Reached 12 s (start first task shares tapes work tally)
+      → ground_of s (start first task shares tapes work tally) ≡ cond (ltb (length work) (work_needed s.n (count_of task))) 12 0
   -- a speak, just when work or out is shorter than its figure
   pub speak_room : (s : State) (first round : ℕ) (tapes work out : List ℕ) → Reached 12 s (speak first round tapes work out)
       → ground_of s (speak first round tapes work out)
-      ≡ cond (ltb (length work) (work_needed s.n s.batch.count) || ltb (length out) (round_needed s.n s.batch.count round)) 12 0
+      ≡ cond (ltb (length work) (work_needed s.n (count_of s.batch.task)) || ltb (length out) (round_needed s.n (count_of s.batch.task) round)) 12 0
   -- a hear, just when work is shorter or incoming has another length; otherwise only its words can be refused, with 13
   pub hear_room : (s : State) (first round : ℕ) (tapes work incoming : List ℕ) → Reached 12 s (hear first round tapes work incoming)
       → ground_of s (hear first round tapes work incoming)
-      ≡ cond (ltb (length work) (work_needed s.n s.batch.count) || not (eqb (length incoming) (round_needed s.n s.batch.count round))) 12
+      ≡ cond (ltb (length work) (work_needed s.n (count_of s.batch.task)) || not (eqb (length incoming) (round_needed s.n (count_of s.batch.task) round))) 12
       (earliest_of (word_grounds s.n incoming))
   -- several jobs: so many times one
   pub several : (n count : ℕ) → listed n ≡ true → count_fits count ≡ true → needs_rule n count ≡ times count (needs_rule n 1)

@@ -21,7 +21,7 @@ use Rattle.tally.specs.Tally.{tally_fits, tapes_of, is_fresh, late}
 use Rattle.rules.specs.Tasks.{count_of, bounds_fit, task_fits, pairs_of}
 use Rattle.rules.specs.Modes.{mode_of, is_asleep, in_job, is_due}
 use Rattle.rules.specs.Batches.{x_in, y_in, tape_part}
-use Rattle.rules.specs.Grounds.{idle_grounds, job_grounds, due_grounds, tapes_long, tape_ordered, tapes_grounds, message_fits, room_grounds, word_grounds, words_fit, wake_grounds, asked_parts, one_parts, start_parts, turn_parts, turn_grounds, wake_ground, start_ground, speak_ground, hear_ground}
+use Rattle.rules.specs.Grounds.{job_grounds, due_grounds, tapes_long, tape_ordered, tapes_grounds, message_fits, room_grounds, word_grounds, words_fit, wake_grounds, asked_parts, one_parts, start_parts, turn_parts, turn_grounds, wake_ground, start_ground, speak_ground, hear_ground}
 use Rattle.rules.specs.Moves.{Asked}
 use Rattle.rules.specs.declared.state.Task.{Task}
 use Rattle.rules.specs.declared.state.Task.TheVariants.{Compare, Band}
@@ -31,7 +31,7 @@ use Rattle.rules.specs.declared.state.State.{State}
 use Rattle.rules.proofs.Tasks.{counted, bounds_in}
 use Rattle.rules.proofs.Batches.{count_most}
 use Rattle.rules.proofs.Chained.{chained_none}
-use Rattle.rules.proofs.Ranges.{Ranged, ranged, awake_range, awake_listed, Due, due_job, JobRange, job_range}
+use Rattle.rules.proofs.Ranges.{Ranged, ranged, awake_range, Due, due_job, JobRange, job_range}
 
 both_true : (a b : Bool) → not a || not b ≡ false → (a ≡ true) × (b ≡ true)
 both_true true true e = (refl, refl)

@@ -1,4 +1,4 @@
-// The type of the box's state. The rules of the five calls are the definitions in specs/.
+// The type of the box's state. The rules of the calls are the definitions in specs/.
 #![tactic(auto)]
 
 pub mod state;

@@ -7,6 +7,7 @@ use lib.ListN.{length, get_or}
 use Rattle.board.proofs.Zeros.{zeros_append, zeros_most}
 use Rattle.lists.proofs.Tabulate.{tabulated}
 use Rattle.protocol.specs.Sizes.{round_for}
+use Rattle.rules.specs.Tasks.{count_of}
 use Rattle.rules.specs.declared.state.State.{State}
 use Rattle.rules.specs.declared.state.Turn.{Turn}
 use Rattle.rules.proofs.Batches.{count_most}
@@ -43,5 +44,5 @@ arrived n spelling sent after message front is =
 
 -- no round has more words than there is room for
 pub round_most : {s : State} {first : ℕ} {turn : Turn} {tapes work : List ℕ} → Ready s first turn tapes work → (round : ℕ)
-    → round_for s.n s.batch.count round ≤ 23112
-round_most {s} r round = joined_most s.n s.batch.count (ranged s r.ranged).width (count_most s.batch.count (ready_counted r)).1 round
+    → round_for s.n (count_of s.batch.task) round ≤ 23112
+round_most {s} r round = joined_most s.n (count_of s.batch.task) (ranged s r.ranged).width (count_most (count_of s.batch.task) (ready_counted r)).1 round

@@ -11,18 +11,21 @@ use Rattle.protocol.specs.Rounds.{earlier_rounds, last_round, message}
 use Rattle.protocol.specs.Sizes.{most_jobs, count_fits}
 use Rattle.refusals.specs.declared.Refusal.{Refusal}
 use Rattle.rules.specs.Answers.{finished, heard_or_finished, reply_of}
-use Rattle.rules.specs.Batches.{each_job, party_of, joined_message}
+use Rattle.rules.specs.Tasks.{count_of, answer_count, band_share}
+use Rattle.rules.specs.Batches.{each_job, party_of, joined_message, answers_given}
 use Rattle.rules.specs.Calls.{outcome, heard_after}
 use Rattle.rules.specs.declared.state.State.{State}
+use Rattle.rules.specs.declared.state.Task.{Task}
+use Rattle.rules.specs.declared.state.Task.TheVariants.{Compare, Band}
 use Rattle.rules.proofs.Batches.{count_most, each_at, each_same}
 use Rattle.rules.proofs.Ranges.{ranged}
 use Rattle.exchange.specs.Boxes.{works_of}
 use Rattle.exchange.proofs.Exchanges.{more_own, more_others, last_own, last_others}
-use Rattle.exchange.proofs.Course.{Course, course_first, course_width, course_count, course_sends, course_tells, course_next, course_last}
+use Rattle.exchange.proofs.Course.{Course, course_first, course_width, course_sends, course_tells, course_next, course_last}
 use Rattle.vectors.specs.declared.spelling.Spelling.{Spelling}
 use Rattle.vectors.specs.Numbers.{spelled}
 use Rattle.vectors.specs.Due.{Due}
-use Rattle.vectors.specs.Job.{messages, held, messages_to, transcript, shares_in}
+use Rattle.vectors.specs.Job.{messages, held, messages_to, given, transcript, shares_in}
 use Rattle.vectors.specs.Sent.{respelled_in}
 use Rattle.vectors.proofs.Jobs.{ready_counted, shares_told}
 use Rattle.vectors.proofs.Sent.{zeros_to, zeros_none, zeros_more, zeros_fit}
@@ -36,10 +39,20 @@ take_each count f fits =
     (length-take-le count (each_job count f) (omega (arith, few, length_tabulate most_jobs (λ k. cond (ltb k count) (f k) 0))))
     (λ i less. get_or-take count (each_job count f) i 0 less ∙ each_at count f i fits less)
 
+-- so of the answer shares that a box gives
+take_given : (n side : ℕ) (task : Task) (f : ℕ → ℕ) → count_fits (count_of task) ≡ true
+    → take (answer_count task) (answers_given n side task (each_job (count_of task) f)) ≡ given n side task f
+unfolding count_fits
+take_given n side (Compare count) f fits = take_each count f fits
+take_given n side (Band low high) f fits = take_each 1 (λ i. band_share n side (f 0) (f 1)) refl
+
 -- the boxes were f1 and f2, with works v1 and v2, when `text` was still unread, and their first messages were still to come
 module _ (text : List ℕ) (spelling : Spelling) (first : ℕ) (f1 f2 : State) (t1 t2 v1 v2 : List ℕ) where
+  abbrev task : Task
+  task = f1.batch.task
+
   abbrev count : ℕ
-  count = f1.batch.count
+  count = count_of task
 
   abbrev boxes1 : ℕ → Party
   boxes1 = party_of f1 t1
@@ -58,12 +71,15 @@ module _ (text : List ℕ) (spelling : Spelling) (first : ℕ) (f1 f2 : State) (
   pub record Told (k : ℕ) (rest : List ℕ) (s1 s2 : State) (w1 w2 : List ℕ) (zeros : ℕ) : Type 0 where
     pub box1 : Course f1 first t1 k (λ i. (after k i).own) s1 w1
     pub box2 : Course f2 first t2 k (λ i. (after k i).others) s2 w2
-    pub read : Some rest ≡ left text count boxes1 boxes2 blanks k
+    pub read : Some rest ≡ left text f1.n task boxes1 boxes2 blanks k
     pub counted : zeros ≡ zeros_to spelling count boxes1 boxes2 blanks k
 
   module _ (begun : Due first 1 f1 f2 t1 t2 v1 v2) where
     fits : count_fits count ≡ true
     fits = ready_counted begun.box1
+
+    same_count : count ≡ count_of f2.batch.task
+    same_count = ap count_of begun.task
 
     pub told_first : Told 0 text f1 f2 v1 v2 0
     unfolding messages_to spelled exchanged
@@ -82,7 +98,9 @@ module _ (text : List ℕ) (spelling : Spelling) (first : ℕ) (f1 f2 : State) (
             box1 = r.box1.due;
             box2 = r.box2.due;
             width = course_width r.box1 ∙ begun.width ∙ sym (course_width r.box2);
-            count = course_count r.box1 ∙ begun.count ∙ sym (course_count r.box2);
+            side1 = ap (λ (s : State). s.side) r.box1.same ∙ begun.side1;
+            side2 = ap (λ (s : State). s.side) r.box2.same ∙ begun.side2;
+            task = ap (λ (s : State). s.batch.task) r.box1.same ∙ begun.task ∙ sym (ap (λ (s : State). s.batch.task) r.box2.same);
           }
 
       -- the messages that they send next are those of the exchange
@@ -92,10 +110,10 @@ module _ (text : List ℕ) (spelling : Spelling) (first : ℕ) (f1 f2 : State) (
       sends : sent ≡ messages count boxes1 boxes2 (after k) (k + 1)
       sends =
           ap₂ ◌++◌ (course_sends r.box1 (k + 1))
-          (course_sends r.box2 (k + 1) ∙ ap (λ (c : ℕ). chained c (λ i. message (boxes2 i) (after k i).others (k + 1))) (sym begun.count))
+          (course_sends r.box2 (k + 1) ∙ ap (λ (c : ℕ). chained c (λ i. message (boxes2 i) (after k i).others (k + 1))) (sym same_count))
 
-      reads : (o : Option (List ℕ)) → o ≡ spelled rest sent → o ≡ left text count boxes1 boxes2 blanks (k + 1)
-      reads o e = e ∙ ap (spelled rest) sends ∙ sym (left_more text count boxes1 boxes2 blanks k rest r.read)
+      reads : (o : Option (List ℕ)) → o ≡ spelled rest sent → o ≡ left text f1.n task boxes1 boxes2 blanks (k + 1)
+      reads o e = e ∙ ap (spelled rest) sends ∙ sym (left_more text f1.n task boxes1 boxes2 blanks k rest r.read)
 
       pub told_counts : (more : ℕ) → more ≡ respelled_in spelling sent → zeros + more ≡ zeros_to spelling count boxes1 boxes2 blanks (k + 1)
       told_counts more e = zeros_more spelling count boxes1 boxes2 blanks k zeros more r.counted (e ∙ ap (respelled_in spelling) sends)
@@ -112,8 +130,8 @@ module _ (text : List ℕ) (spelling : Spelling) (first : ℕ) (f1 f2 : State) (
           )
 
       -- a text that has not these messages tells no job
-      pub told_none : k ≤ earlier_rounds → None ≡ spelled rest sent → spelled text (transcript count boxes1 boxes2 blanks) ≡ None
-      told_none few none = told_fails text count boxes1 boxes2 blanks (k + 1) (omega (arith, few)) (sym (reads None none))
+      pub told_none : k ≤ earlier_rounds → None ≡ spelled rest sent → spelled text (transcript f1.n task boxes1 boxes2 blanks) ≡ None
+      told_none few none = told_fails text f1.n task boxes1 boxes2 blanks (k + 1) (omega (arith, few)) (sym (reads None none))
 
       -- one that has goes on after them with `rest'`, and both hear
       module _ {rest' : List ℕ} {s1' s2' : State} {w1' w2' : List ℕ} (heard1 heard2 : Result (Option (List ℕ)) Refusal) (more : ℕ)
@@ -123,8 +141,12 @@ module _ (text : List ℕ) (spelling : Spelling) (first : ℕ) (f1 f2 : State) (
         pub told_next : k < earlier_rounds → Told (k + 1) rest' s1' s2' w1' w2' (zeros + more)
         told_next less =
             record {
-              box1 = course_next r.box1 _ _ (course_tells r.box2 f1.n count begun.width begun.count (k + 1)) _ s1' _ less hears1 _ (λ i. more_own (boxes1 i) (boxes2 i) (blanks i) k);
-              box2 = course_next r.box2 _ _ (course_tells r.box1 f2.n f2.batch.count (sym begun.width) (sym begun.count) (k + 1)) _ s2' _ less hears2 _ (λ i. more_others (boxes1 i) (boxes2 i) (blanks i) k);
+              box1 =
+                  course_next r.box1 _ _ (course_tells r.box2 f1.n count begun.width same_count (k + 1)) _ s1' _ less hears1 _
+                  (λ i. more_own (boxes1 i) (boxes2 i) (blanks i) k);
+              box2 =
+                  course_next r.box2 _ _ (course_tells r.box1 f2.n (count_of f2.batch.task) (sym begun.width) (sym same_count) (k + 1)) _ s2' _ less hears2 _
+                  (λ i. more_others (boxes1 i) (boxes2 i) (blanks i) k);
               read = reads (Some rest') read;
               counted = told_counts more here;
             }
@@ -141,26 +163,34 @@ module _ (text : List ℕ) (spelling : Spelling) (first : ℕ) (f1 f2 : State) (
       abbrev others : ℕ → ℕ
       others i = answer_others (boxes1 i) (boxes2 i) (blanks i)
 
-      shares1 : shares_in heard1 ≡ Some (each_job count own)
+      shares1 : shares_in heard1 ≡ Some (answers_given f1.n 1 task (each_job count own))
       shares1 =
           shares_told heard1 _
-          (course_last r.box1 _ _ (course_tells r.box2 f1.n count begun.width begun.count last_round) _ s1' w1' refl hears1
-          ∙ ap finished (each_same count _ own (λ i less. sym (last_own (boxes1 i) (boxes2 i) (blanks i)))))
+          (course_last r.box1 _ _ (course_tells r.box2 f1.n count begun.width same_count last_round) _ s1' w1' refl hears1
+          ∙ ap₂ (λ (side : ℕ) (each : List ℕ). finished (answers_given f1.n side task each)) begun.side1
+          (each_same count _ own (λ i less. sym (last_own (boxes1 i) (boxes2 i) (blanks i)))))
 
-      shares2 : shares_in heard2 ≡ Some (each_job count others)
+      -- box 2's, by its own width and task, which are box 1's
+      abbrev others_given : ℕ → Task → List ℕ
+      others_given n task = answers_given n 2 task (each_job (count_of task) others)
+
+      shares2 : shares_in heard2 ≡ Some (answers_given f1.n 2 task (each_job count others))
       shares2 =
           shares_told heard2 _
-          (course_last r.box2 _ _ (course_tells r.box1 f2.n f2.batch.count (sym begun.width) (sym begun.count) last_round) _ s2' w2' refl hears2
-          ∙ ap finished (each_same f2.batch.count _ others (λ i less. sym (last_others (boxes1 i) (boxes2 i) (blanks i))))
-          ∙ ap (λ (c : ℕ). finished (each_job c others)) (sym begun.count))
+          (course_last r.box2 _ _ (course_tells r.box1 f2.n (count_of f2.batch.task) (sym begun.width) (sym same_count) last_round) _ s2' w2' refl hears2
+          ∙ ap₂ (λ (side : ℕ) (each : List ℕ). finished (answers_given f2.n side f2.batch.task each)) begun.side2
+          (each_same (count_of f2.batch.task) _ others (λ i less. sym (last_others (boxes1 i) (boxes2 i) (blanks i))))
+          ∙ ap₂ (λ (n : ℕ) (task : Task). finished (others_given n task)) (sym begun.width) (sym begun.task))
 
-      pub told_shares : option_and_then (λ a. option_and_then (λ b. spelled rest' (take count a ++ take count b)) (shares_in heard2)) (shares_in heard1)
-          ≡ spelled text (transcript count boxes1 boxes2 blanks)
-      told_shares =
+      pub told_shares : (each : ℕ) → each ≡ answer_count task
+          → option_and_then (λ a. option_and_then (λ b. spelled rest' (take each a ++ take each b)) (shares_in heard2)) (shares_in heard1)
+          ≡ spelled text (transcript f1.n task boxes1 boxes2 blanks)
+      told_shares each counted =
           rw (
+            counted,
             shares1,
             shares2,
-            take_each count own fits,
-            take_each count others fits,
-            told_last text count boxes1 boxes2 blanks rest' (reads r (Some rest') read),
+            take_given f1.n 1 task own fits,
+            take_given f1.n 2 task others fits,
+            told_last text f1.n task boxes1 boxes2 blanks rest' (reads r (Some rest') read),
           )

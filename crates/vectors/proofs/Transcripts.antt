@@ -7,11 +7,18 @@ use Rattle.lists.proofs.Tabulate.{tabulate_same}
 use Rattle.protocol.specs.Products.{Party}
 use Rattle.protocol.specs.Rounds.{last_round}
 use Rattle.protocol.specs.Exchange.{Both}
+use Rattle.rules.specs.Tasks.{count_of, answer_count}
+use Rattle.rules.specs.OneByOne.{answer_from}
+use Rattle.rules.specs.declared.state.Task.{Task}
+use Rattle.rules.proofs.Batches.{from_same}
 use Rattle.vectors.specs.Numbers.{spelled}
-use Rattle.vectors.specs.Job.{messages, held, messages_to, answers, transcript}
+use Rattle.vectors.specs.Job.{messages, held, messages_to, given, answers, transcript}
 use Rattle.vectors.proofs.Readings.{spelled_append}
 
-module _ (text : List ℕ) (count : ℕ) (box1 box2 : ℕ → Party) (w : ℕ → Both) where
+module _ (text : List ℕ) (n : ℕ) (task : Task) (box1 box2 : ℕ → Party) (w : ℕ → Both) where
+  abbrev count : ℕ
+  count = count_of task
+
   -- what is left of the text after so many rounds
   abbrev pub left : ℕ → Option (List ℕ)
   left k = spelled text (messages_to count box1 box2 w k)
@@ -34,13 +41,13 @@ module _ (text : List ℕ) (count : ℕ) (box1 box2 : ℕ → Party) (w : ℕ �
       (λ within. rw (spelled_append text (messages_to count box1 box2 w m) (round_after m), fails_to m k within e))
       (cases_lt m k)
 
-  pub told_fails : (k : ℕ) → k ≤ last_round → left k ≡ None → spelled text (transcript count box1 box2 w) ≡ None
+  pub told_fails : (k : ℕ) → k ≤ last_round → left k ≡ None → spelled text (transcript n task box1 box2 w) ≡ None
   told_fails k few none =
-      rw (spelled_append text (messages_to count box1 box2 w last_round) (answers count box1 box2 w), fails_to last_round k few none)
+      rw (spelled_append text (messages_to count box1 box2 w last_round) (answers n task box1 box2 w), fails_to last_round k few none)
 
   -- after the last, the answer shares decide
-  pub told_last : (rest : List ℕ) → Some rest ≡ left last_round → spelled text (transcript count box1 box2 w) ≡ spelled rest (answers count box1 box2 w)
-  told_last rest all = rw (spelled_append text (messages_to count box1 box2 w last_round) (answers count box1 box2 w), ← all)
+  pub told_last : (rest : List ℕ) → Some rest ≡ left last_round → spelled text (transcript n task box1 box2 w) ≡ spelled rest (answers n task box1 box2 w)
+  told_last rest all = rw (spelled_append text (messages_to count box1 box2 w last_round) (answers n task box1 box2 w), ← all)
 
 -- it is told by what the boxes have of the comparisons below the count
 module _ (count : ℕ) (box1 box2 box1' box2' : ℕ → Party) (w w' : ℕ → Both) (same1 : (i : ℕ) → i < count → box1 i ≡ box1' i)
@@ -56,11 +63,17 @@ module _ (count : ℕ) (box1 box2 box1' box2' : ℕ → Party) (w w' : ℕ → B
   messages_same zero = refl
   messages_same (suc k) = ap₂ ◌++◌ (messages_same k) (round_same k (suc k))
 
-  answers_same : answers count box1 box2 w ≡ answers count box1' box2' w'
-  answers_same =
-      ap₂ ◌++◌
-      (tabulate_same count _ _ (λ i less. rw (same1 i less, same2 i less, same i less) refl))
-      (tabulate_same count _ _ (λ i less. rw (same1 i less, same2 i less, same i less) refl))
+-- the answer shares too
+given_same : (n side : ℕ) (task : Task) (f g : ℕ → ℕ) → ((i : ℕ) → i < count_of task → f i ≡ g i) → given n side task f ≡ given n side task g
+given_same n side task f g same =
+    tabulate_same (answer_count task) (answer_from n side task f) (answer_from n side task g) (λ i less. from_same n side task f g i same less)
 
-  pub transcript_same : transcript count box1 box2 w ≡ transcript count box1' box2' w'
-  transcript_same = ap₂ ◌++◌ (messages_same last_round) answers_same
+module _ (n : ℕ) (task : Task) (box1 box2 box1' box2' : ℕ → Party) (w w' : ℕ → Both) (same1 : (i : ℕ) → i < count_of task → box1 i ≡ box1' i)
+    (same2 : (i : ℕ) → i < count_of task → box2 i ≡ box2' i) (same : (i : ℕ) → i < count_of task → w i ≡ w' i) where
+  pub transcript_same : transcript n task box1 box2 w ≡ transcript n task box1' box2' w'
+  transcript_same =
+      ap₂ ◌++◌
+      (messages_same (count_of task) box1 box2 box1' box2' w w' same1 same2 same last_round)
+      (ap₂ ◌++◌
+      (given_same n 1 task _ _ (λ i less. rw (same1 i less, same2 i less, same i less) refl))
+      (given_same n 2 task _ _ (λ i less. rw (same1 i less, same2 i less, same i less) refl)))

@@ -1,5 +1,5 @@
 -- What a text must say of a job: its numbers are the job's, then all that both boxes send, then their answer shares.
-use Rattle.std.specs.Prelude.{ℕ, zero, suc, ◌+◌, ◌*◌, ◌/◌, ◌%◌, Bool, ◌&&◌, List, [], ◌∷◌, ◌++◌, eqb, replicate, take, Option, None, Result, Ok, Err}
+use Rattle.std.specs.Prelude.{ℕ, zero, suc, ◌+◌, ◌/◌, ◌%◌, Bool, ◌&&◌, List, [], ◌∷◌, ◌++◌, eqb, replicate, take, Option, None, Result, Ok, Err}
 use Rattle.std.specs.Option.{is_some, unwrap_or}
 use Rattle.lists.specs.Joined.{chained}
 use Rattle.lists.specs.Tabulate.{tabulate}
@@ -10,14 +10,17 @@ use Rattle.protocol.specs.Rounds.{last_round, message}
 use Rattle.protocol.specs.Exchange.{Both, exchanged, answer_own, answer_others}
 use Rattle.protocol.specs.Sizes.{tape_for}
 use Rattle.tally.specs.Tally.{longest_tally}
+use Rattle.rules.specs.declared.state.Task.{Task}
+use Rattle.rules.specs.Tasks.{count_of, pairs_of, answer_count}
 use Rattle.rules.specs.Batches.{x_in, y_in, tape_part, work_part}
+use Rattle.rules.specs.OneByOne.{answer_from}
 use Rattle.exchange.specs.Opening.{first_state, refusal_of, begun}
 use Rattle.exchange.specs.Boxes.{works}
 use Rattle.exchange.specs.Rooms.{blank_works}
 use Rattle.vectors.specs.declared.head.Form.{Form}
 use Rattle.vectors.specs.declared.head.Job.{Job}
 use Rattle.vectors.specs.Numbers.{numbers_from, read_to, rest_after, spelled}
-use Rattle.vectors.specs.Head.{job_in, past_job}
+use Rattle.vectors.specs.Head.{list_words, job_in, past_job}
 
 -- ---- what the boxes of a job say, by what each has of every comparison, and by both works of every one
 
@@ -36,14 +39,18 @@ messages_to count box1 box2 w zero = []
 messages_to count box1 box2 w (suc r) =
     messages_to count box1 box2 w r ++ messages count box1 box2 (held box1 box2 w r) (suc r)
 
+-- the answer shares that the box of that side gives: from its comparisons' each, or a band's one
+abbrev pub given : ℕ → ℕ → Task → (ℕ → ℕ) → List ℕ
+given n side task each = tabulate (answer_count task) (answer_from n side task each)
+
 -- box 1's answer shares, then box 2's
-abbrev pub answers : ℕ → (ℕ → Party) → (ℕ → Party) → (ℕ → Both) → List ℕ
-answers count box1 box2 w =
-    tabulate count (λ i. answer_own (box1 i) (box2 i) (w i)) ++ tabulate count (λ i. answer_others (box1 i) (box2 i) (w i))
+abbrev pub answers : ℕ → Task → (ℕ → Party) → (ℕ → Party) → (ℕ → Both) → List ℕ
+answers n task box1 box2 w =
+    given n 1 task (λ i. answer_own (box1 i) (box2 i) (w i)) ++ given n 2 task (λ i. answer_others (box1 i) (box2 i) (w i))
 
 -- every round, then the answer shares
-abbrev pub transcript : ℕ → (ℕ → Party) → (ℕ → Party) → (ℕ → Both) → List ℕ
-transcript count box1 box2 w = messages_to count box1 box2 w last_round ++ answers count box1 box2 w
+abbrev pub transcript : ℕ → Task → (ℕ → Party) → (ℕ → Party) → (ℕ → Both) → List ℕ
+transcript n task box1 box2 w = messages_to (count_of task) box1 box2 w last_round ++ answers n task box1 box2 w
 
 -- the answer shares that a hear gave, if any
 abbrev pub shares_in : Result (Option (List ℕ)) Refusal → Option (List ℕ)
@@ -56,18 +63,23 @@ shares_in (Err refusal) = None
 unfoldable pub unused_tally : List ℕ
 unused_tally = replicate longest_tally 255
 
--- a box comes to the job and is not refused; of its list the shares of so many comparisons are lent
+-- a box comes to the job and is not refused; of its list the words of the task are lent
 abbrev pub comes : Job → ℕ → List ℕ → List ℕ → Bool
 comes job side list tapes =
-    let shares = take (2 * job.count) list in
-    eqb (refusal_of (begun first_state job.n side job.pair job.first job.count shares tapes blank_works unused_tally).reply) 0
+    let shares = take (list_words job.task) list in
+    eqb (refusal_of (begun first_state job.n side job.pair job.first job.task shares tapes blank_works unused_tally).reply) 0
 
--- what each box has of comparison i
+-- what the box of that side has of comparison i
+abbrev pub party_at : Job → ℕ → List ℕ → List ℕ → ℕ → Party
+party_at job side list tapes i =
+    let pairs = pairs_of side job.task list in
+    party job.n side (x_in pairs i) (y_in pairs i) (tape_part job.n tapes i)
+
 abbrev pub box1_of : Job → List ℕ → ℕ → Party
-box1_of job tapes i = party job.n 1 (x_in job.box1 i) (y_in job.box1 i) (tape_part job.n tapes i)
+box1_of job tapes = party_at job 1 job.box1 tapes
 
 abbrev pub box2_of : Job → List ℕ → ℕ → Party
-box2_of job tapes i = party job.n 2 (x_in job.box2 i) (y_in job.box2 i) (tape_part job.n tapes i)
+box2_of job tapes = party_at job 2 job.box2 tapes
 
 abbrev pub blanks_of : Job → ℕ → Both
 blanks_of job i = works (work_part job.n blank_works i) (work_part job.n blank_works i)
@@ -77,12 +89,12 @@ unfoldable pub job_told : List ℕ → Job → List ℕ → List ℕ → Bool
 job_told text job t1 t2 =
     comes job 1 job.box1 t1
     && comes job 2 job.box2 t2
-    && is_some (spelled text (transcript job.count (box1_of job t1) (box2_of job t2) (blanks_of job)))
+    && is_some (spelled text (transcript job.n job.task (box1_of job t1) (box2_of job t2) (blanks_of job)))
 
 -- the text goes on with box 1's tapes, box 2's tapes, and the job on them
 unfoldable pub tapes_told : List ℕ → Job → Bool
 tapes_told text job =
-    let words = tape_for job.n job.count in
+    let words = tape_for job.n (count_of job.task) in
     let rest = rest_after words text in
     listed job.n
     && is_some (read_to words text)

@@ -1,11 +1,11 @@
 // Jobs of both boxes against the words of their files.
 ghost use Rattle.std.specs.Prelude.{ℕ, ◌≡◌, ◌<◌, ◌≤◌, ◌++◌, length, take, IfSome};
 ghost use Rattle.std.specs.Option.{is_some, option_map, option_and_then};
-ghost use Rattle.protocol.specs.Products.{party};
 ghost use Rattle.protocol.specs.Rounds.{last_round};
 ghost use Rattle.protocol.specs.Sizes.{most_jobs};
 ghost use Rattle.rules.specs.Answers.{heard_or_finished, reply_of};
-ghost use Rattle.rules.specs.Batches.{party_of, joined_message, x_in, y_in, tape_part};
+ghost use Rattle.rules.specs.Tasks.{count_of, answer_count};
+ghost use Rattle.rules.specs.Batches.{party_of, joined_message};
 ghost use Rattle.rules.specs.Calls.{outcome, heard_after};
 ghost use Rattle.rules.specs.declared.state.Turn.TheVariants.{Speak};
 ghost use Rattle.tally.specs.Tally.{longest_tally};
@@ -13,17 +13,17 @@ ghost use Rattle.exchange.specs.Boxes.{Ready, works_of};
 ghost use Rattle.exchange.specs.Rooms.{blank_works};
 ghost use Rattle.vectors.specs.Numbers.{spelled};
 ghost use Rattle.vectors.specs.Due.{Due};
-ghost use Rattle.vectors.specs.Job.{messages_to, transcript, shares_in, unused_tally, comes, job_told, tapes_told, agreed};
+ghost use Rattle.vectors.specs.Job.{messages_to, transcript, shares_in, unused_tally, comes, party_at, job_told, tapes_told, agreed};
 ghost use Rattle.vectors.specs.Sent.{respelled_in, job_sent, tapes_sent, sent, Named, Agreeing};
 
-use crate::head::{self, Form, Job, MOST_SHARES};
+use crate::head::{self, Form, Job, MOST_SHARES, list_words};
 use crate::numbers::Reader;
 use crate::spelling::{Spelling, carry};
 use compare::words::LAST_ROUND;
 use exchange::Heard;
 use field::Width;
 use rules::state;
-use rules::state::State;
+use rules::state::{State, Task};
 use std::rt::Files;
 
 // A file's job, both of whose boxes agree with it: what its text names, and how many zeros of its messages were respelled.
@@ -31,12 +31,12 @@ use std::rt::Files;
 pub struct Agreement {
     pub n: u32,
     pub first: u32,
-    pub count: u32,
+    pub task: Task,
     pub zeros: usize,
 }
 
 // Of a file that is there and has every word of its job as the boxes give it. Which text was read cannot be said, only that one that agrees names this
-// width, first tape and count, and so many zeros: they are printed, so that a file read in another's place shows, and a zero that was left as it is.
+// width, first tape and task, and so many zeros: they are printed, so that a file read in another's place shows, and a zero that was left as it is.
 pub fn compared_with(
     rt: &impl Files,
     name: &[u8],
@@ -62,7 +62,7 @@ fn run(text: &[u8], form: Form, spelling: Spelling) -> Option<Agreement>
     Some(Agreement {
         n: job.n,
         first: job.first,
-        count: job.count,
+        task: job.task,
         zeros,
     })
 }
@@ -70,15 +70,16 @@ fn run(text: &[u8], form: Form, spelling: Spelling) -> Option<Agreement>
 // How many zeros of a job's messages were respelled, if the job agrees.
 #[tactic(auto, using(crate::proofs::Readings::filled), unfolding(crate::specs::Job::tapes_told, crate::specs::Sent::tapes_sent))]
 fn on_tapes(text: &mut Reader, job: Job, spelling: Spelling) -> Option<usize>
-    requires { job.count ≤ most_jobs }
+    requires { count_of job.task ≤ most_jobs }
     ensures agrees { is_some result ≡ tapes_told text.old.text.now job }
     ensures zeros { IfSome result (λ zeros. zeros ≡ respelled_in spelling (tapes_sent text.old.text.now job)) }
 {
     let width = Width::new(job.n)?;
+    let count = job.task.count();
     let mut t1 = exchange::rooms::blank_tapes();
     let mut t2 = exchange::rooms::blank_tapes();
-    let t1 = exchange::rooms::tapes_room(width, job.count, &mut t1);
-    let t2 = exchange::rooms::tapes_room(width, job.count, &mut t2);
+    let t1 = exchange::rooms::tapes_room(width, count, &mut t1);
+    let t2 = exchange::rooms::tapes_room(width, count, &mut t2);
     text.fill(&mut *t1)?;
     text.fill(&mut *t2)?;
     opened(text, job, &*t1, &*t2, spelling)
@@ -101,12 +102,11 @@ fn begun(
     tapes: &[u32],
     work: &[u32],
 ) -> Option<State>
-    requires { (job.count ≤ most_jobs) × (work.now ≡ blank_works) }
+    requires { (count_of job.task ≤ most_jobs) × (work.now ≡ blank_works) }
     ensures comes { is_some result ≡ comes job side list tapes.now }
     ensures ready { IfSome result (λ s. Ready s job.first (Speak 1) tapes.now work.now) }
-    ensures same { IfSome result (λ s. (s.n ≡ job.n) × (s.batch.count ≡ job.count)) }
-    ensures parties { IfSome result (λ s. (i : ℕ) → i < job.count
-        → party_of s tapes.now i ≡ party job.n side (x_in list i) (y_in list i) (tape_part job.n tapes.now i)) }
+    ensures same { IfSome result (λ s. (s.n ≡ job.n) × (s.side ≡ side) × (s.batch.task ≡ job.task)) }
+    ensures parties { IfSome result (λ s. (i : ℕ) → i < count_of job.task → party_of s tapes.now i ≡ party_at job side list tapes.now i) }
 {
     let mut state = state::FIRST;
     let mut tally = unused_tally();
@@ -114,12 +114,12 @@ fn begun(
         n,
         pair,
         first,
-        count,
+        task,
         ..
     } = job;
-    let shares = &list[..2 * count as usize];
+    let shares = &list[..list_words(task)];
     exchange::begin(
-        &mut state, n, side, pair, first, count, shares, tapes, work, &mut tally,
+        &mut state, n, side, pair, first, task, shares, tapes, work, &mut tally,
     )
     .ok()?;
     Some(state)
@@ -128,7 +128,7 @@ fn begun(
 // Both boxes come to the job, and the rounds follow.
 #[tactic(auto, unfolding(crate::specs::Job::job_told, crate::specs::Sent::job_sent))]
 fn opened(text: &mut Reader, job: Job, t1: &[u32], t2: &[u32], spelling: Spelling) -> Option<usize>
-    requires { job.count ≤ most_jobs }
+    requires { count_of job.task ≤ most_jobs }
     ensures agrees { is_some result ≡ job_told text.old.text.now job t1.now t2.now }
     ensures zeros { IfSome result (λ zeros. zeros ≡ respelled_in spelling (job_sent job t1.now t2.now)) }
 {
@@ -157,11 +157,11 @@ fn exchanged(
     requires { Due first 1 s1.old s2.old t1.now t2.now w1.old w2.old }
     ensures agrees { is_some result
         ≡ is_some (spelled text.old.text.now
-        (transcript s1.old.batch.count (party_of s1.old t1.now) (party_of s2.old t2.now) (works_of s1.old s2.old w1.old w2.old))) }
+        (transcript s1.old.n s1.old.batch.task (party_of s1.old t1.now) (party_of s2.old t2.now) (works_of s1.old s2.old w1.old w2.old))) }
     ensures zeros { IfSome result (λ zeros. zeros ≡ respelled_in spelling
-        (messages_to s1.old.batch.count (party_of s1.old t1.now) (party_of s2.old t2.now) (works_of s1.old s2.old w1.old w2.old) last_round)) }
+        (messages_to (count_of s1.old.batch.task) (party_of s1.old t1.now) (party_of s2.old t2.now) (works_of s1.old s2.old w1.old w2.old) last_round)) }
 {
-    let count = s1.batch.count;
+    let answers = answer_count(s1.batch.task);
     let mut zeros = 0;
     for heard in 0..exchange::EARLIER_ROUNDS {
         let round = compared(
@@ -181,7 +181,7 @@ fn exchanged(
     let last = compared(
         &mut *text, first, LAST_ROUND, s1, s2, t1, t2, w1, w2, spelling,
     )?;
-    answers_same(text, count, last.heard)?;
+    answers_same(text, answers, last.heard)?;
     Some(zeros + last.zeros)
 }
 
@@ -219,7 +219,7 @@ fn compared(
     let mut o1 = exchange::rooms::blank_messages();
     let mut o2 = exchange::rooms::blank_messages();
     let n = Width { bits: s1.n };
-    let words = compare::words::words_for(n, s1.batch.count, round);
+    let words = compare::words::words_for(n, s1.batch.task.count(), round);
     exchange::both_speak(
         first, round, &mut *s1, &mut *s2, t1, t2, &*w1, &*w2, &mut o1, &mut o2,
     );
@@ -236,7 +236,17 @@ fn compared(
     })
 }
 
-// Passes the next numbers, if they are the shares of what both boxes answered, one for each comparison. A hear that gave none doesn't agree.
+// How many answer shares a box gives: one for each comparison, or a band's one.
+fn answer_count(task: Task) -> u32
+    ensures { result ≡ answer_count task }
+{
+    match task {
+        Task::Compare(count) => count,
+        Task::Band(_, _) => 1,
+    }
+}
+
+// Passes the next numbers, if they are the shares of what both boxes answered, so many of each. A hear that gave none doesn't agree.
 fn answers_same(text: &mut Reader, count: u32, heard: Heard) -> Option<()>
     requires { count ≤ most_jobs }
     ensures { is_some result

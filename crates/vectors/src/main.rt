@@ -1,9 +1,8 @@
 // Runs the jobs and test deals of data/, worked out by an independent model, and says which agree in every word: jobs of a single comparison by their tape
-// numbers, jobs of several joined (document 02, P9) and deals by the numbers that their texts name. The jobs run twice: the second time every zero of a
-// message comes to the other box as p (P3), and how many there were is said.
+// numbers, jobs of several joined (document 02, P9), bands (P10) and deals by the numbers that their texts name. The jobs run twice: the second time every
+// zero of a message comes to the other box as p (P3), and how many there were is said.
 #![tactic(auto)]
 
-ghost use Rattle.vectors.specs.declared.head.Form.TheVariants.{Joined};
 ghost use Rattle.vectors.specs.Deal.{AgreeingDeal};
 ghost use Rattle.vectors.specs.Sent.{Agreeing};
 
@@ -19,6 +18,7 @@ use crate::head::Form;
 use crate::job::Agreement;
 use crate::spelling::Spelling;
 use field::Width;
+use rules::state::Task;
 use std::io;
 use std::rt::Files;
 
@@ -62,21 +62,33 @@ fn run_widths(rt: &(impl Files + Print), spelling: Spelling) -> io::Result<()> {
     Ok(())
 }
 
-// Says that a joined job agrees, and which: only of one that does.
-fn tell_joined(rt: &impl Print, told: Agreement, spelling: Spelling) -> io::Result<()>
-    requires { Agreeing Joined spelling told }
+// What is asked of a job: how many comparisons, or a band's bounds.
+fn tell_task(rt: &impl Print, task: Task) -> io::Result<()> {
+    match task {
+        Task::Compare(count) => print!(rt; "count {count}"),
+        Task::Band(low, high) => print!(rt; "bounds {low} and {high}"),
+    }
+}
+
+// Says that a job agrees, and which: only of one that does, in a text of that form.
+fn tell_job(rt: &impl Print, form: Form, told: Agreement, spelling: Spelling) -> io::Result<()>
+    requires { Agreeing form spelling told }
 {
-    print!(rt;
-        ": width {}, tapes from {}, count {}: every word agrees",
-        told.n, told.first, told.count
-    )?;
+    print!(rt; ": width {}, tapes from {}, ", told.n, told.first)?;
+    tell_task(rt, told.task)?;
+    print!(rt; ": every word agrees")?;
     tell_zeros(rt, spelling, told.zeros as u64)
 }
 
-fn run_joined(rt: &(impl Files + Print), name: &str, spelling: Spelling) -> io::Result<()> {
+fn run_job(
+    rt: &(impl Files + Print),
+    name: &str,
+    form: Form,
+    spelling: Spelling,
+) -> io::Result<()> {
     print!(rt; "{name}")?;
-    match job::compared_with(rt, name.as_bytes(), Form::Joined, spelling) {
-        Some(told) => tell_joined(rt, told, spelling),
+    match job::compared_with(rt, name.as_bytes(), form, spelling) {
+        Some(told) => tell_job(rt, form, told, spelling),
         None => println!(rt; ": does not agree"),
     }
 }
@@ -91,7 +103,25 @@ fn run_all_joined(rt: &(impl Files + Print), spelling: Spelling) -> io::Result<(
         "joined-13-2.txt",
         "joined-31-2.txt",
     ] {
-        run_joined(rt, name, spelling)?;
+        run_job(rt, name, Form::Joined, spelling)?;
+    }
+    Ok(())
+}
+
+// Every band, in the same two ways.
+fn run_all_bands(rt: &(impl Files + Print), spelling: Spelling) -> io::Result<()> {
+    for name in [
+        "band-03-1.txt",
+        "band-03-2.txt",
+        "band-03-3.txt",
+        "band-03-4.txt",
+        "band-03-5.txt",
+        "band-05-6.txt",
+        "band-07-7.txt",
+        "band-13-8.txt",
+        "band-31-9.txt",
+    ] {
+        run_job(rt, name, Form::Band, spelling)?;
     }
     Ok(())
 }
@@ -119,6 +149,8 @@ fn main(rt: HostRuntime) -> io::Result<()> {
     run_widths(&rt, Spelling::Respelled)?;
     run_all_joined(&rt, Spelling::AsSent)?;
     run_all_joined(&rt, Spelling::Respelled)?;
+    run_all_bands(&rt, Spelling::AsSent)?;
+    run_all_bands(&rt, Spelling::Respelled)?;
     run_deal(&rt, "deal-03-1.txt")?;
     run_deal(&rt, "deal-03-4294967295.txt")?;
     run_deal(&rt, "deal-05-2463534242.txt")?;

@@ -3,7 +3,6 @@ use Prim.Native.Nat.{ℕ}
 use mathlib.Core.Path.{sym, ap, ap₂, ◌∙◌}
 use Rattle.shares.specs.Reading.{read_words}
 use Rattle.protocol.specs.Sizes.{round_for}
-use Rattle.rules.specs.Tasks.{count_of}
 use Rattle.rules.specs.Batches.{joined_message}
 use Rattle.rules.proofs.Ranges.{ranged}
 use Rattle.exchange.proofs.Delivery.{AtFront, at_front, hears}

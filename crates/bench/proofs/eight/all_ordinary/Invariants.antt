@@ -1,7 +1,7 @@
 -- The bits passed are right.
 use Rattle.std.proofs.Common.{◌≡◌, true, eqb, get_or}
 use Rattle.lists.specs.Every.{every}
-use Rattle.exchange.specs.Jobs.{right_bit}
+use Rattle.rules.specs.Bits.{right_bit}
 use Rattle.bench.proofs.eight.all_ordinary.Given as goal
 
 abbrev pub invariant-loop-i : goal.invariant-loop-i

@@ -1,13 +1,12 @@
 -- `limit_box::checks::start_check` meets its contract: the lists of grounds, one after another.
-use Rattle.std.proofs.Common.{◌≡◌, ◌*◌, true, sym, ap, ◌∙◌, arith}
+use Rattle.std.proofs.Common.{◌≡◌, ◌*◌, true, sym}
 use borrow.Author.Tests.{eqb-true, not-false}
 use lib.Dec.{eqb}
 use lib.ListN.{length}
 use Rattle.protocol.specs.Sizes.{count_fits}
 use Rattle.refusals.specs.Grounds.{earliest_of, joined}
 use Rattle.refusals.proofs.Chains.{none}
-use Rattle.tally.specs.Tally.{tally_fits}
-use Rattle.rules.specs.Modes.{mode_of, is_asleep}
+use Rattle.rules.specs.Modes.{mode_of}
 use Rattle.rules.specs.Grounds.{idle_grounds, count_grounds, tally_grounds, list_grounds, asked_parts, start_parts, start_ground}
 use Rattle.rules.specs.declared.state.Task.TheVariants.{Compare}
 use Rattle.rules.proofs.Ranges.{awake_range, Ranged, ranged}

@@ -1,5 +1,5 @@
 -- `limit_box::checks::turn_check` meets its contract: the lists of grounds, one after another; a box in a job that is due is as the rounds need it.
-use Rattle.std.proofs.Common.{◌≡◌, ◌-◌, true, false, sym, arith}
+use Rattle.std.proofs.Common.{◌≡◌, ◌-◌, false, sym, arith}
 use borrow.Author.Tests.{not-false}
 use Rattle.std.proofs.lemmas.Result.{err_from_is_err_and}
 use Rattle.refusals.specs.Grounds.{earliest_of}

@@ -3,6 +3,7 @@
 use Rattle.std.proofs.Common.{◌≡◌, ℕ, ◌+◌, ◌≤◌, List, length, ◌++◌, take, sym, ap, ap₂, subst, ◌∙◌, arith}
 use Rattle.shares.specs.Reading.{read_words}
 use Rattle.protocol.specs.Sizes.{round_for}
+use Rattle.rules.specs.Tasks.{count_of}
 use Rattle.rules.specs.Batches.{joined_message}
 use Rattle.rules.proofs.Ranges.{ranged}
 use Rattle.exchange.proofs.Delivery.{AtFront, at_front, hears}
@@ -16,6 +17,12 @@ module _ (a : After-both_speak) where
   abbrev words : ℕ
   words = a.words_for-words.result
 
+  counted : words ≡ round_for a.args.s1.now.n (count_of a.args.s1.now.batch.task) a.args.round
+  counted = a.words_for-words.ensures ∙ ap (λ (count : ℕ). round_for a.args.s1.now.n count a.args.round) a.count.ensures
+
+  same_count : count_of a.args.s1.now.batch.task ≡ count_of a.args.s2.now.batch.task
+  same_count = ap count_of a.requires.task
+
   -- the two messages, and the outs that they were written to
   abbrev message1 : List ℕ
   message1 = let v = a.args in joined_message v.s1.now v.t1.now v.w1.now v.round
@@ -26,17 +33,17 @@ module _ (a : After-both_speak) where
   front1 : AtFront message1 a.both_speak.new.o1 words
   front1 =
       let v = a.args in
-      let enough : round_for v.s1.now.n v.s1.now.batch.count v.round ≤ length a.blank_messages-o1.result =
+      let enough : round_for v.s1.now.n (count_of v.s1.now.batch.task) v.round ≤ length a.blank_messages-o1.result =
       omega (arith, round_most a.requires.box1 v.round, a.blank_messages-o1.ensures.0) in
-      at_front v.s1.now v.t1.now v.w1.now v.round _ a.both_speak.new.o1 words a.words_for-words.ensures enough a.both_speak.ensures.box1.0
+      at_front v.s1.now v.t1.now v.w1.now v.round _ a.both_speak.new.o1 words counted enough a.both_speak.ensures.box1.0
 
   front2 : AtFront message2 a.both_speak.new.o2 words
   front2 =
       let v = a.args in
-      let counted = a.words_for-words.ensures ∙ ap₂ (λ (n count : ℕ). round_for n count v.round) a.requires.width a.requires.count in
-      let enough : round_for v.s2.now.n v.s2.now.batch.count v.round ≤ length a.blank_messages-o2.result =
+      let counted2 = counted ∙ ap₂ (λ (n count : ℕ). round_for n count v.round) a.requires.width same_count in
+      let enough : round_for v.s2.now.n (count_of v.s2.now.batch.task) v.round ≤ length a.blank_messages-o2.result =
       omega (arith, round_most a.requires.box2 v.round, a.blank_messages-o2.ensures.0) in
-      at_front v.s2.now v.t2.now v.w2.now v.round _ a.both_speak.new.o2 words counted enough a.both_speak.ensures.box2.0
+      at_front v.s2.now v.t2.now v.w2.now v.round _ a.both_speak.new.o2 words counted2 enough a.both_speak.ensures.box2.0
 
   -- what stands at their fronts is what the text must go on with
   told : (text : List ℕ) → spelled text (take words a.both_speak.new.o1 ++ take words a.both_speak.new.o2) ≡ spelled text (message1 ++ message2)
@@ -76,7 +83,7 @@ overflow_add-result c =
     let most = round_most c.requires.box1 v.round in
     let zeros1 = c.carry-zeros1.ensures.value in
     let zeros2 = c.carry-zeros2.ensures.value in
-    omega (arith, zeros1, most1, (front1 a).long, zeros2, most2, (front2 a).long, c.words_for-words.ensures, most)
+    omega (arith, zeros1, most1, (front1 a).long, zeros2, most2, (front2 a).long, counted a, most)
 
 pub returns-clause-read : goal.returns-clause-read
 returns-clause-read c = c.in_ok-both_same.ensures ∙ told (goal.at.returns-clause-read c).After-both_speak _
@@ -87,7 +94,7 @@ returns-clause-box1 c =
     let v = c.args in
     let read = arrived v.s1.now.n v.spelling _ c.carry-zeros2.new.words (message2 a) (front2 a).front c.carry-zeros2.ensures.carried in
     hears v.s2.now v.first v.round v.t2.now v.w2.now c.requires.box2 v.s1.now v.t1.now v.w1.now c.requires.box1
-    (sym c.requires.width) (sym c.requires.count) _ _ _ _ _ c.both_speak.ensures.box1.1 read c.both_hear-heard.ensures.box1
+    (sym c.requires.width) (sym (same_count a)) _ _ _ _ _ c.both_speak.ensures.box1.1 read c.both_hear-heard.ensures.box1
 
 pub returns-clause-box2 : goal.returns-clause-box2
 returns-clause-box2 c =
@@ -96,7 +103,7 @@ returns-clause-box2 c =
     let read = arrived v.s1.now.n v.spelling _ c.carry-zeros1.new.words (message1 a) (front1 a).front c.carry-zeros1.ensures.carried in
     let read2 = subst (λ (n : ℕ). read_words n c.carry-zeros1.new.words ≡ read_words n (message1 a)) c.requires.width read in
     hears v.s1.now v.first v.round v.t1.now v.w1.now c.requires.box1 v.s2.now v.t2.now v.w2.now c.requires.box2
-    c.requires.width c.requires.count _ _ _ _ _ c.both_speak.ensures.box2.1 read2 c.both_hear-heard.ensures.box2
+    c.requires.width (same_count a) _ _ _ _ _ c.both_speak.ensures.box2.1 read2 c.both_hear-heard.ensures.box2
 
 pub returns-clause-zeros : goal.returns-clause-zeros
 returns-clause-zeros c =

@@ -1,7 +1,8 @@
 use Rattle.std.proofs.Common.{ℕ, ◌≡◌, ◌≤◌, subst, arith}
 use Rattle.protocol.specs.Rounds.{earlier_rounds}
+use Rattle.rules.specs.Tasks.{count_of}
 use Rattle.rules.proofs.Batches.{count_most}
-use Rattle.vectors.proofs.Jobs.{ready_counted}
+use Rattle.vectors.proofs.Jobs.{ready_counted, answers_few}
 use Rattle.vectors.proofs.Rounds.{Told, told_first, told_counts, told_most, told_none, told_next, told_shares}
 use Rattle.vectors.proofs.job.exchanged.Goals.{At-loop-heard}
 use Rattle.vectors.proofs.job.exchanged.Goals as goal
@@ -30,7 +31,9 @@ loop-heard-preserved c =
     told_next _ _ _ _ _ _ _ _ _ c.requires c.loop-heard.invariant _ _ _ e.read e.zeros e.box1 e.box2 c.loop-heard-test.true
 
 pub answers_same-requires : goal.answers_same-requires
-answers_same-requires c = (count_most c.args.s1.now.batch.count (ready_counted c.requires.box1)).1
+answers_same-requires c =
+    let task = c.args.s1.now.batch.task in
+    omega (arith, c.answer_count-answers.ensures, answers_few task (count_most (count_of task) (ready_counted c.requires.box1)).1)
 
 pub returns-in_err-last-clause-agrees : goal.returns-in_err-last-clause-agrees
 returns-in_err-last-clause-agrees c =
@@ -41,7 +44,7 @@ pub returns-in_err-answers_same-clause-agrees : goal.returns-in_err-answers_same
 returns-in_err-answers_same-clause-agrees c =
     let r = ended (goal.at.returns-in_err-answers_same-clause-agrees c).At-loop-heard c.loop-heard-test.false in
     let e = c.in_ok-last.ensures in
-    rw (c.from_residual-in_err-answers_same.ensures, ← told_shares _ _ _ _ _ _ _ _ _ c.requires r _ _ e.read e.box1 e.box2)
+    rw (c.from_residual-in_err-answers_same.ensures, ← told_shares _ _ _ _ _ _ _ _ _ c.requires r _ _ e.read e.box1 e.box2 _ c.answer_count-answers.ensures)
     c.in_err-answers_same.ensures
 
 pub overflow_add-result : goal.overflow_add-result
@@ -53,7 +56,7 @@ pub returns-clause-agrees : goal.returns-clause-agrees
 returns-clause-agrees c =
     let r = ended (goal.at.returns-clause-agrees c).At-loop-heard c.loop-heard-test.false in
     let e = c.in_ok-last.ensures in
-    rw (← told_shares _ _ _ _ _ _ _ _ _ c.requires r _ _ e.read e.box1 e.box2) c.in_ok-answers_same.ensures
+    rw (← told_shares _ _ _ _ _ _ _ _ _ c.requires r _ _ e.read e.box1 e.box2 _ c.answer_count-answers.ensures) c.in_ok-answers_same.ensures
 
 pub returns-clause-zeros : goal.returns-clause-zeros
 returns-clause-zeros c =

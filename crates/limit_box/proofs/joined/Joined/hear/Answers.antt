@@ -1,9 +1,8 @@
 -- `limit_box::joined::Joined::hear` meets its contract: each job's words come from its part of incoming and are kept in its part of work.
 use Rattle.std.proofs.Common.{◌≡◌, ◌*◌, ◌+◌, ◌≤◌, ℕ, Option, Some, refl, sym, ap, ◌∙◌, arith}
 use native.Mathlib.Nat.{le_of_eq}
-use lib.Dec.{eqb}
 use borrow.Author.Tests.{eq-eqb}
-use lib.ListN.{length, set}
+use lib.ListN.{length}
 use lib.Seq.{sets}
 use Rattle.std.specs.Option.{unwrap_or}
 use Rattle.lists.specs.Joined.{chained}
@@ -11,7 +10,6 @@ use Rattle.lists.proofs.Joined.{within, length_part}
 use Rattle.protocol.specs.Work.{work_length}
 use Rattle.protocol.specs.Products.{Party}
 use Rattle.protocol.specs.Rounds.{last_round, round_words, after_hearing, share_after}
-use Rattle.protocol.specs.Sizes.{most_jobs}
 use Rattle.rules.specs.Tasks.{count_of}
 use Rattle.rules.specs.Batches.{each_job, party_of, work_part, words_part, joined_after, answers_given}
 use Rattle.rules.proofs.Batches.{count_most}
