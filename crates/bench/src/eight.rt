@@ -99,8 +99,8 @@ fn ordinary(n: Width, task: Task, shares1: &[u32], shares2: &[u32], i: usize) ->
     }
 }
 
-// How many bits a job opens.
-fn bits_of(task: Task) -> usize
+// How many bits it opens.
+fn answer_count(task: Task) -> usize
     ensures { result ≡ answer_count task }
 {
     match task {
@@ -121,7 +121,7 @@ fn all_ordinary(
     requires { (count_of task ≤ 8) × Small task shares1.now × Small task shares2.now }
     ensures { result ≡ every (answer_count task) (λ i. eqb (get_or bits i 0) (right_bit n.bits task shares1.now shares2.now i)) }
 {
-    for i in 0..bits_of(task) {
+    for i in 0..answer_count(task) {
         if bits[i] != ordinary(n, task, shares1, shares2, i) {
             return false;
         }
@@ -154,7 +154,7 @@ fn is_right(
     }
 }
 
-// All starts of the eight comparisons, each on the tallies that the one before it left. Of its shares a band has the first at each box.
+// All starts of the eight comparisons, each on the tallies that the one before it left. Of the shares of its two a band takes the first, as that of a.
 #[tactic(auto, using(crate::proofs::Starts::none_done))]
 fn starts(
     way: Way,
@@ -178,18 +178,18 @@ fn starts(
     let words = count as usize * tape::tape_words(n);
     let mut right = true;
     for i in 0..EIGHT / count {
-        let share = i as usize * own;
-        let word = i as usize * words;
+        let shares_at = i as usize * own;
+        let tapes_at = i as usize * words;
         let jobs = Jobs {
             n: n.bits,
             pair: PAIR,
             first: i * count,
             task,
-            box1: &shares1[share..share + own],
-            box2: &shares2[share..share + own],
+            box1: &shares1[shares_at..shares_at + own],
+            box2: &shares2[shares_at..shares_at + own],
         };
-        let t1 = &t1[word..word + words];
-        let t2 = &t2[word..word + words];
+        let t1 = &t1[tapes_at..tapes_at + words];
+        let t2 = &t2[tapes_at..tapes_at + words];
         right &= is_right(n, jobs, t1, t2, &mut k1, &mut k2, &mut *memory);
     }
     right

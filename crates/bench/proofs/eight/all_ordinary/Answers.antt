@@ -8,5 +8,5 @@ use Rattle.bench.proofs.eight.all_ordinary.Goals as goal
 pub returns-then-bits-i : goal.returns-then-bits-i
 returns-then-bits-i c =
     sym
-    (every_fails (answer_count c.args.task) _ c.loop-i.i (rw c.bits_of-i-end.ensures at c.loop-i-test.true)
+    (every_fails (answer_count c.args.task) _ c.loop-i.i (rw c.answer_count-i-end.ensures at c.loop-i-test.true)
     (ne_eqb _ _ (λ same. c.if-bits-i.true (same ∙ sym c.ordinary.ensures))))

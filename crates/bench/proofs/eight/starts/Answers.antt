@@ -25,8 +25,8 @@ module _ (l : In-loop-i) where
   tapes : l.loop-i.i * words + words ≤ tape_for l.args.n.bits 8
   tapes = tapes_within l.args.n.bits count l.tape_words.result l.loop-i.i l.tape_words.ensures room
 
-pub offset_bounds-t1-word : goal.offset_bounds-t1-word
-offset_bounds-t1-word c = omega (arith, tapes (goal.at.offset_bounds-t1-word c).In-loop-i, small c.args.n.listed)
+pub offset_bounds-t1-tapes_at : goal.offset_bounds-t1-tapes_at
+offset_bounds-t1-tapes_at c = omega (arith, tapes (goal.at.offset_bounds-t1-tapes_at c).In-loop-i, small c.args.n.listed)
 
 pub slice_bounds-t1-end : goal.slice_bounds-t1-end
 slice_bounds-t1-end c = omega (arith, tapes (goal.at.slice_bounds-t1-end c).In-loop-i, c.requires.tapes.0)
