@@ -2,6 +2,7 @@ pub mod Examples
 pub mod Readings
 pub mod Heads
 pub mod Deals
+pub mod Given
 pub mod Transcripts
 pub mod Openings
 pub mod Jobs

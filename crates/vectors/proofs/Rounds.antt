@@ -1,23 +1,19 @@
 -- Both boxes of a job and the text that tells it, round after round.
-use Rattle.std.proofs.Common.{◌≡◌, ℕ, ◌+◌, ◌*◌, ◌<◌, ◌≤◌, true, cond, ltb, List, ◌++◌, take, Option, Some, None, Result, refl, sym, ap, ap₂, ◌∙◌, arith}
+use Rattle.std.proofs.Common.{◌≡◌, ℕ, ◌+◌, ◌*◌, ◌<◌, ◌≤◌, true, List, ◌++◌, take, Option, Some, None, Result, refl, sym, ap, ap₂, ◌∙◌, arith}
 use Rattle.std.specs.Option.{option_and_then}
-use Rattle.std.proofs.lemmas.List.{get_or-take, length-take-le}
 use Rattle.lists.specs.Joined.{chained}
-use Rattle.lists.specs.Tabulate.{tabulate}
-use Rattle.lists.proofs.Tabulate.{length_tabulate, tabulated}
 use Rattle.protocol.specs.Products.{Party}
 use Rattle.protocol.specs.Exchange.{Both, exchanged, answer_own, answer_others}
 use Rattle.protocol.specs.Rounds.{earlier_rounds, last_round, message}
-use Rattle.protocol.specs.Sizes.{most_jobs, count_fits}
+use Rattle.protocol.specs.Sizes.{count_fits}
 use Rattle.refusals.specs.declared.Refusal.{Refusal}
 use Rattle.rules.specs.Answers.{finished, heard_or_finished, reply_of}
-use Rattle.rules.specs.Tasks.{count_of, answer_count, band_share}
+use Rattle.rules.specs.Tasks.{count_of, answer_count}
 use Rattle.rules.specs.Batches.{each_job, party_of, joined_message, answers_given}
 use Rattle.rules.specs.Calls.{outcome, heard_after}
 use Rattle.rules.specs.declared.state.State.{State}
 use Rattle.rules.specs.declared.state.Task.{Task}
-use Rattle.rules.specs.declared.state.Task.TheVariants.{Compare, Band}
-use Rattle.rules.proofs.Batches.{count_most, each_at, each_same}
+use Rattle.rules.proofs.Batches.{count_most, each_same}
 use Rattle.rules.proofs.Ranges.{ranged}
 use Rattle.exchange.specs.Boxes.{works_of}
 use Rattle.exchange.proofs.Exchanges.{more_own, more_others, last_own, last_others}
@@ -25,26 +21,12 @@ use Rattle.exchange.proofs.Course.{Course, course_first, course_width, course_se
 use Rattle.vectors.specs.declared.spelling.Spelling.{Spelling}
 use Rattle.vectors.specs.Numbers.{spelled}
 use Rattle.vectors.specs.Due.{Due}
-use Rattle.vectors.specs.Job.{messages, held, messages_to, given, transcript, shares_in}
+use Rattle.vectors.specs.Job.{messages, held, messages_to, transcript, shares_in}
 use Rattle.vectors.specs.Sent.{respelled_in}
 use Rattle.vectors.proofs.Jobs.{ready_counted, shares_told}
 use Rattle.vectors.proofs.Sent.{zeros_to, zeros_none, zeros_more, zeros_fit}
+use Rattle.vectors.proofs.Given.{take_given}
 use Rattle.vectors.proofs.Transcripts.{left, left_more, told_fails, told_last}
-
--- the answer shares below the count, without the zeros past it
-take_each : (count : ℕ) (f : ℕ → ℕ) → count_fits count ≡ true → take count (each_job count f) ≡ tabulate count f
-take_each count f fits =
-    let few = (count_most count fits).1 in
-    tabulated (take count (each_job count f)) count f
-    (length-take-le count (each_job count f) (omega (arith, few, length_tabulate most_jobs (λ k. cond (ltb k count) (f k) 0))))
-    (λ i less. get_or-take count (each_job count f) i 0 less ∙ each_at count f i fits less)
-
--- so of the answer shares that a box gives
-take_given : (n side : ℕ) (task : Task) (f : ℕ → ℕ) → count_fits (count_of task) ≡ true
-    → take (answer_count task) (answers_given n side task (each_job (count_of task) f)) ≡ given n side task f
-unfolding count_fits
-take_given n side (Compare count) f fits = take_each count f fits
-take_given n side (Band low high) f fits = take_each 1 (λ i. band_share n side (f 0) (f 1)) refl
 
 -- the boxes were f1 and f2, with works v1 and v2, when `text` was still unread, and their first messages were still to come
 module _ (text : List ℕ) (spelling : Spelling) (first : ℕ) (f1 f2 : State) (t1 t2 v1 v2 : List ℕ) where

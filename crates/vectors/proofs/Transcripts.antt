@@ -3,17 +3,15 @@ use Rattle.std.proofs.Common.{◌≡◌, ℕ, zero, suc, ◌+◌, ◌<◌, ◌�
 use native.Mathlib.Numerals.{add-one}
 use Rattle.std.proofs.lemmas.Bool.{cases_lt}
 use Rattle.lists.proofs.Joined.{chained_same}
-use Rattle.lists.proofs.Tabulate.{tabulate_same}
 use Rattle.protocol.specs.Products.{Party}
 use Rattle.protocol.specs.Rounds.{last_round}
 use Rattle.protocol.specs.Exchange.{Both}
-use Rattle.rules.specs.Tasks.{count_of, answer_count}
-use Rattle.rules.specs.OneByOne.{answer_from}
+use Rattle.rules.specs.Tasks.{count_of}
 use Rattle.rules.specs.declared.state.Task.{Task}
-use Rattle.rules.proofs.Batches.{from_same}
 use Rattle.vectors.specs.Numbers.{spelled}
-use Rattle.vectors.specs.Job.{messages, held, messages_to, given, answers, transcript}
+use Rattle.vectors.specs.Job.{messages, held, messages_to, answers, transcript}
 use Rattle.vectors.proofs.Readings.{spelled_append}
+use Rattle.vectors.proofs.Given.{given_same}
 
 module _ (text : List ℕ) (n : ℕ) (task : Task) (box1 box2 : ℕ → Party) (w : ℕ → Both) where
   abbrev count : ℕ
@@ -64,10 +62,6 @@ module _ (count : ℕ) (box1 box2 box1' box2' : ℕ → Party) (w w' : ℕ → B
   messages_same (suc k) = ap₂ ◌++◌ (messages_same k) (round_same k (suc k))
 
 -- the answer shares too
-given_same : (n side : ℕ) (task : Task) (f g : ℕ → ℕ) → ((i : ℕ) → i < count_of task → f i ≡ g i) → given n side task f ≡ given n side task g
-given_same n side task f g same =
-    tabulate_same (answer_count task) (answer_from n side task f) (answer_from n side task g) (λ i less. from_same n side task f g i same less)
-
 module _ (n : ℕ) (task : Task) (box1 box2 box1' box2' : ℕ → Party) (w w' : ℕ → Both) (same1 : (i : ℕ) → i < count_of task → box1 i ≡ box1' i)
     (same2 : (i : ℕ) → i < count_of task → box2 i ≡ box2' i) (same : (i : ℕ) → i < count_of task → w i ≡ w' i) where
   pub transcript_same : transcript n task box1 box2 w ≡ transcript n task box1' box2' w'
