@@ -4,20 +4,20 @@ use mathlib.Core.Path.{◌≡◌, refl, ap, sym, ◌∙◌}
 use mathlib.Core.Bool.{true}
 use mathlib.Core.List.{List}
 use native.Mathlib.Numerals.{add-one}
-use native.Mathlib.Nat.{zero-add, add-zero}
+use native.Mathlib.Nat.{zero-add, mul-le-mul_right}
 use native.Mathlib.Omega.{arith}
 use borrow.Rule.Slice.PartMut.{put_mid}
 use lib.ListN.{length, take, drop}
 use lib.Seq.{sets, length-sets}
+use Rattle.std.proofs.lemmas.List.{drop-take, take-take, drop-drop}
 use Rattle.lists.specs.Joined.{chained, part}
 use Rattle.lists.proofs.Parts.{put_whole}
-use Rattle.lists.proofs.Joined.{within, length_part, part_one, part_sets, sets_chained}
+use Rattle.lists.proofs.Joined.{within, length_part, part_sets, sets_chained}
 use Rattle.field.specs.Width.{listed}
 use Rattle.tape.specs.Layout.{tape_length}
 use Rattle.tape.specs.Dealt.{Dealt}
 use Rattle.tape.proofs.Dealing.{own_readable, others_readable}
 use Rattle.protocol.specs.Sizes.{tape_for}
-use Rattle.rules.specs.Batches.{tape_part}
 use Rattle.deals.specs.Deals.{dealt_tape}
 use Rattle.deals.proofs.Dealing.{dealt_tapes}
 use Rattle.bench.specs.Eight.{AllDealt}
@@ -80,17 +80,28 @@ module _ (n : ℕ) (width : listed n ≡ true) where
             (pair i);
       }
 
--- one of them by itself
-pub alone_dealt : (n : ℕ) (t1 t2 : List ℕ) → AllDealt n 0 8 t1 t2 → (i : ℕ) → i < 8 → AllDealt n i 1 (tape_part n t1 i) (tape_part n t2 i)
-alone_dealt n t1 t2 d i less =
-    let inside = within 8 (tape_length n) i less in
-    let own1 = length_part (tape_length n) t1 i (omega (arith, inside, d.long1)) in
-    let own2 = length_part (tape_length n) t2 i (omega (arith, inside, d.long2)) in
+-- ---- those of one start by themselves
+
+-- part j of a list that is part i
+part_of_part : (size count : ℕ) (l : List ℕ) (i j : ℕ) → j < count → part size (part (count * size) l i) j ≡ part size l (i * count + j)
+part_of_part size count l i j less =
+    let rest = count * size - j * size in
+    let from = i * (count * size) in
+    let inside = within count size j less in
+    ap (λ (k : ℕ). take size (drop (j * size) (take k (drop from l)))) (omega (arith, inside))
+    ∙ ap (take size) (drop-take (j * size) rest (drop from l))
+    ∙ take-take size rest (drop (j * size) (drop from l)) (omega (arith, inside))
+    ∙ ap (take size) (drop-drop (j * size) from l ∙ ap (λ (k : ℕ). drop k l) (omega arith))
+
+pub start_dealt : (n count : ℕ) (t1 t2 : List ℕ) → AllDealt n 0 8 t1 t2 → (i : ℕ) → i * count + count ≤ 8
+    → AllDealt n (i * count) count (part (tape_for n count) t1 i) (part (tape_for n count) t2 i)
+start_dealt n count t1 t2 d i room =
+    let size = tape_length n in
+    let inside : i * (count * size) + count * size ≤ 8 * size = omega (arith, mul-le-mul_right size room) in
     record {
-      long1 = omega (arith, own1);
-      long2 = omega (arith, own2);
-      dealt = λ j none.
-          let at : j ≡ 0 = omega (arith, none) in
-          rw (at, part_one (tape_part n t1 i) (tape_length n) own1, part_one (tape_part n t2 i) (tape_length n) own2, add-zero i)
-          (rw (zero-add i) at (d.dealt i less));
+      long1 = length_part (tape_for n count) t1 i (omega (arith, inside, d.long1));
+      long2 = length_part (tape_for n count) t2 i (omega (arith, inside, d.long2));
+      dealt = λ j less.
+          rw (part_of_part size count t1 i j less, part_of_part size count t2 i j less)
+          (rw (zero-add (i * count + j)) at (d.dealt (i * count + j) (omega (arith, room, less))));
     }

@@ -1,5 +1,5 @@
--- A job of several comparisons goes where all that both boxes are given is as it must be: neither is refused, and their numbers are marked.
-use Prim.Native.Nat.{ℕ, ◌+◌, ◌*◌, ◌<◌, ◌≤◌}
+-- A job goes where all that both boxes are given is as it must be: neither is refused, and their numbers are marked.
+use Prim.Native.Nat.{ℕ, ◌+◌, ◌<◌, ◌≤◌}
 use mathlib.Core.Path.{◌≡◌, refl, ap}
 use mathlib.Core.Bool.{true, false}
 use native.Mathlib.Omega.{arith}
@@ -7,14 +7,18 @@ use lib.ListN.{length}
 use Rattle.field.specs.Width.{listed, modulus}
 use Rattle.shares.specs.Side.{is_side}
 use Rattle.tape.specs.Order.{in_order}
-use Rattle.protocol.specs.Sizes.{count_fits, tape_for, work_for}
+use Rattle.protocol.specs.Sizes.{tape_for, work_for}
 use Rattle.tally.specs.Tally.{tally_fits, tapes_of, is_fresh, late, first_marks}
+use Rattle.rules.specs.Tasks.{count_of, task_fits, pairs_of}
+use Rattle.rules.specs.Moves.{Asked}
 use Rattle.rules.specs.Batches.{no_batch, x_in, y_in, tape_part}
 use Rattle.rules.specs.Calls.{Result, wake_rule, start_rule}
 use Rattle.rules.specs.Grounds.{wake_ground}
 use Rattle.rules.specs.Modes.{in_range, mode_of, is_asleep, in_job}
 use Rattle.rules.specs.declared.state.Phase.TheVariants.{Idle}
+use Rattle.rules.specs.declared.state.Task.{Task}
 use Rattle.rules.specs.declared.state.State.{State}
+use Rattle.rules.proofs.Tasks.{counted}
 use Rattle.rules.proofs.Goes.{start_goes}
 use Rattle.rules.proofs.Passed.{StartPassed}
 use Rattle.exchange.specs.Jobs.{Lent, comes, roomy, job_refusal, job_of}
@@ -24,20 +28,20 @@ use Rattle.exchange.proofs.Begun.{awake}
 -- ---- one box
 
 -- what it is given
-pub record Fit (n side pair first count : ℕ) (l : Lent) : Type 0 where
+pub record Fit (n side pair first : ℕ) (task : Task) (l : Lent) : Type 0 where
   pub width : listed n ≡ true
   pub sided : is_side side ≡ true
   pub tallied : tally_fits (length l.tally) ≡ true
-  pub counted : count_fits count ≡ true
-  pub two : length l.shares ≡ 2 * count
-  pub numbered : first + count ≤ tapes_of (length l.tally)
-  pub fresh : (i : ℕ) → i < count → is_fresh l.tally (first + i) ≡ true
-  pub in_time : (i : ℕ) → i < count → late l.tally (first + i) ≡ false
-  pub x_fits : (i : ℕ) → i < count → x_in l.shares i < modulus n
-  pub y_fits : (i : ℕ) → i < count → y_in l.shares i < modulus n
-  pub long : length l.tapes ≡ tape_for n count
-  pub ordered : (i : ℕ) → i < count → in_order n pair side (first + i) (tape_part n l.tapes i) ≡ true
-  pub room : work_for n count ≤ length l.work
+  pub fits : task_fits n task ≡ true
+  pub asked : Asked n task l.shares
+  pub numbered : first + count_of task ≤ tapes_of (length l.tally)
+  pub fresh : (i : ℕ) → i < count_of task → is_fresh l.tally (first + i) ≡ true
+  pub in_time : (i : ℕ) → i < count_of task → late l.tally (first + i) ≡ false
+  pub x_fits : (i : ℕ) → i < count_of task → x_in (pairs_of side task l.shares) i < modulus n
+  pub y_fits : (i : ℕ) → i < count_of task → y_in (pairs_of side task l.shares) i < modulus n
+  pub long : length l.tapes ≡ tape_for n (count_of task)
+  pub ordered : (i : ℕ) → i < count_of task → in_order n pair side (first + i) (tape_part n l.tapes i) ≡ true
+  pub room : work_for n (count_of task) ≤ length l.work
 
 zero_unlisted : listed 0 ≡ false
 unfolding listed
@@ -47,7 +51,7 @@ asleep : is_asleep (mode_of first_state) ≡ true
 unfolding mode_of in_range
 asleep = rw zero_unlisted refl
 
-module _ {n side pair first count : ℕ} {l : Lent} (f : Fit n side pair first count l) where
+module _ {n side pair first : ℕ} {task : Task} {l : Lent} (f : Fit n side pair first task l) where
   abbrev idle : State
   idle = awake n side pair l.tally Idle no_batch
 
@@ -55,14 +59,15 @@ module _ {n side pair first count : ℕ} {l : Lent} (f : Fit n side pair first c
   unfolding mode_of in_range
   stays_idle = rw (f.width, f.sided, f.tallied) refl
 
-  passed : StartPassed idle first count l.shares l.tapes l.work l.tally
+  passed : StartPassed idle first task l.shares l.tapes l.work l.tally
   passed =
       record {
         awake = ap is_asleep stays_idle;
         idle = ap in_job stays_idle;
-        counted = f.counted;
+        fits = f.fits;
+        counted = counted n task f.fits;
         same_tally = refl;
-        listed = f.two;
+        asked = f.asked;
         numbered = λ i less. omega (arith, f.numbered, less);
         fresh = f.fresh;
         in_time = f.in_time;
@@ -76,12 +81,12 @@ module _ {n side pair first count : ℕ} {l : Lent} (f : Fit n side pair first c
   -- it wakes, and the start is taken
   record Gone (r : Result) : Type 0 where
     none : refusal_of r.reply ≡ 0
-    marked : r.buffer ≡ first_marks l.tally first count
+    marked : r.buffer ≡ first_marks l.tally first (count_of task)
 
-  comes_in : Gone (comes n side pair first count l)
+  comes_in : Gone (comes n side pair first task l)
   unfolding begun wake_rule start_rule wake_ground
   comes_in =
-      let goes = start_goes idle first count l.shares l.tapes l.work l.tally passed in
+      let goes = start_goes idle first task l.shares l.tapes l.work l.tally passed in
       record {
         none = rw (asleep, f.width, f.sided, f.tallied, goes) refl;
         marked = rw (asleep, f.width, f.sided, f.tallied, goes) refl;
@@ -89,15 +94,15 @@ module _ {n side pair first count : ℕ} {l : Lent} (f : Fit n side pair first c
 
 -- ---- both
 
-pub record JobGone (n pair first count : ℕ) (box1 box2 : Lent) : Type 0 where
-  pub none : (job_of n pair first count box1 box2).refusal ≡ 0
-  pub marked1 : (job_of n pair first count box1 box2).tally1 ≡ first_marks box1.tally first count
-  pub marked2 : (job_of n pair first count box1 box2).tally2 ≡ first_marks box2.tally first count
+pub record JobGone (n pair first : ℕ) (task : Task) (box1 box2 : Lent) : Type 0 where
+  pub none : (job_of n pair first task box1 box2).refusal ≡ 0
+  pub marked1 : (job_of n pair first task box1 box2).tally1 ≡ first_marks box1.tally first (count_of task)
+  pub marked2 : (job_of n pair first task box1 box2).tally2 ≡ first_marks box2.tally first (count_of task)
 
-pub job_goes : (n pair first count : ℕ) (box1 box2 : Lent) → Fit n 1 pair first count box1 → Fit n 2 pair first count box2
-    → roomy n count box1.out box2.out ≡ true → JobGone n pair first count box1 box2
+pub job_goes : (n pair first : ℕ) (task : Task) (box1 box2 : Lent) → Fit n 1 pair first task box1 → Fit n 2 pair first task box2
+    → roomy n task box1.out box2.out ≡ true → JobGone n pair first task box1 box2
 unfolding job_of job_refusal
-job_goes n pair first count box1 box2 f1 f2 fits =
+job_goes n pair first task box1 box2 f1 f2 fits =
     let c1 = comes_in f1 in
     let c2 = comes_in f2 in
     record {

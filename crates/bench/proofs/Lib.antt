@@ -4,4 +4,4 @@ pub mod Going
 pub mod Marks
 pub mod Runs
 pub mod Deals
-pub mod Singly
+pub mod Starts

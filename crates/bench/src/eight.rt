@@ -1,13 +1,15 @@
-// Eight comparisons of both boxes, in one go and one by one (document 02, P9).
+// Eight comparisons of both boxes, in one go, one by one and by twos (document 02, P9), and as four bands (P10), each of which is two of them.
 ghost use Rattle.std.specs.Prelude.{ℕ, ◌≡◌, true, ◌+◌, ◌*◌, ◌<◌, ◌≤◌, eqb, length, get_or};
 ghost use Rattle.lists.specs.Every.{every};
 ghost use Rattle.protocol.specs.Sizes.{tape_for};
-ghost use Rattle.exchange.specs.Jobs.{right_bit};
-ghost use Rattle.bench.specs.Eight.{list, list1_at, list2_at, Small, Right, RightAlone, RightTurn, AllDealt, Next, marks};
+ghost use Rattle.rules.specs.Tasks.{count_of, answer_count};
+ghost use Rattle.rules.specs.declared.state.Task.TheVariants.{Compare};
+ghost use Rattle.rules.specs.Bits.{right_bit};
+ghost use Rattle.bench.specs.Eight.{list, task_of, Small, Right, RightStarts, RightTurn, AllDealt, Next, marks};
 
 use exchange::Jobs;
 use field::Width;
-use rules::state::MOST_JOBS;
+use rules::state::{MOST_JOBS, Task};
 
 // What the tapes are dealt from, the first one's; each of the others has the next.
 const SEED: u32 = 2463534242;
@@ -23,11 +25,25 @@ const SHARES: usize = 2 * MOST_JOBS;
 // A tally of eight tapes.
 const TALLY: usize = tally::MARK_BYTES * MOST_JOBS;
 
-// Whether one start takes them all, or each has its own.
+// How many of them one start takes: all, one, or two, as a pair or as a band.
 #[derive(Clone, Copy, Debug, PartialEq, Eq)]
 pub enum Way {
     Joined,
     Singly,
+    Pairs,
+    Bands,
+}
+
+// What each start is asked. The bounds are those of document 02's cases, in range at every width.
+fn task_of(way: Way) -> Task
+    ensures { result ≡ task_of way }
+{
+    match way {
+        Way::Joined => Task::Compare(EIGHT),
+        Way::Singly => Task::Compare(1),
+        Way::Pairs => Task::Compare(2),
+        Way::Bands => Task::Band(2, 5),
+    }
 }
 
 // What both boxes are lent for eight comparisons beside their tapes and tallies, turn after turn.
@@ -62,33 +78,51 @@ fn list(from: u32, step: u32) -> [u32; SHARES]
     list
 }
 
-// The ordinary comparison of what both boxes' shares of comparison i add up to.
+// The ordinary comparison of what both boxes' shares of comparison i add up to, or of a band's a with its bounds.
 #[tactic(auto, using(field::proofs::Widths::bounds))]
-fn ordinary(n: Width, shares1: &[u32], shares2: &[u32], i: usize) -> u32
+fn ordinary(n: Width, task: Task, shares1: &[u32], shares2: &[u32], i: usize) -> u32
     requires shares1 { (2 * i + 1 < length shares1.now) × ((k : ℕ) → get_or shares1.now k 0 < 7) }
     requires shares2 { (2 * i + 1 < length shares2.now) × ((k : ℕ) → get_or shares2.now k 0 < 7) }
-    ensures { result ≡ right_bit n.bits shares1.now shares2.now i }
+    ensures { result ≡ right_bit n.bits task shares1.now shares2.now i }
 {
     let p = n.modulus();
-    let x = (shares1[2 * i] + shares2[2 * i]) % p;
-    let y = (shares1[2 * i + 1] + shares2[2 * i + 1]) % p;
-    u32::from(x < y)
+    match task {
+        Task::Compare(_) => {
+            let x = (shares1[2 * i] + shares2[2 * i]) % p;
+            let y = (shares1[2 * i + 1] + shares2[2 * i + 1]) % p;
+            u32::from(x < y)
+        }
+        Task::Band(low, high) => {
+            let a = (shares1[0] + shares2[0]) % p;
+            u32::from(low < a && a < high)
+        }
+    }
+}
+
+// How many bits it opens.
+fn answer_count(task: Task) -> usize
+    ensures { result ≡ answer_count task }
+{
+    match task {
+        Task::Compare(count) => count as usize,
+        Task::Band(_, _) => 1,
+    }
 }
 
 // Whether every bit is that of the ordinary comparison.
 #[tactic(auto, using(lists::proofs::Every::every_fails))]
 fn all_ordinary(
     n: Width,
-    count: usize,
+    task: Task,
     bits: [u32; MOST_JOBS],
     shares1: &[u32],
     shares2: &[u32],
 ) -> bool
-    requires { (count ≤ 8) × Small count shares1.now × Small count shares2.now }
-    ensures { result ≡ every count (λ i. eqb (get_or bits i 0) (right_bit n.bits shares1.now shares2.now i)) }
+    requires { (count_of task ≤ 8) × Small task shares1.now × Small task shares2.now }
+    ensures { result ≡ every (answer_count task) (λ i. eqb (get_or bits i 0) (right_bit n.bits task shares1.now shares2.now i)) }
 {
-    for i in 0..count {
-        if bits[i] != ordinary(n, shares1, shares2, i) {
+    for i in 0..answer_count(task) {
+        if bits[i] != ordinary(n, task, shares1, shares2, i) {
             return false;
         }
     }
@@ -106,20 +140,24 @@ fn is_right(
     k2: &mut [u8],
     memory: &mut Memory,
 ) -> bool
-    requires { (jobs.n ≡ n.bits) × (jobs.pair ≡ 1) × (jobs.count ≤ 8) × Small jobs.count jobs.box1.now × Small jobs.count jobs.box2.now }
-    ensures right { result ≡ true → Right n.bits jobs.entry.first jobs.entry.count jobs.entry.box1.now jobs.entry.box2.now t1.now t2.now }
-    ensures dealt { Next n.bits jobs.entry.first jobs.entry.count t1.now t2.now k1.old k2.old
-        → (result ≡ true) × (k1.new ≡ marks (jobs.entry.first + jobs.entry.count)) × (k2.new ≡ marks (jobs.entry.first + jobs.entry.count)) }
+    requires { (jobs.n ≡ n.bits) × (jobs.pair ≡ 1) × (count_of jobs.task ≤ 8) × Small jobs.task jobs.box1.now × Small jobs.task jobs.box2.now }
+    ensures right { result ≡ true → Right n.bits jobs.entry.first jobs.entry.task jobs.entry.box1.now jobs.entry.box2.now t1.now t2.now }
+    ensures dealt { Next n.bits jobs.entry.first jobs.entry.task t1.now t2.now k1.old k2.old
+        → (result ≡ true)
+        × (k1.new ≡ marks (jobs.entry.first + count_of jobs.entry.task))
+        × (k2.new ≡ marks (jobs.entry.first + count_of jobs.entry.task)) }
 {
     let Memory { w1, w2, o1, o2 } = memory;
     match exchange::less(jobs, t1, t2, w1, w2, k1, k2, o1, o2) {
-        Ok(bits) => all_ordinary(n, jobs.count as usize, bits, jobs.box1, jobs.box2),
+        Ok(bits) => all_ordinary(n, jobs.task, bits, jobs.box1, jobs.box2),
         Err(_) => false,
     }
 }
 
-// All in one go.
-fn joined(
+// All starts of the eight comparisons, each on the tallies that the one before it left. Of the shares of its two a band takes the first, as that of a.
+#[tactic(auto, using(crate::proofs::Starts::none_done))]
+fn starts(
+    way: Way,
     n: Width,
     shares1: &[u32],
     shares2: &[u32],
@@ -127,54 +165,31 @@ fn joined(
     t2: &[u32],
     memory: &mut Memory,
 ) -> bool
-    requires { Small 8 shares1.now × Small 8 shares2.now }
-    ensures right { result ≡ true → Right n.bits 0 8 shares1.now shares2.now t1.now t2.now }
-    ensures dealt { AllDealt n.bits 0 8 t1.now t2.now → result ≡ true }
-{
-    let mut k1 = [255u8; TALLY];
-    let mut k2 = [255u8; TALLY];
-    let jobs = Jobs {
-        n: n.bits,
-        pair: PAIR,
-        first: 0,
-        count: EIGHT,
-        box1: shares1,
-        box2: shares2,
-    };
-    is_right(n, jobs, t1, t2, &mut k1, &mut k2, memory)
-}
-
-// The same one by one, each on the tallies that the one before it left.
-#[tactic(auto, using(crate::proofs::Singly::none_done))]
-fn singly(
-    n: Width,
-    shares1: &[u32],
-    shares2: &[u32],
-    t1: &[u32],
-    t2: &[u32],
-    memory: &mut Memory,
-) -> bool
-    requires shares { Small 8 shares1.now × Small 8 shares2.now }
+    requires shares { Small (Compare 8) shares1.now × Small (Compare 8) shares2.now }
     requires tapes { (length t1.now ≡ tape_for n.bits 8) × (length t2.now ≡ tape_for n.bits 8) }
-    ensures right { result ≡ true → (i : ℕ) → i < 8 → RightAlone n.bits shares1.now shares2.now t1.now t2.now i }
+    ensures right { result ≡ true → RightStarts way n.bits shares1.now shares2.now t1.now t2.now }
     ensures dealt { AllDealt n.bits 0 8 t1.now t2.now → result ≡ true }
 {
     let mut k1 = [255u8; TALLY];
     let mut k2 = [255u8; TALLY];
-    let words = tape::tape_words(n);
+    let task = task_of(way);
+    let count = task.count();
+    let own = count as usize * 2;
+    let words = count as usize * tape::tape_words(n);
     let mut right = true;
-    for i in 0..EIGHT {
-        let at = i as usize;
+    for i in 0..EIGHT / count {
+        let shares_at = i as usize * own;
+        let tapes_at = i as usize * words;
         let jobs = Jobs {
             n: n.bits,
             pair: PAIR,
-            first: i,
-            count: 1,
-            box1: &shares1[at * 2..at * 2 + 2],
-            box2: &shares2[at * 2..at * 2 + 2],
+            first: i * count,
+            task,
+            box1: &shares1[shares_at..shares_at + own],
+            box2: &shares2[shares_at..shares_at + own],
         };
-        let t1 = &t1[at * words..at * words + words];
-        let t2 = &t2[at * words..at * words + words];
+        let t1 = &t1[tapes_at..tapes_at + words];
+        let t2 = &t2[tapes_at..tapes_at + words];
         right &= is_right(n, jobs, t1, t2, &mut k1, &mut k2, &mut *memory);
     }
     right
@@ -188,10 +203,7 @@ fn turn_right(way: Way, n: Width, turn: u32, t1: &[u32], t2: &[u32], memory: &mu
 {
     let shares1 = list(turn % 7, 1);
     let shares2 = list(turn / 7 % 7, 3);
-    match way {
-        Way::Joined => joined(n, &shares1, &shares2, t1, t2, memory),
-        Way::Singly => singly(n, &shares1, &shares2, t1, t2, memory),
-    }
+    starts(way, n, &shares1, &shares2, t1, t2, memory)
 }
 
 // How many turns came out right.

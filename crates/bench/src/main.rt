@@ -1,5 +1,5 @@
 // What a job needs, at every width. For tools/bench it does, given `jobs WIDTH COUNT`, so many whole jobs, given `checks`, so many checks of a job's tapes,
-// and given `joined` or `singly`, so many times eight comparisons, in one go or one by one.
+// and given `joined`, `singly`, `pairs` or `bands`, so many times eight comparisons, in one go, one by one, by twos, or as four bands.
 #![tactic(auto)]
 
 ghost use Rattle.std.specs.Prelude.{◌≤◌, length};
@@ -31,6 +31,8 @@ enum Task {
     Checks,
     Joined,
     Singly,
+    Pairs,
+    Bands,
 }
 
 // Does it so often, and says how many turns came out right.
@@ -58,6 +60,18 @@ fn run(rt: &impl Print, task: Task, n: Width, count: u32) -> io::Result<()> {
             println!(rt;
                 "singly: {} of {count} right",
                 eight::often(Way::Singly, n, count)
+            )
+        }
+        Task::Pairs => {
+            println!(rt;
+                "pairs: {} of {count} right",
+                eight::often(Way::Pairs, n, count)
+            )
+        }
+        Task::Bands => {
+            println!(rt;
+                "bands: {} of {count} right",
+                eight::often(Way::Bands, n, count)
             )
         }
     }
@@ -106,8 +120,10 @@ fn main(rt: HostRuntime) -> io::Result<()> {
         b"checks" => asked(&rt, Task::Checks),
         b"joined" => asked(&rt, Task::Joined),
         b"singly" => asked(&rt, Task::Singly),
+        b"pairs" => asked(&rt, Task::Pairs),
+        b"bands" => asked(&rt, Task::Bands),
         _ => println!(&rt;
-            "bench: jobs, checks, joined or singly, a width and a count, or nothing"
+            "bench: jobs, checks, joined, singly, pairs or bands, a width and a count, or nothing"
         ),
     }
 }

@@ -11,8 +11,7 @@ use lib.ListN.{length, get_or}
 use Rattle.std.specs.Prelude.{Ok, Err, IfOk, Result as Answer}
 use Rattle.field.specs.Width.{modulus}
 use Rattle.field.proofs.Widths.{bounds}
-use Rattle.shares.specs.Side.{is_side, other}
-use Rattle.shares.proofs.Sides.{constant_total}
+use Rattle.shares.specs.Side.{other}
 use Rattle.tape.specs.Dealt.{Dealt}
 use Rattle.tape.proofs.Dealing.{own_readable}
 use Rattle.encoding.specs.Matching.{indicator}
@@ -23,18 +22,19 @@ use Rattle.protocol.specs.Exchange.{answer_own, answer_others}
 use Rattle.protocol.proofs.Halves.{indicator_bit}
 use Rattle.protocol.proofs.Right.{right}
 use Rattle.refusals.specs.declared.Refusal.{Refusal}
+use Rattle.rules.specs.Bits.{right_bit}
 use Rattle.rules.specs.Tasks.{count_of, pairs_of, answer_count}
 use Rattle.rules.specs.Moves.{Asked}
 use Rattle.rules.specs.Batches.{each_job, x_in, y_in, tape_part, work_part, answers_given}
 use Rattle.rules.specs.OneByOne.{answer_from}
 use Rattle.rules.proofs.Batches.{each_at, given_at}
-use Rattle.rules.proofs.Bands.{band_total}
+use Rattle.rules.proofs.Bands.{band_right}
 use Rattle.rules.specs.declared.state.Task.{Task}
 use Rattle.rules.specs.declared.state.Task.TheVariants.{Compare, Band}
 use Rattle.rules.specs.declared.state.State.{State}
 use Rattle.exchange.specs.Opening.{refusal_of}
 use Rattle.exchange.specs.Boxes.{works, answer1, answer2, answers1, answers2}
-use Rattle.exchange.specs.Jobs.{Lent, comes, roomy, answer_sum, job_refusal, Ended, ended, job_of, DealtAt, DealtFor, right_bit}
+use Rattle.exchange.specs.Jobs.{Lent, comes, roomy, answer_sum, job_refusal, Ended, ended, job_of, DealtAt, DealtFor}
 use Rattle.exchange.proofs.Begun.{Begun, begun_party, begun_room, begun_ready}
 
 pub dealt_right : (n pair number x1 y1 x2 y2 : ℕ) (t1 t2 w1 w2 : List ℕ) → Dealt n pair number t1 t2
@@ -61,14 +61,9 @@ from_right : (n pair first : ℕ) (task : Task) (shares1 shares2 t1 t2 : List �
     → (each1 i + each2 i) % modulus n ≡ compared n (pairs_of 1 task shares1) (pairs_of 2 task shares2) i)
     → (i : ℕ) → i < answer_count task → DealtFor n pair first task t1 t2 i
     → (answer_from n 1 task each1 i + answer_from n 2 task each2 i) % modulus n ≡ right_bit n task shares1 shares2 i
-unfolding is_side other
 from_right n pair first (Compare count) shares1 shares2 t1 t2 each1 each2 asked sums i less m = sums i less m
 from_right n pair first (Band low high) shares1 shares2 t1 t2 each1 each2 asked sums i less m =
-    let a = (get_or shares1 0 0 + get_or shares2 0 0) % modulus n in
-    let below : low < modulus n = omega (arith, asked.0, asked.1) in
-    band_total n low high a (each1 0) (each2 0) (each1 1) (each2 1) (own_readable m.0).width asked.0
-    (sums 0 (omega arith) m.0 ∙ rw (constant_total 1 low refl, mod-eq_of_lt below) refl)
-    (sums 1 (omega arith) m.1 ∙ rw (constant_total 1 high refl, mod-eq_of_lt asked.1) refl)
+    band_right n low high i shares1 shares2 each1 each2 (own_readable m.0).width asked (sums 0 (omega arith) m.0) (sums 1 (omega arith) m.1)
 
 module _ {n pair first : ℕ} {task : Task} {shares1 shares2 t1 t2 w1 w2 k1 k2 : List ℕ} {s1 s2 : State}
     (b1 : Begun n 1 pair first task shares1 t1 w1 k1 s1) (b2 : Begun n 2 pair first task shares2 t2 w2 k2 s2) where

@@ -1,7 +1,7 @@
 -- The words that a box answers: below p, 0 past the answers, and what two boxes' add up to.
 use Prim.Native.Nat.{ℕ, ◌+◌, ◌%◌, ◌<◌, ◌≤◌}
 use mathlib.Core.Path.{◌≡◌, refl, ap₂, ◌∙◌}
-use mathlib.Core.Bool.{Bool, true, false, cond}
+use mathlib.Core.Bool.{true, cond}
 use mathlib.Core.List.{List}
 use mathlib.Core.Logic.{by_cases}
 use native.Mathlib.Decide.{dec_lt}
@@ -16,19 +16,12 @@ use Rattle.field.specs.Width.{listed, modulus}
 use Rattle.field.proofs.Widths.{bounds}
 use Rattle.field.proofs.Subtraction.{minus_below}
 use Rattle.protocol.specs.Sizes.{most_jobs}
-use Rattle.protocol.proofs.Ranges.{tabulated_below}
 use Rattle.shares.specs.Share.{constant_share}
 use Rattle.rules.specs.Tasks.{count_of, band_share}
 use Rattle.rules.specs.Batches.{each_job, answers_given}
+use Rattle.rules.proofs.Batches.{each_below}
 use Rattle.rules.specs.declared.state.Task.{Task}
 use Rattle.rules.specs.declared.state.Task.TheVariants.{Compare, Band}
-
-each_below : {p : ℕ} (count : ℕ) (f : ℕ → ℕ) → 0 < p → ((i : ℕ) → f i < p) → (i : ℕ) → get_or (each_job count f) i 0 < p
-each_below {p} count f some below = (tabulated_below most_jobs (λ i. cond (ltb i count) (f i) 0) (λ i. go i (ltb i count))).at
-  where
-    go : (i : ℕ) (t : Bool) → cond t (f i) 0 < p
-    go i true = below i
-    go i false = some
 
 -- what comes of words below p, one for each comparison
 pub given_below : (n side : ℕ) (task : Task) (f : ℕ → ℕ) → listed n ≡ true → ((i : ℕ) → f i < modulus n) → (i : ℕ)

@@ -1,11 +1,10 @@
 -- A whole job of both boxes: box 1 comes to it and then box 2, and where neither is refused they exchange all rounds.
-use Rattle.std.specs.Prelude.{ℕ, ◌+◌, ◌%◌, Bool, ◌&&◌, cond, List, eqb, leb, ltb, length, get_or, replicate, Ok, Err, Result as Answer}
+use Rattle.std.specs.Prelude.{ℕ, ◌+◌, ◌%◌, Bool, ◌&&◌, cond, List, eqb, leb, length, get_or, replicate, Ok, Err, Result as Answer}
 use Rattle.field.specs.Width.{modulus}
 use Rattle.tape.specs.Dealt.{Dealt}
-use Rattle.encoding.specs.Matching.{indicator}
 use Rattle.protocol.specs.Sizes.{most_jobs, round_for}
 use Rattle.rules.specs.Tasks.{count_of, answer_count}
-use Rattle.rules.specs.Batches.{each_job, x_in, y_in, tape_part}
+use Rattle.rules.specs.Batches.{each_job, tape_part}
 use Rattle.rules.specs.Calls.{Result}
 use Rattle.rules.specs.declared.state.Task.{Task}
 use Rattle.rules.specs.declared.state.Task.TheVariants.{Compare, Band}
@@ -90,11 +89,3 @@ DealtAt n pair first t1 t2 i = Dealt n pair (first + i) (tape_part n t1 i) (tape
 abbrev pub DealtFor : ℕ → ℕ → ℕ → Task → List ℕ → List ℕ → ℕ → Type 0
 DealtFor n pair first (Compare count) t1 t2 i = DealtAt n pair first t1 t2 i
 DealtFor n pair first (Band low high) t1 t2 i = DealtAt n pair first t1 t2 0 × DealtAt n pair first t1 t2 1
-
--- of comparison i 1 if its x < y, of a band 1 if low < a < high, and 0 otherwise, where x and y, and a, are what the two boxes' shares add up to
-abbrev pub right_bit : ℕ → Task → List ℕ → List ℕ → ℕ → ℕ
-right_bit n (Compare count) shares1 shares2 i =
-    indicator (ltb ((x_in shares1 i + x_in shares2 i) % modulus n) ((y_in shares1 i + y_in shares2 i) % modulus n))
-right_bit n (Band low high) shares1 shares2 i =
-    let a = (get_or shares1 0 0 + get_or shares2 0 0) % modulus n in
-    indicator (ltb low a && ltb a high)

@@ -12,12 +12,13 @@ ghost use Rattle.rules.specs.Answers.{started, heard_or_finished, reply_of};
 ghost use Rattle.rules.specs.Modes.{in_phase};
 ghost use Rattle.rules.specs.Tasks.{count_of, answer_count};
 ghost use Rattle.rules.specs.Batches.{joined_message};
+ghost use Rattle.rules.specs.Bits.{right_bit};
 ghost use Rattle.rules.specs.Calls.{outcome, heard_after, hear_rule};
 ghost use Rattle.rules.specs.declared.state.Turn.TheVariants.{Speak, Hear};
 ghost use Rattle.rules.specs.declared.state.Phase.TheVariants.{Job as InJob};
 ghost use Rattle.exchange.specs.Opening.{begun};
 ghost use Rattle.exchange.specs.Boxes.{Ready, answers1, answers2};
-ghost use Rattle.exchange.specs.Jobs.{lent, roomy, opened_bits, no_bits, bits_of, ended, job_of, DealtFor, right_bit};
+ghost use Rattle.exchange.specs.Jobs.{lent, roomy, opened_bits, no_bits, bits_of, ended, job_of, DealtFor};
 
 use compare::words::LAST_ROUND;
 use field::Width;

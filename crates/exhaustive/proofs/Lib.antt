@@ -1,1 +1,2 @@
+pub mod Dealt
 pub mod Small

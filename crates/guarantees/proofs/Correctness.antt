@@ -1,5 +1,5 @@
 -- Demand 2 over lists, from what one run follows and the exchange's own theorem, in each of the jobs that a start took.
-use Prim.Native.Nat.{ℕ, suc, ◌+◌, ◌%◌, ◌<◌}
+use Prim.Native.Nat.{ℕ, suc, ◌+◌, ◌%◌, ◌<◌, ◌≤◌}
 use mathlib.Core.Path.{◌≡◌, refl, sym, ap, ap₂, subst, ◌∙◌}
 use mathlib.Core.Bool.{true}
 use mathlib.Core.List.{List, [], ◌∷◌}
@@ -9,14 +9,13 @@ use lib.Dec.{ltb}
 use lib.ListN.{length, length-replicate, get_or}
 use Rattle.field.specs.Width.{listed, modulus}
 use Rattle.field.proofs.Widths.{bounds}
-use Rattle.shares.specs.Side.{is_side, other}
-use Rattle.shares.proofs.Sides.{constant_total}
+use Rattle.shares.specs.Side.{other}
 use Rattle.tape.specs.Dealt.{Matched}
-use Rattle.encoding.specs.Matching.{indicator}
 use Rattle.protocol.specs.Work.{work_length}
 use Rattle.protocol.specs.Sizes.{count_fits}
 use Rattle.protocol.proofs.Halves.{indicator_bit}
 use Rattle.protocol.proofs.Right.{right}
+use Rattle.rules.specs.Bits.{right_bit}
 use Rattle.rules.specs.Tasks.{count_of, task_fits, pairs_of, answer_count}
 use Rattle.rules.specs.Answers.{started, spoke, finished}
 use Rattle.rules.specs.Batches.{x_in, y_in}
@@ -25,7 +24,7 @@ use Rattle.rules.specs.declared.state.Task.{Task}
 use Rattle.rules.specs.declared.state.Task.TheVariants.{Compare, Band}
 use Rattle.rules.proofs.Tasks.{bounds_in}
 use Rattle.rules.proofs.Batches.{given_at}
-use Rattle.rules.proofs.Bands.{band_total}
+use Rattle.rules.proofs.Bands.{band_right}
 use Rattle.guarantees.specs.Boxes.{Box, box1, box2, side_of}
 use Rattle.guarantees.specs.Keys.{Key}
 use Rattle.guarantees.specs.Entries.{Step, wake, start, speak, hear, drop, cut, cut_start, Entry}
@@ -34,7 +33,7 @@ use Rattle.guarantees.specs.Premises.{AtFirst, AllDealt, Meets}
 use Rattle.guarantees.specs.Maps.{taken_at}
 use Rattle.guarantees.specs.Outcomes.{kind_of, is_opening}
 use Rattle.guarantees.proofs.Outcomes.{opening_of, shares_are}
-use Rattle.guarantees.specs.Correctness.{Happened, Begun, Exchanged, bit_for, Right, Correctness}
+use Rattle.guarantees.specs.Correctness.{Happened, Begun, Exchanged, Right, Correctness}
 use Rattle.guarantees.specs.Jobs.{blank, sent_by, answer_in, answers_by}
 use Rattle.guarantees.proofs.Openings.{opening, takes_lem, one_more, next_place}
 use Rattle.guarantees.proofs.Once.{taken_there, Marked, marked_next, Once, once_run, SomeEach, some_run}
@@ -93,7 +92,11 @@ only_start log once some c key place t =
 
 -- the bit of one of the jobs, for the shares of x and y of box 1 and box 2
 abbrev job_bit : ℕ → List ℕ → List ℕ → ℕ → ℕ
-job_bit n pairs1 pairs2 i = indicator (ltb ((x_in pairs1 i + x_in pairs2 i) % modulus n) ((y_in pairs1 i + y_in pairs2 i) % modulus n))
+job_bit n pairs1 pairs2 i = right_bit n (Compare 1) pairs1 pairs2 i
+
+-- blank works have their room
+blank_room : (n : ℕ) → work_length n ≤ length (blank n).own
+blank_room n = le_of_eq (sym (length-replicate (work_length n) 0))
 
 -- the exchange's theorem in it
 exchange_right : (tapes : Box → ℕ → ℕ → List ℕ) (lent : Box → Key → Lending) (pair : ℕ) (key : Key) (i : ℕ) → listed key.width ≡ true
@@ -106,23 +109,17 @@ exchange_right tapes lent pair key i l m l1 l2 =
     let pairs1 = pairs_at lent box1 key in
     let pairs2 = pairs_at lent box2 key in
     let test = ltb ((x_in pairs1 i + x_in pairs2 i) % modulus key.width) ((y_in pairs1 i + y_in pairs2 i) % modulus key.width) in
-    let room = le_of_eq (sym (length-replicate (work_length key.width) 0)) in
+    let room = blank_room key.width in
     (right m (x_in pairs1 i) (y_in pairs1 i) (x_in pairs2 i) (y_in pairs2 i) l1 l2 (blank key.width) room room).same
     ∙ mod-eq_of_lt (omega (arith, indicator_bit test, bounds l))
 
 -- so what each box answers, each comparison's share or a band's from its two, adds up to the bit for the shares that were lent
 answers_right : (n : ℕ) (task : Task) (lent1 lent2 : Lending) (each1 each2 : ℕ → ℕ) → listed n ≡ true → task_fits n task ≡ true
     → ((i : ℕ) → i < count_of task → (each1 i + each2 i) % modulus n ≡ job_bit n (pairs_of 1 task lent1) (pairs_of 2 task lent2) i)
-    → (i : ℕ) → i < answer_count task → (answer_from n 1 task each1 i + answer_from n 2 task each2 i) % modulus n ≡ bit_for n task lent1 lent2 i
-unfolding other is_side
+    → (i : ℕ) → i < answer_count task → (answer_from n 1 task each1 i + answer_from n 2 task each2 i) % modulus n ≡ right_bit n task lent1 lent2 i
 answers_right n (Compare count) lent1 lent2 each1 each2 l fits sums i less = sums i less
 answers_right n (Band low high) lent1 lent2 each1 each2 l fits sums i less =
-    let b = bounds_in n low high fits in
-    let a = (get_or lent1 0 0 + get_or lent2 0 0) % modulus n in
-    let below : low < modulus n = omega (arith, b.0, b.1) in
-    band_total n low high a (each1 0) (each2 0) (each1 1) (each2 1) l b.0
-    (sums 0 (omega arith) ∙ rw (constant_total 1 low refl, mod-eq_of_lt below) refl)
-    (sums 1 (omega arith) ∙ rw (constant_total 1 high refl, mod-eq_of_lt b.1) refl)
+    band_right n low high i lent1 lent2 each1 each2 l (bounds_in n low high fits) (sums 0 (omega arith)) (sums 1 (omega arith))
 
 -- ---- a run that meets the premises
 
@@ -214,7 +211,7 @@ module _ (g : Setting) (pair : ℕ) (w : World) (entries : List Entry) (at : AtF
 
       added : (i : ℕ) → i < answer_count key.task
           → (get_or vs1 i 0 + get_or vs2 i 0) % modulus key.width
-          ≡ bit_for key.width key.task (g.shares box1 (taken_at log box1 key.first)) (g.shares box2 (taken_at log box2 key.first)) i
+          ≡ right_bit key.width key.task (g.shares box1 (taken_at log box1 key.first)) (g.shares box2 (taken_at log box2 key.first)) i
       added i less =
           ap₂ (λ (u v : ℕ). (u + v) % modulus key.width) (answer_at box1 key vs1 a1 i less) (answer_at box2 key vs2 a2 i less)
           ∙ answers_right key.width key.task (lent box1 key) (lent box2 key) (answer_in g.tapes lent box1 key) (answer_in g.tapes lent box2 key)

@@ -37,22 +37,14 @@ use Rattle.guarantees.specs.Run.{Lending, Setting, Memory, Said, replied, Event,
 use Rattle.guarantees.specs.Premises.{TrueMessage, Keeps}
 use Rattle.guarantees.specs.Jobs.{party_at, sent_in, answer_in, sent_by, answers_by}
 use Rattle.guarantees.proofs.Outcomes.{cut_plain}
+use Rattle.guarantees.proofs.Logs.{turn_event}
 use Rattle.guarantees.proofs.Deliveries.{ground_lent, rule_lent}
-use Rattle.guarantees.proofs.Jobs.{InOrder, dealt_part, pairs_at, holding, sent_is, holding_next, answer_is, holding_room, sent_part}
+use Rattle.guarantees.proofs.Jobs.{InOrder, dealt_part, own_key, pairs_at, holding, sent_is, holding_next, answer_is, holding_room, sent_part}
 use Rattle.rules.proofs.Batches.{count_most, each_same, batch_x, batch_y}
 use Rattle.rules.proofs.Spoken.{spoken_front, joined_after_length, after_part}
 use Rattle.rules.proofs.Decide.{decide}
 use Rattle.rules.proofs.Ranges.{awake_mode}
 use Rattle.rules.proofs.Passed.{start_passed, TurnPassed, speak_passed, hear_passed}
-
--- what the log has of a speak or a hear
-abbrev turn_event : Box → Memory → ℕ → ℕ → Result → List ℕ → List ℕ → Event
-turn_event b m first round r spoken incoming =
-    record { box = b; key = key_at m.state first; round = round; said = replied r.reply; spoken = spoken; incoming = incoming }
-
--- the job that a state holds
-abbrev pub own_key : State → Key
-own_key s = key_at s s.batch.first
 
 -- the shares that opened each job, and which jobs each box opened
 module _ (g : Setting) (book : Box → Key → Lending) (Known : Box → Key → Type 0) where
@@ -166,14 +158,13 @@ module _ (g : Setting) (book : Box → Key → Lending) (Known : Box → Key →
       (λ zero_ground.
       let p = start_passed m.state first task v tapes m.work m.tally zero_ground in
       let e = booked zero_ground in
-      let pairs = pairs_of m.state.side task v in
       record {
         holds =
             settle b _ m.work
             (record {
               own = e.1;
-              x_is = λ i less. batch_x first task pairs i p.counted less ∙ ap (λ (q : List ℕ). x_in q i) (sym (e.0 m.state.side));
-              y_is = λ i less. batch_y first task pairs i p.counted less ∙ ap (λ (q : List ℕ). y_in q i) (sym (e.0 m.state.side));
+              x_is = λ i less. batch_x first task _ i p.counted less ∙ ap (λ (q : List ℕ). x_in q i) (sym (e.0 m.state.side));
+              y_is = λ i less. batch_y first task _ i p.counted less ∙ ap (λ (q : List ℕ). y_in q i) (sym (e.0 m.state.side));
               room = p.room;
               heard = 0;
               count = refl;
@@ -213,9 +204,9 @@ module _ (g : Setting) (book : Box → Key → Lending) (Known : Box → Key →
         width = l;
         counted = p.range.counted;
         early = omega (arith, p.range.last, inside.count);
-        y_fits = λ i less. rw (← own_y i less) (p.range.y_fits i less);
+        y_fits = λ i less. rw (← (own i less).1) (p.range.y_fits i less);
         side_is = side 0 (count_most (count_of s.batch.task) p.range.counted).0;
-        party_is = λ i less. rw (own_x i less, own_y i less, side i less, tape i less) refl;
+        party_is = λ i less. rw ((own i less).0, (own i less).1, side i less, tape i less) refl;
       }
     where
       s : State
@@ -241,11 +232,9 @@ module _ (g : Setting) (book : Box → Key → Lending) (Known : Box → Key →
           (rw (← tape i less) (p.ordered i less)) (orders b number s.n l)).side_is
 
       -- so its shares are those that the job's task gives at its box
-      own_x : (i : ℕ) → i < count_of s.batch.task → get_or s.batch.x i 0 ≡ x_in (pairs_at book b (own_key s)) i
-      own_x i less = inside.x_is i less ∙ ap (λ (c : ℕ). x_in (pairs_of c s.batch.task (book b (own_key s))) i) (side i less)
-
-      own_y : (i : ℕ) → i < count_of s.batch.task → get_or s.batch.y i 0 ≡ y_in (pairs_at book b (own_key s)) i
-      own_y i less = inside.y_is i less ∙ ap (λ (c : ℕ). y_in (pairs_of c s.batch.task (book b (own_key s))) i) (side i less)
+      own : (i : ℕ) → i < count_of s.batch.task
+          → (get_or s.batch.x i 0 ≡ x_in (pairs_at book b (own_key s)) i) × (get_or s.batch.y i 0 ≡ y_in (pairs_at book b (own_key s)) i)
+      own i less = rw (← side i less) (inside.x_is i less, inside.y_is i less)
 
   -- ---- speak
 
@@ -462,8 +451,7 @@ module _ (g : Setting) (book : Box → Key → Lending) (Known : Box → Key →
       }
 
   -- calls that say nothing of an exchange
-  quiet_wake : (m : Memory) (n side p : ℕ) (e : Event) → e.spoken ≡ []
-      → Conforms e (kind_of (replied (wake_rule m.state n side p m.tally).reply))
+  quiet_wake : (m : Memory) (n side p : ℕ) (e : Event) → e.spoken ≡ [] → Conforms e (kind_of (replied (wake_rule m.state n side p m.tally).reply))
   unfolding wake_rule
   quiet_wake m n side p e none =
       decide (λ r. Conforms e (kind_of (replied r.reply))) (wake_ground m.state n side m.tally) m.state m.tally _ (λ z. none) none

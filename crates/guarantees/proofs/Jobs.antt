@@ -17,8 +17,9 @@ use Rattle.protocol.specs.Exchange.{Both, exchanged, sent_own, sent_others, answ
 use Rattle.protocol.proofs.Lengths.{message_length, after_length}
 use Rattle.rules.specs.Tasks.{count_of, pairs_of}
 use Rattle.rules.specs.Batches.{tape_part, words_part}
+use Rattle.rules.specs.declared.state.State.{State}
 use Rattle.guarantees.specs.Boxes.{Box, box1, box2, side_of, other_box}
-use Rattle.guarantees.specs.Keys.{Key}
+use Rattle.guarantees.specs.Keys.{Key, key_at}
 use Rattle.guarantees.specs.Run.{Lending, Setting}
 use Rattle.guarantees.specs.Jobs.{blank, party_at, sent_in, answer_in, sent_by}
 
@@ -36,6 +37,10 @@ module _ (g : Setting) (pair : ℕ) (orders : InOrder g pair) (b : Box) (first n
 
   pub dealt_part : (count i : ℕ) → i < count → tape_part n (chained count dealt_tape) i ≡ dealt_tape i
   dealt_part count i less = part_chained count (tape_length n) dealt_tape i less (λ k before. dealt_long k)
+
+-- the job that a state holds
+abbrev pub own_key : State → Key
+own_key s = key_at s s.batch.first
 
 -- a box's shares of x and y in each of a key's jobs, from the shares that opened each
 abbrev pub pairs_at : (Box → Key → Lending) → Box → Key → List ℕ

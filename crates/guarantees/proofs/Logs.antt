@@ -4,9 +4,16 @@ use mathlib.Core.Path.{◌≡◌, refl}
 use mathlib.Core.List.{List, [], ◌∷◌, ◌++◌}
 use native.Mathlib.Omega.{arith}
 use lib.ListN.{length, length-append}
+use Rattle.rules.specs.Calls.{Result}
 use Rattle.guarantees.specs.Boxes.{Box, box1, box2}
-use Rattle.guarantees.specs.Run.{Memory, Event, World, after, quiet, event_at}
+use Rattle.guarantees.specs.Keys.{key_at}
+use Rattle.guarantees.specs.Run.{Memory, replied, Event, World, after, quiet, event_at}
 use Rattle.guarantees.proofs.LowEquivalence.{LowEvent}
+
+-- what the log has of a speak or a hear
+abbrev pub turn_event : Box → Memory → ℕ → ℕ → Result → List ℕ → List ℕ → Event
+turn_event b m first round r spoken incoming =
+    record { box = b; key = key_at m.state first; round = round; said = replied r.reply; spoken = spoken; incoming = incoming }
 
 pub after_log : (w : World) (b : Box) (m : Memory) (e : Event) → (after w b m e).log ≡ w.log ++ (e ∷ [])
 after_log w box1 m e = refl

@@ -39,13 +39,14 @@ use Rattle.rules.specs.Modes.{in_range, mode_of, is_asleep}
 use Rattle.rules.specs.Batches.{joined_message, joined_after, answer_shares}
 use Rattle.rules.specs.Grounds.{wake_ground, start_ground, speak_ground, hear_ground, drop_ground}
 use Rattle.rules.specs.Calls.{wake_rule, start_rule, speak_rule, heard_after, hear_rule, drop_rule}
+use Rattle.rules.specs.Bits.{right_bit}
 use Rattle.guarantees.specs.Boxes.{Box, box1, box2, other_box}
 use Rattle.guarantees.specs.Keys.{Key, key_at}
 use Rattle.guarantees.specs.Entries.{dealt, Incoming, spoken_at, other, hear}
 use Rattle.guarantees.specs.Run.{Lending, Setting, Said, replied, Event, memory_of, event_at, tape_words, incoming_words, stepped, run}
 use Rattle.guarantees.specs.Premises.{AtFirst, TrueMessage, Meets, AllCompatible}
 use Rattle.guarantees.specs.Comparison.{Valid, by_box}
-use Rattle.guarantees.specs.Correctness.{Happened, bit_for}
+use Rattle.guarantees.specs.Correctness.{Happened}
 use Rattle.guarantees.specs.Possible.{pair_number, shares_of, shares_anew, plain_set, zeros, last_hears, two_to_five}
 use Rattle.guarantees.specs.Possible.{Case, whole, respelled, again, joined, between, banded, band_again, band_between}
 use Rattle.guarantees.specs.Possible.{common_in, setting_in, world_in, log_in, starts_twice, setting_for, world_at_first, mixed, mixed_asks, one_to_five}
@@ -214,7 +215,7 @@ sum_tested : (k : Case)
     → every (answer_count k.key.task)
     (λ i.
     eqb ((get_or k.answers1 i 0 + get_or k.answers2 i 0) % modulus 3)
-    (bit_for 3 k.key.task (shares_of k.asks box1 k.opened) (shares_of k.asks box2 (k.opened + 1)) i))
+    (right_bit 3 k.key.task (shares_of k.asks box1 k.opened) (shares_of k.asks box2 (k.opened + 1)) i))
     ≡ true
     → RightSumIn k
 sum_tested k t i below = eqb-true _ _ (every_at (answer_count k.key.task) _ t i below)

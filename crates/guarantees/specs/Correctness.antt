@@ -1,13 +1,10 @@
 -- Demand 2 over lists. Every message and the answer shares are the exchanges', for what was lent at the two starts; where both boxes finish
 -- one job, their answer shares add up to the bits for that: for each of the comparisons that its start took, or for its band.
-use Rattle.std.specs.Prelude.{ℕ, ◌+◌, ◌%◌, ◌<◌, ◌≡◌, ◌&&◌, List, ltb, length, get_or}
-use Rattle.encoding.specs.Matching.{indicator}
+use Rattle.std.specs.Prelude.{ℕ, ◌+◌, ◌%◌, ◌<◌, ◌≡◌, List, length, get_or}
 use Rattle.field.specs.Width.{modulus}
 use Rattle.rules.specs.Answers.{started, spoke, finished}
 use Rattle.rules.specs.Tasks.{answer_count}
-use Rattle.rules.specs.Batches.{x_in, y_in}
-use Rattle.rules.specs.declared.state.Task.{Task}
-use Rattle.rules.specs.declared.state.Task.TheVariants.{Compare, Band}
+use Rattle.rules.specs.Bits.{right_bit}
 use Rattle.guarantees.specs.Boxes.{Box, box1, box2}
 use Rattle.guarantees.specs.Keys.{Key}
 use Rattle.guarantees.specs.Entries.{Entry}
@@ -37,20 +34,13 @@ pub record Exchanged (g : Setting) (log : List Event) : Type 0 where
   pub answers : (b : Box) (place : ℕ) (key : Key) (vs : List ℕ) → Happened log place b key (replied (finished vs))
       → Begun log b key × (vs ≡ answers_by g.tapes book b key)
 
--- the bit for the shares of box 1 and box 2: in comparison i x < y, in a band c1 < a and a < c2
-abbrev pub bit_for : ℕ → Task → Lending → Lending → ℕ → ℕ
-bit_for n (Compare count) lent1 lent2 i = indicator (ltb ((x_in lent1 i + x_in lent2 i) % modulus n) ((y_in lent1 i + y_in lent2 i) % modulus n))
-bit_for n (Band low high) lent1 lent2 i =
-    let a = (get_or lent1 0 0 + get_or lent2 0 0) % modulus n in
-    indicator (ltb low a && ltb a high)
-
 -- each box has one start of the job, and the answers vs1 and vs2 add up to the bits for the shares lent there
 pub record Right (g : Setting) (log : List Event) (key : Key) (vs1 vs2 : List ℕ) : Type 0 where
   pub place : Box → ℕ
   pub opened : (b : Box) → Happened log (place b) b key (replied started)
   pub only : (b : Box) (other : ℕ) → Happened log other b key (replied started) → other ≡ place b
   pub sum : (i : ℕ) → i < answer_count key.task
-      → (get_or vs1 i 0 + get_or vs2 i 0) % modulus key.width ≡ bit_for key.width key.task (g.shares box1 (place box1)) (g.shares box2 (place box2)) i
+      → (get_or vs1 i 0 + get_or vs2 i 0) % modulus key.width ≡ right_bit key.width key.task (g.shares box1 (place box1)) (g.shares box2 (place box2)) i
 
 pub record Correct (g : Setting) (log : List Event) : Type 0 where
   pub exchanged : Exchanged g log

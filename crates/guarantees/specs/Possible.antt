@@ -14,6 +14,7 @@ use Rattle.rules.specs.Answers.{started, heard, finished, refused}
 use Rattle.rules.specs.Tasks.{count_of, answer_count}
 use Rattle.rules.specs.Grounds.{start_ground}
 use Rattle.rules.specs.Batches.{no_batch}
+use Rattle.rules.specs.Bits.{right_bit}
 use Rattle.rules.specs.declared.state.Task.{Task}
 use Rattle.rules.specs.declared.state.Task.TheVariants.{Compare, Band}
 use Rattle.rules.specs.declared.state.Phase.TheVariants.{Asleep}
@@ -23,7 +24,7 @@ use Rattle.guarantees.specs.Entries.{dealt, spoken_at, Step, wake, start, speak,
 use Rattle.guarantees.specs.Run.{Lending, Said, Setting, replied, Event, World, event_at, tape_words, run}
 use Rattle.guarantees.specs.Premises.{Meets}
 use Rattle.guarantees.specs.Comparison.{TapeSet, Valid, Common, Loose, world_of, setting_of, Premises}
-use Rattle.guarantees.specs.Correctness.{Happened, bit_for}
+use Rattle.guarantees.specs.Correctness.{Happened}
 
 abbrev pub pair_number : ℕ
 pair_number = 5
@@ -224,7 +225,7 @@ abbrev pub RightSumIn : Case → Type 0
 RightSumIn k =
     (i : ℕ) → i < answer_count k.key.task
     → (get_or k.answers1 i 0 + get_or k.answers2 i 0) % modulus 3
-    ≡ bit_for 3 k.key.task (shares_of k.asks box1 k.opened) (shares_of k.asks box2 (k.opened + 1)) i
+    ≡ right_bit 3 k.key.task (shares_of k.asks box1 k.opened) (shares_of k.asks box2 (k.opened + 1)) i
 
 pub record RightSum : Type 0 where
   pub in_whole : RightSumIn whole

@@ -1,6 +1,7 @@
 pub mod Answers
 pub mod Tasks
 pub mod Batches
+pub mod Bits
 pub mod Modes
 pub mod Grounds
 pub mod Later

@@ -22,18 +22,6 @@ use Rattle.exchange.specs.Opening.{refusal_of}
 use Rattle.walk.specs.Said.{as_reply}
 use Rattle.walk.specs.Walk.{After}
 
--- two words that are one are equal by the test, and so are two lists of words
-pub equal_word : (x y : ℕ) → x ≡ y → eqb x y ≡ true
-equal_word x y e = grind (arith, e)
-
-pub equal_list : (xs ys : List ℕ) → xs ≡ ys → pointwise nat_eq xs ys ≡ true
-equal_list xs ys e = rw e (nat_list_eq_equiv.refl ys)
-
-pub fields : {s t : State} → s ≡ t
-    → (s.n ≡ t.n) × (s.side ≡ t.side) × (s.pair ≡ t.pair) × (s.tally ≡ t.tally) × (s.phase ≡ t.phase)
-    × (s.batch.first ≡ t.batch.first) × (s.batch.count ≡ t.batch.count) × (s.batch.x ≡ t.batch.x) × (s.batch.y ≡ t.batch.y)
-fields e = rw e (refl, refl, refl, refl, refl, refl, refl, refl, refl)
-
 same_result : (a b : Result) → a.reply ≡ b.reply → a.state ≡ b.state → a.buffer ≡ b.buffer → a ≡ b
 same_result a b reply state buffer = grind arith
 

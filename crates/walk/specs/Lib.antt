@@ -5,3 +5,4 @@ pub mod Deals
 pub mod JobSteps
 pub mod Courses
 pub mod Three
+pub mod Bands

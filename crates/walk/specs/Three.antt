@@ -4,6 +4,7 @@ use Rattle.lists.specs.Joined.{chained, part}
 use Rattle.protocol.specs.Rounds.{last_round, round_words}
 use Rattle.deals.specs.Deals.{dealt_tape}
 use Rattle.rules.specs.Answers.{reply_of}
+use Rattle.rules.specs.declared.state.Task.TheVariants.{Compare}
 use Rattle.walk.specs.Said.{as_reply, shares_in}
 use Rattle.walk.specs.Courses.{Asked, asked, Woken, Course, CourseFrom}
 use Rattle.walk.specs.declared.progress.Pair.{Pair}
@@ -20,7 +21,7 @@ dealt_tapes side = chained 3 (dealt_at side)
 -- so many of the comparisons from this one on, as a job
 abbrev pub three_of : ℕ → ℕ → Asked
 three_of from count =
-    asked (1 + from) count
+    asked (1 + from) (Compare count) (Compare count)
     (take (2 * count) (drop (2 * from) (5 ∷ 1 ∷ 6 ∷ 2 ∷ 3 ∷ 4 ∷ [])))
     (take (2 * count) (drop (2 * from) (5 ∷ 3 ∷ 5 ∷ 1 ∷ 2 ∷ 1 ∷ [])))
     (take (149 * count) (drop (149 * from) (dealt_tapes 1)))

@@ -6,11 +6,14 @@ use Rattle.tape.specs.Layout.{trailer}
 use Rattle.tape.specs.Plain.{plain_tape}
 use Rattle.protocol.specs.Rounds.{round_words}
 use Rattle.rules.specs.Answers.{reply_of}
+use Rattle.rules.specs.Tasks.{pairs_of}
 use Rattle.rules.specs.Batches.{no_batch, batch_of}
 use Rattle.rules.specs.Calls.{Result, start_rule, speak_rule, hear_rule}
 use Rattle.rules.specs.declared.state.Turn.{Turn}
 use Rattle.rules.specs.declared.state.Turn.TheVariants.{Speak, Hear}
 use Rattle.rules.specs.declared.state.Phase.TheVariants.{Idle, Job}
+use Rattle.rules.specs.declared.state.Task.TheVariants.{Compare, Band}
+use Rattle.rules.specs.declared.state.Batch.{Batch}
 use Rattle.rules.specs.declared.state.State.{State}
 use Rattle.exchange.specs.Opening.{refusal_of}
 use Rattle.walk.specs.Said.{as_reply}
@@ -31,15 +34,23 @@ with_side s side = record { n = s.n; side = side; pair = s.pair; tally = s.tally
 
 -- box 1 in a job on tape 0 with the shares 5 and 1
 abbrev pub job_state : ℕ → Turn → State
-job_state tally turn = record { n = 3; side = 1; pair = 5; tally = tally; phase = Job turn; batch = batch_of 0 1 (5 ∷ 1 ∷ []) }
+job_state tally turn = record { n = 3; side = 1; pair = 5; tally = tally; phase = Job turn; batch = batch_of 0 (Compare 1) (5 ∷ 1 ∷ []) }
 
--- box 1 in a job of two on tapes 0 and 1 with the shares 5 and 1, then 6 and 2
-abbrev pub two_state : Turn → State
-two_state turn = record { n = 3; side = 1; pair = 5; tally = 16; phase = Job turn; batch = batch_of 0 2 (5 ∷ 1 ∷ 6 ∷ 2 ∷ []) }
+-- box 1 in whatever job
+abbrev pub due_state : Turn → Batch → State
+due_state turn batch = record { n = 3; side = 1; pair = 5; tally = 16; phase = Job turn; batch = batch }
+
+-- what it holds of a job of two on tapes 0 and 1 with the shares 5 and 1, then 6 and 2
+abbrev pub two_batch : Batch
+two_batch = batch_of 0 (Compare 2) (5 ∷ 1 ∷ 6 ∷ 2 ∷ [])
+
+-- and of a band on tapes 0 and 1 with the bounds 2 and 5, where its share of a is 3
+abbrev pub band_batch : Batch
+band_batch = batch_of 0 (Band 2 5) (pairs_of 1 (Band 2 5) (3 ∷ []))
 
 -- a start of one job, with these shares
 abbrev pub one_start : State → ℕ → ℕ → ℕ → List ℕ → List ℕ → List ℕ → Result
-one_start s number x y tape work tally = start_rule s number 1 (x ∷ y ∷ []) tape work tally
+one_start s number x y tape work tally = start_rule s number (Compare 1) (x ∷ y ∷ []) tape work tally
 
 -- a box's plain tape of width 3 and pair 5
 abbrev pub box_tape : ℕ → ℕ → List ℕ
@@ -53,12 +64,12 @@ joined_tapes sides first = chained (length sides) (λ i. box_tape (get_or sides 
 abbrev pub filler : ℕ → List ℕ
 filler count = replicate count 9
 
--- the speak and the hear that are due in the job of two, where out and work have room for three
-abbrev pub roomy_speak : Result
-roomy_speak = speak_rule (two_state (Speak 1)) 0 1 (joined_tapes (1 ∷ 1 ∷ []) 0) (tabulate 200 (λ k. 0)) (filler 99)
+-- a speak and a hear of round 1 in a job of two, or a band, on tapes 0 and 1, where out and work have room for three
+abbrev pub roomy_speak : State → Result
+roomy_speak s = speak_rule s 0 1 (joined_tapes (1 ∷ 1 ∷ []) 0) (tabulate 200 (λ k. 0)) (filler 99)
 
-abbrev pub roomy_hear : Result
-roomy_hear = hear_rule (two_state (Hear 1)) 0 1 (joined_tapes (1 ∷ 1 ∷ []) 0) (filler 300) (tabulate 66 (λ k. 0))
+abbrev pub roomy_hear : State → Result
+roomy_hear s = hear_rule s 0 1 (joined_tapes (1 ∷ 1 ∷ []) 0) (filler 300) (tabulate 66 (λ k. 0))
 
 -- what is told of a call in a state: the rule's reply, and the rule's state, and it's called kept just when the rule leaves the state, and the buffer, as it was
 pub record Answered (tried : Tried) (state : State) (buffer : List ℕ) (rule : Result) : Type 0 where

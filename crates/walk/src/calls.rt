@@ -1,16 +1,16 @@
 // One call of a box on copies of its buffers: what it answered, and whether all is as it was.
 ghost use Rattle.std.specs.Prelude.{◌≡◌, true, ◌&&◌, [], eqb, length};
 ghost use Rattle.refusals.specs.Numbers.{number_of};
-ghost use Rattle.rules.specs.Answers.{reply_of};
+ghost use Rattle.rules.specs.Answers.{started, reply_of};
 ghost use Rattle.exchange.specs.Opening.{refusal_of};
-ghost use Rattle.rules.specs.Calls.{wake_rule, start_rule, speak_rule, hear_rule, drop_rule};
+ghost use Rattle.rules.specs.Calls.{outcome, wake_rule, start_rule, speak_rule, hear_rule, drop_rule};
 ghost use Rattle.walk.specs.Said.{as_reply};
 ghost use Rattle.walk.specs.Walk.{filler, one_start, Answered};
 
 use crate::answers;
 use crate::answers::Answer;
 use refusals::Refusal;
-use rules::state::State;
+use rules::state::{State, Task};
 
 // What stands in the buffers that a call is lent to write.
 pub const FILLER: u32 = 9;
@@ -39,6 +39,13 @@ pub fn untouched(words: &[u32]) -> bool
     words.iter().all(|&word| word == FILLER)
 }
 
+// A function of its own, as both ways are asked for.
+pub fn same_state(a: State, b: State) -> bool
+    ensures { (result ≡ true → a ≡ b) × (a ≡ b → result ≡ true) }
+{
+    a == b
+}
+
 fn compared(before: State, after: State, answer: Answer, kept: bool) -> Tried
     ensures { (result.answer ≡ answer) × (result.state ≡ after) × (result.kept ≡ true → (kept ≡ true) × (before ≡ after))
         × (kept ≡ true → before ≡ after → result.kept ≡ true) }
@@ -46,7 +53,7 @@ fn compared(before: State, after: State, answer: Answer, kept: bool) -> Tried
     Tried {
         answer,
         state: after,
-        kept: kept && before == after,
+        kept: kept && same_state(before, after),
     }
 }
 
@@ -58,20 +65,42 @@ pub fn wake(state: State, n: u32, side: u32, tally: &[u8]) -> Tried
     compared(state, after, answers::of_wake(answer), true)
 }
 
+// A start of comparisons or of a band, with the state and the tally that it changes. A band's list has its one share of a.
+pub fn open(
+    state: &mut State,
+    first: u32,
+    task: Task,
+    shares: &[u32],
+    tapes: &[u32],
+    work: &[u32],
+    tally: &mut [u8],
+) -> Result<(), Refusal>
+    ensures { outcome (reply_of (λ _. started) result) state.new tally.new
+        ≡ start_rule state.old first task shares.now tapes.now work.now tally.old }
+{
+    match task {
+        Task::Compare(count) => limit_box::start(state, first, count, shares, tapes, work, tally),
+        Task::Band(low, high) => {
+            let share = shares.first().copied().unwrap_or(0);
+            limit_box::start_band(state, first, low, high, share, tapes, work, tally)
+        }
+    }
+}
+
 pub fn start<const N: usize>(
     state: State,
     first: u32,
-    count: u32,
+    task: Task,
     shares: &[u32],
     tapes: &[u32],
     work: &[u32],
     tally: [u8; N],
 ) -> Tried
-    ensures { Answered result state tally.entry (start_rule state first count shares.now tapes.now work.now tally.entry) }
+    ensures { Answered result state tally.entry (start_rule state first task shares.now tapes.now work.now tally.entry) }
 {
     let mut after = state;
     let mut marks = tally;
-    let answer = limit_box::start(&mut after, first, count, shares, tapes, work, &mut marks);
+    let answer = open(&mut after, first, task, shares, tapes, work, &mut marks);
     compared(state, after, answers::of_start(answer), tally == marks)
 }
 
@@ -87,7 +116,8 @@ pub fn start_one<const N: usize>(
 ) -> Tried
     ensures { Answered result state tally.entry (one_start state number x y tape.now work.now tally.entry) }
 {
-    start(state, number, 1, &[x, y], tape, work, tally)
+    let shares = [x, y];
+    start(state, number, Task::Compare(1), &shares, tape, work, tally)
 }
 
 // `out` is lent full of filler.

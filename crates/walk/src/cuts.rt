@@ -13,7 +13,7 @@ use crate::tallies::with_mark;
 use std::io;
 
 // What a wake or a drop leaves of the box: its tally is as it was.
-fn after<const N: usize>(box1: &Box1<N>, tried: Tried) -> Box1<N>
+pub fn after<const N: usize>(box1: &Box1<N>, tried: Tried) -> Box1<N>
     ensures { (result.state ≡ tried.state) × (result.tally ≡ box1.now.tally) }
 {
     Box1 {

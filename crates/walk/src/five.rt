@@ -1,17 +1,18 @@
 // Box 1's five calls, each lent all that it needs.
-ghost use Rattle.std.specs.Prelude.{◌≡◌, ◌≤◌, take};
+ghost use Rattle.std.specs.Prelude.{◌≡◌, ◌<◌, ◌≤◌, [], ◌∷◌, take};
 ghost use Rattle.lists.specs.Tabulate.{tabulate};
 ghost use Rattle.protocol.specs.Rounds.{round_words};
 ghost use Rattle.rules.specs.Modes.{asleep_state};
-ghost use Rattle.rules.specs.Calls.{speak_rule, hear_rule};
-ghost use Rattle.walk.specs.Walk.{box_tape, filler, one_start, Answered};
+ghost use Rattle.rules.specs.Calls.{start_rule, speak_rule, hear_rule};
+ghost use Rattle.rules.specs.declared.state.Task.TheVariants.{Band};
+ghost use Rattle.walk.specs.Walk.{box_tape, joined_tapes, filler, one_start, Answered};
 
 use crate::calls;
-use crate::calls::{FILLER, Tried, hear, speak, start_one};
+use crate::calls::{FILLER, Tried, hear, speak, start, start_one};
 use crate::say::short;
-use crate::tapes::plain;
+use crate::tapes::{joined, plain};
 use field::Width;
-use rules::state::{NO_BATCH, Phase, State};
+use rules::state::{NO_BATCH, Phase, State, Task};
 use std::io;
 
 // The words of a round at width 3: no more than the first has.
@@ -67,6 +68,25 @@ impl<const N: usize> Box1<N> {
         let Box1 { state, tally } = *self;
         let tape = plain(1, number);
         start_one(state, number, 5, 1, &tape, &[0; 100], tally)
+    }
+
+    // A start of a band on such a tape and the next, 2 < a and a < 5.
+    pub fn band_on(&self, number: u32) -> Tried
+        requires { number < 10 }
+        ensures { Answered result self.now.state self.now.tally
+            (start_rule self.now.state number (Band 2 5) (3 ∷ []) (joined_tapes (1 ∷ 1 ∷ []) number) (tabulate 200 (λ k. 0)) self.now.tally) }
+    {
+        let Box1 { state, tally } = *self;
+        let tapes: [u32; 298] = joined(&[1, 1], number);
+        start(
+            state,
+            number,
+            Task::Band(2, 5),
+            &[3],
+            &tapes,
+            &[0; 200],
+            tally,
+        )
     }
 
     // What each of the five answers: a start on tape 1, this speak and this hear.

@@ -11,7 +11,7 @@ use crate::{states, tallies};
 use std::io;
 
 // What is left of box 1 after such a cut in a start on tapes 1 to 8 of ten.
-fn after_cut(marks: usize, left: [u8; 4]) -> Box1<40>
+pub fn after_cut(marks: usize, left: [u8; 4]) -> Box1<40>
     requires { marks < 8 }
     ensures { (result.state ≡ asleep_state (idle_state 40)) × (result.tally ≡ cut_marks ten_fresh 1 marks (mark_of left 0)) }
 {
@@ -22,14 +22,20 @@ fn after_cut(marks: usize, left: [u8; 4]) -> Box1<40>
     awake.cut()
 }
 
-fn line(rt: &impl Print, marks: usize, left: [u8; 4]) -> io::Result<()>
+pub fn label(rt: &impl Print, jobs: &str, marks: usize, left: [u8; 4]) -> io::Result<()>
     requires { marks < 8 }
 {
     print!(rt;
-        "cut in mark {} of a start of eight on tape 1, bytes",
+        "cut in mark {} of a start of {jobs} on tape 1, bytes",
         marks + 1
     )?;
-    bytes(rt, &left)?;
+    bytes(rt, &left)
+}
+
+fn line(rt: &impl Print, marks: usize, left: [u8; 4]) -> io::Result<()>
+    requires { marks < 8 }
+{
+    label(rt, "eight", marks, left)?;
     awake_again(rt, &after_cut(marks, left), 10)
 }
 

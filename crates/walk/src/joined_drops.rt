@@ -9,8 +9,9 @@ use crate::memory::BoxMemory;
 use crate::say::{batch, short};
 use std::io;
 
-fn line(rt: &impl Print, step: u32) -> io::Result<()> {
-    let BoxMemory { state, tally, .. } = together(step).box1;
+// After that step, with what the box keeps then.
+pub fn line(rt: &impl Print, step: u32, memory: BoxMemory) -> io::Result<()> {
+    let BoxMemory { state, tally, .. } = memory;
     print!(rt; "after {}:", Step::at(step))?;
     batch(rt, state.batch)?;
     let dropped = calls::drop(state);
@@ -29,7 +30,7 @@ fn line(rt: &impl Print, step: u32) -> io::Result<()> {
 pub fn lines(rt: &impl Print) -> io::Result<()> {
     println!(rt; "a drop of a job of three on tape 1")?;
     for step in 1..=LAST {
-        line(rt, step)?;
+        line(rt, step, together(step).box1)?;
     }
     Ok(())
 }

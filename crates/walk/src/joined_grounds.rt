@@ -3,23 +3,33 @@
 ghost use Rattle.std.specs.Prelude.{◌≡◌, ◌≤◌, ◌<◌, [], ◌∷◌, set, replicate, take};
 ghost use Rattle.lists.specs.Tabulate.{tabulate};
 ghost use Rattle.rules.specs.Calls.{start_rule};
+ghost use Rattle.rules.specs.declared.state.Task.TheVariants.{Compare};
 ghost use Rattle.walk.specs.Walk.{idle_state, joined_tapes, fresh_tally, Answered};
 
 use crate::calls::{Tried, start};
 use crate::say::line;
 use crate::tallies::{FRESH, one_byte};
 use crate::{states, tapes};
+use rules::state::Task;
 use std::io;
 
 // A start of three jobs, with plain tapes of those sides and so many words of work.
 fn of_three(first: u32, shares: [u32; 6], sides: [u32; 3], words: usize) -> Tried
     requires { (first ≤ 4) × (words ≤ 300) }
     ensures { Answered result (idle_state 16) fresh_tally
-        (start_rule (idle_state 16) first 3 shares (joined_tapes sides first) (take words (replicate 300 0)) fresh_tally) }
+        (start_rule (idle_state 16) first (Compare 3) shares (joined_tapes sides first) (take words (replicate 300 0)) fresh_tally) }
 {
     let tapes: [u32; 447] = tapes::joined(&sides, first);
     let work = &[0; 300][..words];
-    start(states::idle(), first, 3, &shares, &tapes, work, FRESH)
+    start(
+        states::idle(),
+        first,
+        Task::Compare(3),
+        &shares,
+        &tapes,
+        work,
+        FRESH,
+    )
 }
 
 const GOOD: [u32; 6] = [5, 1, 6, 2, 3, 4];
@@ -102,33 +112,40 @@ fn double(rt: &impl Print) -> io::Result<()> {
     )
 }
 
-// A start of two jobs on tape 1, where a byte of the tally is another.
-fn on_byte(place: usize, byte: u8, shares: [u32; 4]) -> Tried
+// A start of two jobs or of a band on tape 1, where a byte of the tally is another.
+pub fn on_byte(place: usize, byte: u8, task: Task, shares: &[u32]) -> Tried
     requires { place < 16 }
     ensures { Answered result (idle_state 16) (set fresh_tally place byte)
-        (start_rule (idle_state 16) 1 2 shares (joined_tapes (1 ∷ 1 ∷ []) 1) (tabulate 200 (λ k. 0)) (set fresh_tally place byte)) }
+        (start_rule (idle_state 16) 1 task shares.now (joined_tapes (1 ∷ 1 ∷ []) 1) (tabulate 200 (λ k. 0)) (set fresh_tally place byte)) }
 {
     let tally = one_byte(place, byte);
     let tapes: [u32; 298] = tapes::joined(&[1, 1], 1);
-    start(states::idle(), 1, 2, &shares, &tapes, &[0; 200], tally)
+    start(states::idle(), 1, task, shares, &tapes, &[0; 200], tally)
 }
 
 // In the group below the first number, in its own, in the second's, and in the one above both, 00 or half written: what is not fresh above the
-// first number makes it late, and nothing else of the jobs is looked at.
-fn marks(rt: &impl Print) -> io::Result<()> {
-    for (what, place, byte, shares) in [
-        ("byte 3 00", 3, 0, [5, 1, 6, 2]),
-        ("byte 4 00", 4, 0, [5, 1, 6, 2]),
-        ("byte 7 FE", 7, 254, [5, 1, 6, 2]),
-        ("byte 8 00", 8, 0, [5, 1, 6, 2]),
-        ("byte 11 FE", 11, 254, [5, 1, 6, 2]),
-        ("byte 12 00", 12, 0, [5, 1, 6, 2]),
-        ("byte 15 FE", 15, 254, [5, 1, 6, 2]),
-        ("byte 11 FE, job 1's x 7", 11, 254, [7, 1, 6, 2]),
-        ("byte 11 FE, job 2's x 7", 11, 254, [5, 1, 7, 2]),
+// first number makes it late.
+pub fn marks(rt: &impl Print, jobs: &str, task: Task, shares: &[u32]) -> io::Result<()> {
+    for (what, place, byte) in [
+        ("byte 3 00", 3, 0),
+        ("byte 4 00", 4, 0),
+        ("byte 7 FE", 7, 254),
+        ("byte 8 00", 8, 0),
+        ("byte 11 FE", 11, 254),
+        ("byte 12 00", 12, 0),
+        ("byte 15 FE", 15, 254),
     ] {
-        print!(rt; "start of two on tape 1, {what}")?;
-        line(rt, ": ", on_byte(place, byte, shares))?;
+        print!(rt; "start of {jobs} on tape 1, {what}")?;
+        line(rt, ": ", on_byte(place, byte, task, shares))?;
+    }
+    Ok(())
+}
+
+// Nothing else of the jobs is looked at.
+fn marks_and_shares(rt: &impl Print) -> io::Result<()> {
+    for (what, shares) in [("job 1's x 7", [7, 1, 6, 2]), ("job 2's x 7", [5, 1, 7, 2])] {
+        print!(rt; "start of two on tape 1, byte 11 FE, {what}")?;
+        line(rt, ": ", on_byte(11, 254, Task::Compare(2), &shares))?;
     }
     Ok(())
 }
@@ -136,5 +153,6 @@ fn marks(rt: &impl Print) -> io::Result<()> {
 pub fn lines(rt: &impl Print) -> io::Result<()> {
     single(rt)?;
     double(rt)?;
-    marks(rt)
+    marks(rt, "two", Task::Compare(2), &[5, 1, 6, 2])?;
+    marks_and_shares(rt)
 }

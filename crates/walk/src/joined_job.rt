@@ -1,5 +1,6 @@
 // Three comparisons of both boxes on dealt tapes 1 to 3: together as one job, and one by one.
 ghost use Rattle.std.specs.Prelude.{◌≡◌, ◌+◌, ◌<◌, ◌≤◌, length};
+ghost use Rattle.rules.specs.declared.state.Task.TheVariants.{Compare};
 ghost use Rattle.walk.specs.Courses.{asked_of};
 ghost use Rattle.walk.specs.Three.{dealt_tapes, three_of, Together, OneByOne};
 
@@ -7,6 +8,7 @@ use crate::job::{answers, opened, shares_in};
 use crate::progress::{Job, Pair};
 use crate::{job_steps, tapes};
 use field::Width;
+use rules::state::Task;
 use std::io;
 
 // x is 5 + 5 = 3, 6 + 5 = 4 and 3 + 2 = 5 modulo 7, y is 1 + 3 = 4, 2 + 1 = 3 and 4 + 1 = 5.
@@ -33,12 +35,14 @@ fn dealt() -> ([u32; 447], [u32; 447])
 fn job<'a>(tapes1: &'a [u32], tapes2: &'a [u32], from: usize, count: usize) -> Job<'a>
     requires within { (from + count ≤ 3) × (length tapes1.now ≡ 447) × (length tapes2.now ≡ 447) }
     requires dealt { (tapes1.now ≡ dealt_tapes 1) × (tapes2.now ≡ dealt_tapes 2) }
-    ensures { (result.count ≡ count) × (asked_of result ≡ three_of from count) }
+    ensures { (result.task1 ≡ Compare count) × (result.task2 ≡ Compare count) × (asked_of result ≡ three_of from count) }
 {
     let to = from + count;
+    let task = Task::Compare(count as u32);
     Job {
         first: 1 + from as u32,
-        count: count as u32,
+        task1: task,
+        task2: task,
         shares1: &SHARES1[2 * from..2 * to],
         shares2: &SHARES2[2 * from..2 * to],
         tapes1: &tapes1[149 * from..149 * to],

@@ -1,36 +1,21 @@
 // First match counts in joined jobs too: each call with all its grounds at once, then without the first of them, and so on until it is taken.
 ghost use Rattle.std.specs.Prelude.{◌≡◌, ◌≤◌, take, replicate};
-ghost use Rattle.rules.specs.Calls.{start_rule, hear_rule};
+ghost use Rattle.rules.specs.Calls.{hear_rule};
 ghost use Rattle.walk.specs.Walk.{joined_tapes, filler, Answered};
 
-use crate::calls::{FILLER, Tried, hear, start};
+use crate::calls::{FILLER, Tried, hear};
+use crate::joined_starts::of_sides;
 use crate::joined_turns::speak_of;
 use crate::say::short;
 use crate::tallies::{FRESH, spent};
 use crate::{states, tapes};
-use rules::state::{FIRST, State, Turn};
+use rules::state::{Batch, FIRST, State, Task, Turn};
 use std::io;
-
-// A start with plain tapes of those sides, and a word of work too few for two.
-fn tight_start(
-    state: State,
-    first: u32,
-    count: u32,
-    shares: &[u32],
-    sides: [u32; 2],
-    tally: [u8; 16],
-) -> Tried
-    requires { first ≤ 4 }
-    ensures { Answered result state tally (start_rule state first count shares.now (joined_tapes sides first) (replicate 199 0) tally) }
-{
-    let tapes: [u32; 298] = tapes::joined(&sides, first);
-    start(state, first, count, shares, &tapes, &[0; 199], tally)
-}
 
 // Before any job is looked at, and the marks of the first: tapes 0 and 2 are spent, so 0 and 1 are late.
 fn before_jobs(rt: &impl Print) -> io::Result<()> {
     let idle = states::idle();
-    let busy = states::longer(states::two(Turn::Speak(1)));
+    let busy = states::longer(states::in_job(Turn::Speak(1), states::two()));
     let all = [7, 7, 7, 7];
     for (state, first, count, shares) in [
         (FIRST, 4, 9, &all[..3]),
@@ -42,9 +27,10 @@ fn before_jobs(rt: &impl Print) -> io::Result<()> {
         (idle, 0, 2, &all[..]),
         (idle, 1, 2, &all[..]),
     ] {
+        let task = Task::Compare(count);
         short(
             rt,
-            tight_start(state, first, count, shares, [2, 2], spent()),
+            of_sides(state, first, task, shares, [2, 2], 199, spent()),
         )?;
     }
     Ok(())
@@ -52,17 +38,20 @@ fn before_jobs(rt: &impl Print) -> io::Result<()> {
 
 // On fresh tapes: of numbers 3 and 4 the second is past the tally.
 fn job_by_job(rt: &impl Print) -> io::Result<()> {
-    for (first, shares, sides) in [
-        (3, [7, 7, 7, 7], [2, 2]),
-        (3, [5, 1, 7, 7], [2, 2]),
-        (3, [5, 1, 7, 7], [1, 2]),
-        (2, [5, 1, 7, 7], [1, 2]),
-        (2, [5, 1, 6, 2], [1, 2]),
-        (2, [5, 1, 6, 2], [1, 1]),
+    let idle = states::idle();
+    let task = Task::Compare(2);
+    for (first, shares, sides, words) in [
+        (3, [7, 7, 7, 7], [2, 2], 199),
+        (3, [5, 1, 7, 7], [2, 2], 199),
+        (3, [5, 1, 7, 7], [1, 2], 199),
+        (2, [5, 1, 7, 7], [1, 2], 199),
+        (2, [5, 1, 6, 2], [1, 2], 199),
+        (2, [5, 1, 6, 2], [1, 1], 199),
+        (2, [5, 1, 6, 2], [1, 1], 200),
     ] {
         short(
             rt,
-            tight_start(states::idle(), first, 2, &shares, sides, FRESH),
+            of_sides(idle, first, task, &shares, sides, words, FRESH),
         )?;
     }
     Ok(())
@@ -72,18 +61,12 @@ fn starts(rt: &impl Print) -> io::Result<()> {
     print!(rt; "start of two, first of several:")?;
     before_jobs(rt)?;
     job_by_job(rt)?;
-    let tapes: [u32; 298] = tapes::joined(&[1, 1], 2);
-    let good = [5, 1, 6, 2];
-    short(
-        rt,
-        start(states::idle(), 2, 2, &good, &tapes, &[0; 200], FRESH),
-    )?;
     println!(rt)
 }
 
-fn speaks(rt: &impl Print) -> io::Result<()> {
-    let opened = states::two(Turn::Speak(1));
-    print!(rt; "speak of two, first of several:")?;
+pub fn speaks(rt: &impl Print, jobs: &str, batch: Batch) -> io::Result<()> {
+    let opened = states::in_job(Turn::Speak(1), batch);
+    print!(rt; "speak of {jobs}, first of several:")?;
     for (state, first, sides, work, words) in [
         (FIRST, 1, [1, 2], 199, 65),
         (states::idle(), 1, [1, 2], 199, 65),
@@ -107,9 +90,9 @@ fn hear_of(state: State, first: u32, sides: [u32; 2], words: usize, word: u32) -
     hear(state, first, 1, &tapes, &mut work, &[word; 66][..words])
 }
 
-fn hears(rt: &impl Print) -> io::Result<()> {
-    let spoken = states::two(Turn::Hear(1));
-    print!(rt; "hear of two, first of several:")?;
+pub fn hears(rt: &impl Print, jobs: &str, batch: Batch) -> io::Result<()> {
+    let spoken = states::in_job(Turn::Hear(1), batch);
+    print!(rt; "hear of {jobs}, first of several:")?;
     for (state, first, sides, words, word) in [
         (FIRST, 1, [1, 2], 65, 8),
         (states::idle(), 1, [1, 2], 65, 8),
@@ -126,6 +109,6 @@ fn hears(rt: &impl Print) -> io::Result<()> {
 
 pub fn lines(rt: &impl Print) -> io::Result<()> {
     starts(rt)?;
-    speaks(rt)?;
-    hears(rt)
+    speaks(rt, "two", states::two())?;
+    hears(rt, "two", states::two())
 }

@@ -1,9 +1,14 @@
 // Walks one pair of boxes of width 3 through every refusal at each call that can give it, through cuts and drops at every
 // point of a job, through a whole job, and through its hears with 7, which is p, for 0; then through the same of starts of
-// several jobs; then the test dealer through its refusals, and prints what was answered.
+// several jobs, and of bands; then the test dealer through its refusals, and prints what was answered.
 #![tactic(auto)]
 
 mod answers;
+mod band_cuts;
+mod band_job;
+mod band_order;
+mod band_outside;
+mod band_starts;
 mod calls;
 mod cuts;
 mod dealing;
@@ -56,5 +61,11 @@ fn main(rt: HostRuntime) -> io::Result<()> {
     joined_drops::lines(&rt)?;
     joined_job::lines(&rt)?;
     one_by_one::lines(&rt)?;
+    band_starts::lines(&rt)?;
+    band_order::lines(&rt)?;
+    joined_turns::of_jobs(&rt, "a band", states::band())?;
+    band_outside::lines(&rt)?;
+    band_cuts::lines(&rt)?;
+    band_job::lines(&rt)?;
     dealing::lines(&rt)
 }

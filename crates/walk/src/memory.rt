@@ -2,9 +2,9 @@
 ghost use Rattle.walk.specs.Courses.{Woke, Started, Spoke, Heard};
 
 use crate::answers::Answer;
-use crate::{answers, tallies, tapes};
+use crate::{answers, calls, tallies, tapes};
 use rules::state;
-use rules::state::State;
+use rules::state::{State, Task};
 
 // What the box answered last, its state, and its buffers.
 #[derive(Clone, Copy)]
@@ -33,13 +33,13 @@ impl BoxMemory {
         }
     }
 
-    pub fn start(&mut self, first: u32, count: u32, shares: &[u32], tapes: &[u32])
-        ensures { Started first count shares.now tapes.now self.old self.new }
+    pub fn start(&mut self, first: u32, task: Task, shares: &[u32], tapes: &[u32])
+        ensures { Started first task shares.now tapes.now self.old self.new }
     {
-        let answer = limit_box::start(
+        let answer = calls::open(
             &mut self.state,
             first,
-            count,
+            task,
             shares,
             tapes,
             &self.work,

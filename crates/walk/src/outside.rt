@@ -1,12 +1,13 @@
 // A state outside the ranges counts as asleep in every call: wake is taken, the others are refused with 1.
 ghost use Rattle.std.specs.Prelude.{◌≡◌, [], ◌∷◌};
 ghost use Rattle.rules.specs.Batches.{batch_of};
-ghost use Rattle.rules.specs.declared.state.Phase.TheVariants.{Job};
+ghost use Rattle.rules.specs.declared.state.Task.TheVariants.{Compare};
+ghost use Rattle.walk.specs.Walk.{due_state};
 
 use crate::five::Box1;
 use crate::states;
 use crate::tallies::FRESH;
-use rules::state::{Batch, State, Turn};
+use rules::state::{Batch, State, Task, Turn};
 use std::io;
 
 fn line(rt: &impl Print, label: &str, state: State) -> io::Result<()> {
@@ -47,11 +48,11 @@ fn tally_lengths(rt: &impl Print) -> io::Result<()> {
 }
 
 fn job(turn: Turn, number: u32, x: u32, y: u32) -> State
-    ensures { result ≡ record { n = 3; side = 1; pair = 5; tally = 16; phase = Job turn; batch = batch_of number 1 (x ∷ y ∷ []) } }
+    ensures { result ≡ due_state turn (batch_of number (Compare 1) (x ∷ y ∷ [])) }
 {
     let batch = Batch {
         first: number,
-        count: 1,
+        task: Task::Compare(1),
         x: [x, 0, 0, 0, 0, 0, 0, 0],
         y: [y, 0, 0, 0, 0, 0, 0, 0],
     };

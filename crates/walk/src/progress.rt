@@ -1,6 +1,7 @@
 // Both boxes step by step through a job.
 ghost use Rattle.std.specs.Prelude.{◌≡◌, ◌≤◌};
 ghost use Rattle.protocol.specs.Sizes.{round_for};
+ghost use Rattle.rules.specs.Tasks.{count_of};
 ghost use Rattle.walk.specs.Walk.{tally_after};
 ghost use Rattle.walk.specs.Courses.{asked_of, plain_job, Woken, Stepped, Course, CourseFrom};
 ghost use Rattle.walk.specs.declared.job_steps.Step.TheVariants.{Start, Speak, Hear};
@@ -9,26 +10,27 @@ use crate::five::Box1;
 use crate::job_steps::Step;
 use crate::memory::BoxMemory;
 use crate::tapes;
+use rules::state::Task;
 
-// A job of both boxes: the numbers of its tapes, and the shares and the tapes that each box is lent.
+// A job of both boxes: its first number, and what each box is asked, with the shares and the tapes that it is lent. Both are asked the same, but where a
+// box is to hear the words of another kind of job.
 #[derive(Clone, Copy)]
 pub struct Job<'a> {
     pub first: u32,
-    pub count: u32,
+    pub task1: Task,
+    pub task2: Task,
     pub shares1: &'a [u32],
     pub shares2: &'a [u32],
     pub tapes1: &'a [u32],
     pub tapes2: &'a [u32],
 }
 
-impl<'a> Job<'a> {
-    // The words of its messages.
-    pub fn words(self, round: u32) -> usize
-        requires { self.count ≤ 3 }
-        ensures { (result ≤ 99) × (result ≡ round_for 3 self.entry.count round) }
-    {
-        self.count as usize * crate::five::words(round)
-    }
+// The words of a message of so many comparisons, or of a band.
+fn words(task: Task, round: u32) -> usize
+    requires { count_of task ≤ 3 }
+    ensures { (result ≤ 99) × (result ≡ round_for 3 (count_of task) round) }
+{
+    task.count() as usize * crate::five::words(round)
 }
 
 #[derive(Clone, Copy)]
@@ -51,9 +53,10 @@ impl Pair {
     fn start(&mut self, job: Job<'_>)
         ensures { Stepped (asked_of job.entry) Start self.old self.new }
     {
-        let Job { first, count, .. } = job;
-        self.box1.start(first, count, job.shares1, job.tapes1);
-        self.box2.start(first, count, job.shares2, job.tapes2);
+        self.box1
+            .start(job.first, job.task1, job.shares1, job.tapes1);
+        self.box2
+            .start(job.first, job.task2, job.shares2, job.tapes2);
     }
 
     fn speak(&mut self, job: Job<'_>, round: u32)
@@ -66,18 +69,17 @@ impl Pair {
     // The messages are the first words of the boxes' outs: without a heap the room is of one size. A hear leaves out as it was, so box 2 hears
     // what box 1 spoke.
     fn hear(&mut self, job: Job<'_>, round: u32)
-        requires { job.count ≤ 3 }
+        requires { (count_of job.task1 ≤ 3) × (count_of job.task2 ≤ 3) }
         ensures { Stepped (asked_of job.entry) (Hear round) self.old self.new }
     {
-        let words = job.words(round);
-        let to1 = &self.box2.out[..words];
+        let to1 = &self.box2.out[..words(job.task2, round)];
         self.box1.hear(job.first, round, job.tapes1, to1);
-        let to2 = &self.box1.out[..words];
+        let to2 = &self.box1.out[..words(job.task1, round)];
         self.box2.hear(job.first, round, job.tapes2, to2);
     }
 
     fn step(&mut self, job: Job<'_>, step: Step)
-        requires { job.count ≤ 3 }
+        requires { (count_of job.task1 ≤ 3) × (count_of job.task2 ≤ 3) }
         ensures { Stepped (asked_of job.entry) step self.old self.new }
     {
         match step {
@@ -92,7 +94,7 @@ impl Pair {
     // So many steps of a job, of which the wake is done.
     #[tactic(auto, using(crate::specs::Courses::none, crate::specs::Courses::next))]
     pub fn walk(&mut self, job: Job<'_>, steps: u32)
-        requires { job.count ≤ 3 }
+        requires { (count_of job.task1 ≤ 3) × (count_of job.task2 ≤ 3) }
         ensures { Course (asked_of job.entry) self.old steps self.new }
     {
         for earlier in 0..steps {
@@ -109,7 +111,8 @@ pub fn reached(steps: u32) -> Pair
 {
     let job = Job {
         first: 0,
-        count: 1,
+        task1: Task::Compare(1),
+        task2: Task::Compare(1),
         shares1: &[5, 1],
         shares2: &[5, 3],
         tapes1: &tapes::plain(1, 0),

@@ -2,7 +2,7 @@
 use crate::answers::Answer;
 use crate::calls::Tried;
 use refusals::Refusal;
-use rules::state::Batch;
+use rules::state::{Batch, Task};
 use std::fmt::Display;
 use std::io;
 
@@ -14,7 +14,7 @@ pub fn bytes(rt: &impl Print, list: &[u8]) -> io::Result<()> {
     Ok(())
 }
 
-fn words(rt: &impl Print, list: &[u32]) -> io::Result<()> {
+pub fn words(rt: &impl Print, list: &[u32]) -> io::Result<()> {
     for word in list {
         print!(rt; " {word}")?;
     }
@@ -23,7 +23,11 @@ fn words(rt: &impl Print, list: &[u32]) -> io::Result<()> {
 
 // What a state holds of a job.
 pub fn batch(rt: &impl Print, batch: Batch) -> io::Result<()> {
-    print!(rt; " first {}, count {}, x", batch.first, batch.count)?;
+    print!(rt; " first {}, ", batch.first)?;
+    match batch.task {
+        Task::Compare(count) => print!(rt; "count {count}, x")?,
+        Task::Band(low, high) => print!(rt; "bounds {low} {high}, x")?,
+    }
     words(rt, &batch.x)?;
     print!(rt; ", y")?;
     words(rt, &batch.y)

@@ -1,13 +1,12 @@
 // Box 1's states on the way to its first hear, and such a one of a box 2.
 ghost use Rattle.std.specs.Prelude.{◌≡◌};
 ghost use Rattle.lists.specs.Tabulate.{tabulate};
-ghost use Rattle.walk.specs.Walk.{idle_state, job_state, two_state, with_tally, with_side};
+ghost use Rattle.walk.specs.Walk.{idle_state, job_state, due_state, two_batch, band_batch, with_tally, with_side};
 ghost use Rattle.rules.specs.declared.state.Turn.TheVariants.{Speak, Hear};
-ghost use Rattle.rules.specs.declared.state.Phase.TheVariants.{Job};
 
 use crate::memory::BoxMemory;
 use crate::tapes;
-use rules::state::{Batch, Phase, State, Turn};
+use rules::state::{Batch, Phase, State, Task, Turn};
 
 // Awake, with a tally of four tapes.
 #[tactic(auto, using(crate::proofs::Reached::woken_four))]
@@ -30,7 +29,7 @@ fn started() -> BoxMemory
     ensures { (result.state ≡ job_state 16 (Speak 1)) × (result.work ≡ tabulate 300 (λ k. 6)) × (result.out ≡ tabulate 99 (λ k. 6)) }
 {
     let mut memory = BoxMemory::woken(1);
-    memory.start(0, 1, &[5, 1], &tapes::plain(1, 0));
+    memory.start(0, Task::Compare(1), &[5, 1], &tapes::plain(1, 0));
     memory
 }
 
@@ -67,7 +66,7 @@ pub fn spoken() -> State
 
 // Box 1 awake, and in that job.
 pub fn in_job(turn: Turn, batch: Batch) -> State
-    ensures { result ≡ record { n = 3; side = 1; pair = 5; tally = 16; phase = Job turn; batch = batch } }
+    ensures { result ≡ due_state turn batch }
 {
     State {
         phase: Phase::Job(turn),
@@ -76,17 +75,28 @@ pub fn in_job(turn: Turn, batch: Batch) -> State
     }
 }
 
-// In a job of two on tapes 0 and 1.
-pub fn two(turn: Turn) -> State
-    ensures { result ≡ two_state turn }
+// What it holds of a job of two on tapes 0 and 1.
+pub fn two() -> Batch
+    ensures { result ≡ two_batch }
 {
-    let batch = Batch {
+    Batch {
         first: 0,
-        count: 2,
+        task: Task::Compare(2),
         x: [5, 6, 0, 0, 0, 0, 0, 0],
         y: [1, 2, 0, 0, 0, 0, 0, 0],
-    };
-    in_job(turn, batch)
+    }
+}
+
+// And of a band on those tapes, 2 < a and a < 5, where its share of a is 3. A bound's share is the bound at box 1.
+pub fn band() -> Batch
+    ensures { result ≡ band_batch }
+{
+    Batch {
+        first: 0,
+        task: Task::Band(2, 5),
+        x: [2, 3, 0, 0, 0, 0, 0, 0],
+        y: [3, 5, 0, 0, 0, 0, 0, 0],
+    }
 }
 
 // Awake, with a tally of ten tapes.

@@ -12,10 +12,10 @@ module _ (s : Start) where
   done =
       let v = s.args in
       let m = v.memory.now in
-      job v.n.bits v.jobs.first v.jobs.count v.jobs.box1.now v.jobs.box2.now v.t1.now v.t2.now m.w1 m.w2 v.k1.now v.k2.now m.o1 m.o2
+      job v.n.bits v.jobs.first v.jobs.task v.jobs.box1.now v.jobs.box2.now v.t1.now v.t2.now m.w1 m.w2 v.k1.now v.k2.now m.o1 m.o2
 
   abbrev IsNext : Type 0
-  IsNext = let v = s.args in Next v.n.bits v.jobs.first v.jobs.count v.t1.now v.t2.now v.k1.now v.k2.now
+  IsNext = let v = s.args in Next v.n.bits v.jobs.first v.jobs.task v.t1.now v.t2.now v.k1.now v.k2.now
 
   -- the memory's lengths
   work1 : length s.args.memory.now.w1 ≡ 3488

@@ -5,5 +5,5 @@ use Rattle.walk.proofs.joined_turns.heard_past.Goals as goal
 
 pub returns-clause-kept : goal.returns-clause-kept
 returns-clause-kept c =
-    let left = rw (c.two.ensures, c.own.ensures.1) at c.hear-tried.ensures.left in
-    rest 200 100 c.hear-tried.new.work roomy_hear.buffer c.hear-tried.auto.work left c.untouched.ensures
+    let left = rw c.own.ensures.1 at c.hear-tried.ensures.left in
+    rest 200 100 c.hear-tried.new.work (roomy_hear c.args.state).buffer c.hear-tried.auto.work left c.untouched.ensures

@@ -5,5 +5,5 @@ use Rattle.walk.proofs.joined_turns.spoken_past.Goals as goal
 
 pub returns-clause-kept : goal.returns-clause-kept
 returns-clause-kept c =
-    let left = rw (c.two.ensures, c.own.ensures.1) at c.speak-tried.ensures.left in
-    rest 66 33 c.speak-tried.new.out roomy_speak.buffer c.speak-tried.auto.out left c.untouched.ensures
+    let left = rw c.own.ensures.1 at c.speak-tried.ensures.left in
+    rest 66 33 c.speak-tried.new.out (roomy_speak c.args.state).buffer c.speak-tried.auto.out left c.untouched.ensures
