@@ -1,13 +1,7 @@
 -- Two answers with the same reply, and two results that agree in each part, are the same.
-use mathlib.Core.Path.{◌≡◌, refl}
+use mathlib.Core.Path.{◌≡◌}
 use mathlib.Core.Bool.{Bool, true, false}
-use mathlib.Core.List.{List}
-use Prim.Native.Nat.{ℕ}
 use native.Mathlib.Omega.{arith}
-use lib.Dec.{eqb}
-use lib.Pointwise.{pointwise}
-use Rattle.std.specs.Bool.{nat_eq}
-use Rattle.std.proofs.lemmas.Cmp.{nat_list_eq_equiv}
 use Rattle.std.specs.Prelude.{Result as Answer}
 use Rattle.std.specs.Result.{is_ok}
 use Rattle.refusals.specs.Numbers.{number_of}
@@ -16,7 +10,6 @@ use Rattle.refusals.specs.declared.Refusal.{Refusal}
 use Rattle.walk.specs.declared.answers.Said.{Said}
 use Rattle.rules.specs.Answers.{reply_of}
 use Rattle.rules.specs.Calls.{Result}
-use Rattle.rules.specs.declared.state.State.{State}
 use Rattle.walk.specs.declared.memory.BoxMemory.{BoxMemory}
 use Rattle.exchange.specs.Opening.{refusal_of}
 use Rattle.walk.specs.Said.{as_reply}

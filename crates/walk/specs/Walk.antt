@@ -10,7 +10,6 @@ use Rattle.rules.specs.Tasks.{pairs_of}
 use Rattle.rules.specs.Batches.{no_batch, batch_of}
 use Rattle.rules.specs.Calls.{Result, start_rule, speak_rule, hear_rule}
 use Rattle.rules.specs.declared.state.Turn.{Turn}
-use Rattle.rules.specs.declared.state.Turn.TheVariants.{Speak, Hear}
 use Rattle.rules.specs.declared.state.Phase.TheVariants.{Idle, Job}
 use Rattle.rules.specs.declared.state.Task.TheVariants.{Compare, Band}
 use Rattle.rules.specs.declared.state.Batch.{Batch}

@@ -1,5 +1,5 @@
 // A cut at either of the two marks of a band's start on tape 1; then the box wakes, and a start of a band is tried on each tape and the next.
-ghost use Rattle.std.specs.Prelude.{◌<◌, ◌≤◌};
+ghost use Rattle.std.specs.Prelude.{◌<◌};
 
 use crate::calls;
 use crate::cuts::after;

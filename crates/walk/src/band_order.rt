@@ -3,7 +3,7 @@
 // first job's, and a mark above the first number makes that late.
 ghost use Rattle.std.specs.Prelude.{◌≤◌};
 
-use crate::band_starts::INSIDE;
+use crate::band_starts::{INSIDE, SHARE};
 use crate::joined_order::{hears, speaks};
 use crate::joined_starts::of_sides;
 use crate::say::{line, short};
@@ -17,55 +17,35 @@ const DOWNWARDS: Task = Task::Band(5, 2);
 
 const TOO_LARGE: Task = Task::Band(2, 7);
 
-// What is wrong, two things, and what the start answers.
-fn told(
-    rt: &impl Print,
-    what: &str,
-    state: State,
-    first: u32,
-    task: Task,
-    share: u32,
-    sides: [u32; 2],
-    words: usize,
-    tally: [u8; 16],
-) -> io::Result<()>
-    requires { (first ≤ 4) × (words ≤ 200) }
-{
-    print!(rt; "start of a band, {what}")?;
-    line(
-        rt,
-        ": ",
-        of_sides(state, first, task, &[share], sides, words, tally),
-    )
-}
-
-// Before any job is looked at.
-fn before_jobs(rt: &impl Print, what: &str, state: State, first: u32, task: Task) -> io::Result<()>
+// What is wrong, two things, and what the start answers. Before any job is looked at.
+fn told(rt: &impl Print, what: &str, state: State, first: u32, task: Task) -> io::Result<()>
     requires { first ≤ 4 }
 {
-    told(rt, what, state, first, task, 3, [1, 1], 200, FRESH)
+    let tried = of_sides(state, first, task, &SHARE, [1, 1], 200, FRESH);
+    print!(rt; "start of a band, {what}")?;
+    line(rt, ": ", tried)
 }
 
-fn states_and_bounds(rt: &impl Print) -> io::Result<()> {
+fn before_jobs(rt: &impl Print) -> io::Result<()> {
     let busy = states::in_job(Turn::Speak(1), states::two());
     let longer = states::longer(states::idle());
-    before_jobs(rt, "asleep and bounds 5 2", FIRST, 0, DOWNWARDS)?;
-    before_jobs(rt, "in a job and bounds 5 2", busy, 0, DOWNWARDS)?;
-    before_jobs(
+    told(rt, "asleep and bounds 5 2", FIRST, 0, DOWNWARDS)?;
+    told(rt, "in a job and bounds 5 2", busy, 0, DOWNWARDS)?;
+    told(
         rt,
         "bounds 5 2 and tally of 20 bytes at wake",
         longer,
         0,
         DOWNWARDS,
     )?;
-    before_jobs(
+    told(
         rt,
         "bounds 2 7 and tally of 20 bytes at wake",
         longer,
         0,
         TOO_LARGE,
     )?;
-    before_jobs(
+    told(
         rt,
         "tally of 20 bytes at wake and number 4",
         longer,
@@ -74,77 +54,31 @@ fn states_and_bounds(rt: &impl Print) -> io::Result<()> {
     )
 }
 
-// Job by job, in a box that is idle.
-fn job(
-    rt: &impl Print,
-    what: &str,
-    first: u32,
-    share: u32,
-    sides: [u32; 2],
-    words: usize,
-    tally: [u8; 16],
-) -> io::Result<()>
-    requires { (first ≤ 4) × (words ≤ 200) }
-{
-    told(
-        rt,
-        what,
-        states::idle(),
-        first,
-        INSIDE,
-        share,
-        sides,
-        words,
-        tally,
-    )
+// The marks, in a box that is idle. Of numbers 3 and 4 the second is past the tally.
+fn marks(rt: &impl Print) -> io::Result<()> {
+    for (what, first, share, tally) in [
+        ("number 4 and share 7", 4, 7, FRESH),
+        ("its tape spent and one above it", 0, 3, spent()),
+        ("its tape spent and job 2's number 4", 3, 3, one_byte(12, 0)),
+        ("a tape above spent and share 7", 1, 7, spent()),
+    ] {
+        let tried = of_sides(states::idle(), first, INSIDE, &[share], [1, 1], 200, tally);
+        print!(rt; "start of a band, {what}")?;
+        line(rt, ": ", tried)?;
+    }
+    Ok(())
 }
 
-// Of numbers 3 and 4 the second is past the tally.
+// On fresh tapes.
 fn jobs(rt: &impl Print) -> io::Result<()> {
-    let late = spent();
-    let third = one_byte(12, 0);
-    job(rt, "number 4 and share 7", 4, 7, [1, 1], 200, FRESH)?;
-    job(
-        rt,
-        "its tape spent and one above it",
-        0,
-        3,
-        [1, 1],
-        200,
-        late,
-    )?;
-    job(
-        rt,
-        "a tape above spent and share 7",
-        1,
-        7,
-        [1, 1],
-        200,
-        late,
-    )?;
-    job(
-        rt,
-        "share 7 and the other box's tape for job 1",
-        0,
-        7,
-        [2, 1],
-        200,
-        FRESH,
-    )?;
-    job(
-        rt,
-        "its tape spent and job 2's number 4",
-        3,
-        3,
-        [1, 1],
-        200,
-        third,
-    )?;
-    second_job(rt)
-}
-
-fn second_job(rt: &impl Print) -> io::Result<()> {
     for (what, first, share, sides, words) in [
+        (
+            "share 7 and the other box's tape for job 1",
+            0,
+            7,
+            [2, 1],
+            200,
+        ),
         ("share 7 and job 2's number 4", 3, 7, [1, 1], 200),
         (
             "the other box's tape for job 1 and job 2's number 4",
@@ -169,7 +103,9 @@ fn second_job(rt: &impl Print) -> io::Result<()> {
             199,
         ),
     ] {
-        job(rt, what, first, share, sides, words, FRESH)?;
+        let tried = of_sides(states::idle(), first, INSIDE, &[share], sides, words, FRESH);
+        print!(rt; "start of a band, {what}")?;
+        line(rt, ": ", tried)?;
     }
     Ok(())
 }
@@ -214,7 +150,8 @@ fn several_in_jobs(rt: &impl Print) -> io::Result<()> {
 }
 
 pub fn lines(rt: &impl Print) -> io::Result<()> {
-    states_and_bounds(rt)?;
+    before_jobs(rt)?;
+    marks(rt)?;
     jobs(rt)?;
     print!(rt; "start of a band, first of several:")?;
     several_before_jobs(rt)?;
