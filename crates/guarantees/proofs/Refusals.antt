@@ -176,7 +176,8 @@ module _ {s s' : State} (t : LowState s s') where
       (job_range s awake due.job).counted
 
   module _ (first : ℕ) (turn : Turn) (tapes tapes' work work' buffer buffer' : List ℕ)
-      (tapes_alike : TapesAlike s s.batch.first (count_of s.batch.task) tapes tapes') (room : length work ≡ length work') (long : length buffer ≡ length buffer') where
+      (tapes_alike : TapesAlike s s.batch.first (count_of s.batch.task) tapes tapes') (room : length work ≡ length work')
+      (long : length buffer ≡ length buffer') where
     pub turn_same : earliest_of (turn_grounds s first turn tapes work buffer) ≡ earliest_of (turn_grounds s' first turn tapes' work' buffer')
     turn_same = joined_same same
       where

@@ -36,7 +36,7 @@ use Rattle.rules.proofs.EachJob.{kept, kept_heard, kept_live, party_in, heard_in
 abbrev pub before : Left → Lent → Batch → List ℕ → ℕ → Left
 before l j b work i = record { state = in_phase l.state Idle b; work = work; tally = first_marks l.tally j.first i }
 
-module _ (l : Left) (j : Lent) (c : Clear l j) (i : ℕ) (less : i < (count_of j.task)) where
+module _ (l : Left) (j : Lent) (c : Clear l j) (i : ℕ) (less : i < count_of j.task) where
   abbrev n : ℕ
   n = l.state.n
 
@@ -80,7 +80,7 @@ module _ (l : Left) (j : Lent) (c : Clear l j) (i : ℕ) (less : i < (count_of j
     given_alone =
         let p = given in
         let idle : mode_of m.state ≡ Idle = phase_mode l.state Idle b (awake_range l.state p.awake) refl in
-        let many : 1 ≤ (count_of j.task) = omega (arith, less) in
+        let many : 1 ≤ count_of j.task = omega (arith, less) in
         record {
           awake = rw idle refl;
           idle = rw idle refl;
@@ -103,7 +103,7 @@ module _ (l : Left) (j : Lent) (c : Clear l j) (i : ℕ) (less : i < (count_of j
     pub clear_alone : Clear m a
     clear_alone =
         let f = clear_fits l j c in
-        let many : 1 ≤ (count_of j.task) = omega (arith, less) in
+        let many : 1 ≤ count_of j.task = omega (arith, less) in
         fits_clear m a
         (record {
           start = start_goes m.state a.first (Compare 1) a.shares a.tapes work m.tally given_alone;
@@ -127,7 +127,7 @@ module _ (l : Left) (j : Lent) (c : Clear l j) (i : ℕ) (less : i < (count_of j
     live : (r : ℕ) → Live n r (kept_in l j i r) (kept (party_in l j i) (work_part n work 0) (heard_in l j i) r)
     live r =
         let width = awake_listed l.state given.awake in
-        let many : 1 ≤ (count_of j.task) = omega (arith, less) in
+        let many : 1 ≤ count_of j.task = omega (arith, less) in
         let fits = within (count_of j.task) (work_length n) i less in
         let long : length (work_part n l.work i) ≡ work_length n = length_part (work_length n) l.work i (omega (arith, fits, given.room)) in
         let long' : length (work_part n work 0) ≡ work_length n =

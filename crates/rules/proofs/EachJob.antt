@@ -74,10 +74,10 @@ module _ (l : Left) (j : Lent) where
     counted : count_fits (count_of j.task) ≡ true
     counted = (begun l j c.start).counted
 
-    same_party : (turn : Turn) (i : ℕ) → i < (count_of j.task) → party_of (in_jobs l j turn) j.tapes i ≡ party_in i
+    same_party : (turn : Turn) (i : ℕ) → i < count_of j.task → party_of (in_jobs l j turn) j.tapes i ≡ party_in i
     same_party turn i less = started_party j.first j.task (pairs_of l.state.side j.task j.shares) i counted less l.state (Job turn) j.tapes
 
-    work_is : (r i : ℕ) → i < (count_of j.task) → work_part l.state.n (work_after l j r) i ≡ kept_in i r
+    work_is : (r i : ℕ) → i < count_of j.task → work_part l.state.n (work_after l j r) i ≡ kept_in i r
     unfolding work_after kept
     work_is zero i less = refl
     work_is (suc r) i less =

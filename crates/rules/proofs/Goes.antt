@@ -71,7 +71,7 @@ same_turn_lem (Speak round) = eq-eqb round round refl
 same_turn_lem (Hear round) = eq-eqb round round refl
 
 module _ (s : State) (tapes work : List ℕ) (long : length tapes ≡ tape_for s.n (count_of s.batch.task))
-    (ordered : (i : ℕ) → i < (count_of s.batch.task) → tape_ordered s s.batch.first tapes i ≡ true) (room : work_for s.n (count_of s.batch.task) ≤ length work) where
+    (ordered : (i : ℕ) → i < count_of s.batch.task → tape_ordered s s.batch.first tapes i ≡ true) (room : work_for s.n (count_of s.batch.task) ≤ length work) where
   -- what they have in common
   turn_goes : (turn : Turn) (buffer : List ℕ) → mode_of s ≡ Job turn → message_fits s.n (count_of s.batch.task) turn (length buffer) ≡ true
       → earliest_of (turn_grounds s s.batch.first turn tapes work buffer) ≡ 0

@@ -28,7 +28,7 @@ module _ (l : Left) (j : Lent) (c : Clear l j) where
     is : in_turn l j i ≡ before l j batch work i
     closed : 0 < i → batch ≡ no_batch
 
-  turned : (i : ℕ) → i ≤ (count_of j.task) → Turned i
+  turned : (i : ℕ) → i ≤ count_of j.task → Turned i
   unfolding in_turn
   turned zero most =
       let p = begun l j c.start in
@@ -52,7 +52,7 @@ module _ (l : Left) (j : Lent) (c : Clear l j) where
       }
 
   -- job i after those before it
-  module _ (i : ℕ) (less : i < (count_of j.task)) where
+  module _ (i : ℕ) (less : i < count_of j.task) where
     t : Turned i
     t = turned i (omega arith)
 
@@ -68,7 +68,7 @@ module _ (l : Left) (j : Lent) (c : Clear l j) where
 pub one_by_one : OneByOne
 one_by_one l j g =
     let c = goes_clear l j g in
-    let some : 1 ≤ (count_of j.task) = (count_most (count_of j.task) (begun l j c.start).counted).0 in
+    let some : 1 ≤ count_of j.task = (count_most (count_of j.task) (begun l j c.start).counted).0 in
     let all = turned l j c (count_of j.task) (omega arith) in
     let left = whole_is l j c ∙ ap (λ b. before l j b (work_after l j last_round) (count_of j.task)) (sym (all.closed some)) in
     record {

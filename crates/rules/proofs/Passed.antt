@@ -168,7 +168,7 @@ pub record TurnPassed (s : State) (first : ℕ) (turn : Turn) (tapes : List ℕ)
   pub due : Due s first turn
   pub range : JobRange s turn
   pub long : length tapes ≡ tape_for s.n (count_of s.batch.task)
-  pub ordered : (i : ℕ) → i < (count_of s.batch.task) → in_order s.n s.pair s.side (s.batch.first + i) (tape_part s.n tapes i) ≡ true
+  pub ordered : (i : ℕ) → i < count_of s.batch.task → in_order s.n s.pair s.side (s.batch.first + i) (tape_part s.n tapes i) ≡ true
 
 turn_of : (s : State) (first : ℕ) (turn : Turn) (tapes : List ℕ) → None (job_grounds (mode_of s)) → None (due_grounds s first turn)
     → None (tapes_grounds s tapes) → TurnPassed s first turn tapes
@@ -197,7 +197,8 @@ pub turn_passed : (s : State) (first : ℕ) (turn : Turn) (tapes work buffer : L
     → TurnPassed s first turn tapes × ((work_for s.n (count_of s.batch.task) ≤ length work) × (message_fits s.n (count_of s.batch.task) turn (length buffer) ≡ true))
 turn_passed s first turn tapes work buffer e =
     let c = nones (turn_parts s first turn tapes work buffer) e in
-    (turn_of s first turn tapes c.0 c.1.0 c.1.1.0, room_passed s.n (count_of s.batch.task) work (message_fits s.n (count_of s.batch.task) turn (length buffer)) c.1.1.1.0)
+    let count = count_of s.batch.task in
+    (turn_of s first turn tapes c.0 c.1.0 c.1.1.0, room_passed s.n count work (message_fits s.n count turn (length buffer)) c.1.1.1.0)
 
 pub record SpeakPassed (s : State) (first round : ℕ) (tapes work out : List ℕ) : Type 0 where
   pub turn : TurnPassed s first (Speak round) tapes

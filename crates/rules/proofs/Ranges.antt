@@ -93,9 +93,9 @@ pub record JobRange (s : State) (turn : Turn) : Type 0 where
   pub last : round_of turn ≤ last_round
   pub fits : task_fits s.n s.batch.task ≡ true
   pub counted : count_fits (count_of s.batch.task) ≡ true
-  pub numbers : (i : ℕ) → i < (count_of s.batch.task) → s.batch.first + i < tapes_of s.tally
-  pub x_fits : (i : ℕ) → i < (count_of s.batch.task) → get_or s.batch.x i 0 < modulus s.n
-  pub y_fits : (i : ℕ) → i < (count_of s.batch.task) → get_or s.batch.y i 0 < modulus s.n
+  pub numbers : (i : ℕ) → i < count_of s.batch.task → s.batch.first + i < tapes_of s.tally
+  pub x_fits : (i : ℕ) → i < count_of s.batch.task → get_or s.batch.x i 0 < modulus s.n
+  pub y_fits : (i : ℕ) → i < count_of s.batch.task → get_or s.batch.y i 0 < modulus s.n
 
 pub job_range : (s : State) {turn : Turn} → is_asleep (mode_of s) ≡ false → s.phase ≡ Job turn → JobRange s turn
 job_range s {turn} awake job =
@@ -133,7 +133,7 @@ job_range s {turn} awake job =
     tasked : task_fits s.n b.task ≡ true
     tasked = and_left (task_fits s.n b.task) (every (count_of b.task) (λ i. number i && x i && y i)) batch
 
-    one : (i : ℕ) → i < (count_of b.task) → number i && x i && y i ≡ true
+    one : (i : ℕ) → i < count_of b.task → number i && x i && y i ≡ true
     one = every_at (count_of b.task) (λ i. number i && x i && y i) (and_right (task_fits s.n b.task) (every (count_of b.task) (λ i. number i && x i && y i)) batch)
 
 -- ---- the state in another phase

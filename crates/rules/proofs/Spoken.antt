@@ -59,7 +59,8 @@ unfolding joined_after
 joined_after_length s tapes work round incoming = simp length-sets
 
 -- in each job's part what that job keeps of its own part of the words
-pub after_part : (s : State) (tapes work : List ℕ) (round : ℕ) (incoming : List ℕ) (i : ℕ) → i < (count_of s.batch.task) → work_for s.n (count_of s.batch.task) ≤ length work
+pub after_part : (s : State) (tapes work : List ℕ) (round : ℕ) (incoming : List ℕ) (i : ℕ) → i < count_of s.batch.task
+    → work_for s.n (count_of s.batch.task) ≤ length work
     → work_part s.n (joined_after s tapes work round incoming) i
     ≡ after_hearing (party_of s tapes i) (work_part s.n work i) round (words_part s.n round incoming i)
 unfolding joined_after

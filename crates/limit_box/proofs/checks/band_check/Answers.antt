@@ -38,6 +38,12 @@ module _ (c : In_ok-tally_check) where
       eqb-true (length a.tally.now) a.state.now.tally
       (not-false (eqb (length a.tally.now) a.state.now.tally) (none (tally_grounds a.state.now a.tally.now) (sym c.in_ok-tally_check.ensures)).0)
 
+  -- the ground that the jobs and the room come to, by the shares of x and y
+  abbrev jobs_ground : List ℕ → ℕ
+  jobs_ground pairs =
+      let a = c.args in
+      earliest_of (joined (job_parts a.state.now a.first 2 pairs a.tapes.now a.work.now a.tally.now))
+
   -- so of what is asked no ground holds
   asked : 0 ≡ earliest_of (joined (asked_parts c.args.state.now (Band c.args.low c.args.high) (c.args.share ∷ []) c.args.tally.now))
   asked =
@@ -62,7 +68,7 @@ returns-in_err-jobs_check-clause-ground c =
     (decided {parts = start_parts a.state.now a.first (Band a.low a.high) (a.share ∷ []) a.tapes.now a.work.now a.tally.now}
     (past (idle (goal.at.returns-in_err-jobs_check-clause-ground c).In_ok-idle_check)
     (past (asked (goal.at.returns-in_err-jobs_check-clause-ground c).In_ok-tally_check)
-    (comes (c.in_err-jobs_check.ensures ∙ ap (λ (pairs : List ℕ). earliest_of (joined (job_parts a.state.now a.first 2 pairs a.tapes.now a.work.now a.tally.now))) c.band_pairs-pairs.ensures)))))
+    (comes (c.in_err-jobs_check.ensures ∙ ap (jobs_ground (goal.at.returns-in_err-jobs_check-clause-ground c).In_ok-tally_check) c.band_pairs-pairs.ensures)))))
 
 pub returns-clause-ground : goal.returns-clause-ground
 unfolding start_ground
@@ -71,4 +77,4 @@ returns-clause-ground c =
     decided {parts = start_parts a.state.now a.first (Band a.low a.high) (a.share ∷ []) a.tapes.now a.work.now a.tally.now}
     (past (idle (goal.at.returns-clause-ground c).In_ok-idle_check)
     (past (asked (goal.at.returns-clause-ground c).In_ok-tally_check)
-    (comes (c.in_ok-jobs_check.ensures ∙ ap (λ (pairs : List ℕ). earliest_of (joined (job_parts a.state.now a.first 2 pairs a.tapes.now a.work.now a.tally.now))) c.band_pairs-pairs.ensures))))
+    (comes (c.in_ok-jobs_check.ensures ∙ ap (jobs_ground (goal.at.returns-clause-ground c).In_ok-tally_check) c.band_pairs-pairs.ensures))))

@@ -8,4 +8,5 @@ use Rattle.limit_box.proofs.modes.batch_fits.Goals as goal
 pub returns-then-not-job_fits : goal.returns-then-not-job_fits
 returns-then-not-job_fits c =
     let b = c.args.batch.now in
-    sym (and-false (task_fits c.args.n.bits b.task) (every_fails (count_of b.task) _ c.loop-i.i (rw c.count-i-end.ensures at c.loop-i-test.true) (sym (c.if-not-job_fits.ensures))))
+    let less = rw c.count-i-end.ensures at c.loop-i-test.true in
+    sym (and-false (task_fits c.args.n.bits b.task) (every_fails (count_of b.task) _ c.loop-i.i less (sym (c.if-not-job_fits.ensures))))
