@@ -79,7 +79,9 @@ pub fn fresh_count(tally: &[u8]) -> u32
     marks_in(tally).iter().filter(|mark| all_ff(mark)).count() as u32
 }
 
-// Marks a tape as spent: its mark alone is lent on.
+// Marks a tape as spent: its mark alone is lent on. Never inlined: a start's loop over its marks would be compiled to one filling of all of them, whose
+// stores come in an order of its own, and not one mark after the other.
+#[inline(never)]
 pub fn spend(tally: &mut [u8], number: usize)
     requires { number < tapes_of (length tally.old) }
     ensures { tally.new ≡ marked tally.old number }
