@@ -9,6 +9,7 @@ mod work;
 
 use eight::Way;
 use field::Width;
+use output::Onward;
 use std::env::{Env, FillError};
 use std::io;
 use work::Work;
@@ -92,11 +93,11 @@ fn number_at(rt: &impl Env, place: usize) -> Option<u32> {
 }
 
 // The width and the count are arguments 2 and 3.
-fn asked(rt: &(impl Env + Print), task: Task) -> io::Result<()> {
-    let Some(width) = number_at(rt, 2) else {
+fn asked(env: &impl Env, rt: &impl Print, task: Task) -> io::Result<()> {
+    let Some(width) = number_at(env, 2) else {
         return println!(rt; "bench: the width is no number");
     };
-    let Some(count) = number_at(rt, 3) else {
+    let Some(count) = number_at(env, 3) else {
         return println!(rt; "bench: the count is no number");
     };
     match Width::new(width) {
@@ -111,17 +112,19 @@ fn is_alone(rt: &impl Env) -> bool {
 }
 
 fn main(rt: HostRuntime) -> io::Result<()> {
+    let env = &rt;
+    let rt = Onward { to: env };
     let mut word = [0u8; 8];
-    if is_alone(&rt) {
+    if is_alone(env) {
         return all_sizes(&rt);
     }
-    match argument(&rt, 1, &mut word) {
-        b"jobs" => asked(&rt, Task::Jobs),
-        b"checks" => asked(&rt, Task::Checks),
-        b"joined" => asked(&rt, Task::Joined),
-        b"singly" => asked(&rt, Task::Singly),
-        b"pairs" => asked(&rt, Task::Pairs),
-        b"bands" => asked(&rt, Task::Bands),
+    match argument(env, 1, &mut word) {
+        b"jobs" => asked(env, &rt, Task::Jobs),
+        b"checks" => asked(env, &rt, Task::Checks),
+        b"joined" => asked(env, &rt, Task::Joined),
+        b"singly" => asked(env, &rt, Task::Singly),
+        b"pairs" => asked(env, &rt, Task::Pairs),
+        b"bands" => asked(env, &rt, Task::Bands),
         _ => println!(&rt;
             "bench: jobs, checks, joined, singly, pairs or bands, a width and a count, or nothing"
         ),

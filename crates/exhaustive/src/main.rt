@@ -8,6 +8,7 @@ mod inputs;
 mod tapes;
 
 use field::Width;
+use output::Onward;
 use std::io;
 use tapes::Source;
 
@@ -36,6 +37,7 @@ fn cases(rt: &impl Print) -> io::Result<()> {
 
 #[tactic(auto, unfolding(field::specs::Width::listed))]
 fn main(rt: HostRuntime) -> io::Result<()> {
+    let rt = Onward { to: &rt };
     let three = Width { bits: 3 };
     let five = Width { bits: 5 };
     run(&rt, "width 3, plain tapes", three, Source::Plain, 2401)?;

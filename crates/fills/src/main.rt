@@ -14,6 +14,7 @@ ghost use Rattle.fills.specs.Fillings.{message_of, fill_agrees, right_at};
 
 use compare::Party;
 use field::Width;
+use output::Onward;
 use std::io;
 
 mod places;
@@ -158,6 +159,7 @@ fn width_31(rt: &impl Print) -> io::Result<()> {
 
 // At each box the low bits of the three tests are 1, 0, 1 or 0, 1, 1.
 fn main(rt: HostRuntime) -> io::Result<()> {
+    let rt = Onward { to: &rt };
     width_3(&rt)?;
     width_31(&rt)
 }

@@ -18,6 +18,7 @@ use crate::head::Form;
 use crate::job::Agreement;
 use crate::spelling::Spelling;
 use field::Width;
+use output::Onward;
 use rules::state::Task;
 use std::io;
 use std::rt::Files;
@@ -39,12 +40,18 @@ fn tell_zeros(rt: &impl Print, spelling: Spelling, zeros: u64) -> io::Result<()>
     println!(rt)
 }
 
-fn run_width(rt: &(impl Files + Print), n: Width, count: u8, spelling: Spelling) -> io::Result<()> {
+fn run_width(
+    files: &impl Files,
+    rt: &impl Print,
+    n: Width,
+    count: u8,
+    spelling: Spelling,
+) -> io::Result<()> {
     tell_width(rt, n, spelling)?;
     let mut agreed: u64 = 0;
     let mut zeros: u64 = 0;
     for k in 0..count {
-        if let Some(told) = single::compared_with(rt, n.bits, k + 1, spelling) {
+        if let Some(told) = single::compared_with(files, n.bits, k + 1, spelling) {
             print!(rt; " {}", told.first)?;
             agreed += 1;
             zeros += told.zeros as u64;
@@ -55,9 +62,9 @@ fn run_width(rt: &(impl Files + Print), n: Width, count: u8, spelling: Spelling)
 }
 
 // Every job of a single comparison: the words go from box to box as they are, or every zero spelled p.
-fn run_widths(rt: &(impl Files + Print), spelling: Spelling) -> io::Result<()> {
+fn run_widths(files: &impl Files, rt: &impl Print, spelling: Spelling) -> io::Result<()> {
     for (n, count) in Width::all().into_iter().zip([5, 4, 3, 2, 2, 2, 2]) {
-        run_width(rt, n, count, spelling)?;
+        run_width(files, rt, n, count, spelling)?;
     }
     Ok(())
 }
@@ -81,20 +88,21 @@ fn tell_job(rt: &impl Print, form: Form, told: Agreement, spelling: Spelling) ->
 }
 
 fn run_job(
-    rt: &(impl Files + Print),
+    files: &impl Files,
+    rt: &impl Print,
     name: &str,
     form: Form,
     spelling: Spelling,
 ) -> io::Result<()> {
     print!(rt; "{name}")?;
-    match job::compared_with(rt, name.as_bytes(), form, spelling) {
+    match job::compared_with(files, name.as_bytes(), form, spelling) {
         Some(told) => tell_job(rt, form, told, spelling),
         None => println!(rt; ": does not agree"),
     }
 }
 
 // Every job of several comparisons joined, in the same two ways.
-fn run_all_joined(rt: &(impl Files + Print), spelling: Spelling) -> io::Result<()> {
+fn run_all_joined(files: &impl Files, rt: &impl Print, spelling: Spelling) -> io::Result<()> {
     for name in [
         "joined-03-1.txt",
         "joined-03-8.txt",
@@ -103,13 +111,13 @@ fn run_all_joined(rt: &(impl Files + Print), spelling: Spelling) -> io::Result<(
         "joined-13-2.txt",
         "joined-31-2.txt",
     ] {
-        run_job(rt, name, Form::Joined, spelling)?;
+        run_job(files, rt, name, Form::Joined, spelling)?;
     }
     Ok(())
 }
 
 // Every band, in the same two ways.
-fn run_all_bands(rt: &(impl Files + Print), spelling: Spelling) -> io::Result<()> {
+fn run_all_bands(files: &impl Files, rt: &impl Print, spelling: Spelling) -> io::Result<()> {
     for name in [
         "band-03-1.txt",
         "band-03-2.txt",
@@ -121,7 +129,7 @@ fn run_all_bands(rt: &(impl Files + Print), spelling: Spelling) -> io::Result<()
         "band-13-8.txt",
         "band-31-9.txt",
     ] {
-        run_job(rt, name, Form::Band, spelling)?;
+        run_job(files, rt, name, Form::Band, spelling)?;
     }
     Ok(())
 }
@@ -136,25 +144,27 @@ fn tell_deal(rt: &impl Print, told: deal::Deal) -> io::Result<()>
     )
 }
 
-fn run_deal(rt: &(impl Files + Print), name: &str) -> io::Result<()> {
+fn run_deal(files: &impl Files, rt: &impl Print, name: &str) -> io::Result<()> {
     print!(rt; "{name}")?;
-    match deal::compared_with(rt, name.as_bytes()) {
+    match deal::compared_with(files, name.as_bytes()) {
         Some(told) => tell_deal(rt, told),
         None => println!(rt; ": does not agree"),
     }
 }
 
 fn main(rt: HostRuntime) -> io::Result<()> {
-    run_widths(&rt, Spelling::AsSent)?;
-    run_widths(&rt, Spelling::Respelled)?;
-    run_all_joined(&rt, Spelling::AsSent)?;
-    run_all_joined(&rt, Spelling::Respelled)?;
-    run_all_bands(&rt, Spelling::AsSent)?;
-    run_all_bands(&rt, Spelling::Respelled)?;
-    run_deal(&rt, "deal-03-1.txt")?;
-    run_deal(&rt, "deal-03-4294967295.txt")?;
-    run_deal(&rt, "deal-05-2463534242.txt")?;
-    run_deal(&rt, "deal-07-1984.txt")?;
-    run_deal(&rt, "deal-13-3735928559.txt")?;
-    run_deal(&rt, "deal-31-2.txt")
+    let files = &rt;
+    let rt = Onward { to: files };
+    run_widths(files, &rt, Spelling::AsSent)?;
+    run_widths(files, &rt, Spelling::Respelled)?;
+    run_all_joined(files, &rt, Spelling::AsSent)?;
+    run_all_joined(files, &rt, Spelling::Respelled)?;
+    run_all_bands(files, &rt, Spelling::AsSent)?;
+    run_all_bands(files, &rt, Spelling::Respelled)?;
+    run_deal(files, &rt, "deal-03-1.txt")?;
+    run_deal(files, &rt, "deal-03-4294967295.txt")?;
+    run_deal(files, &rt, "deal-05-2463534242.txt")?;
+    run_deal(files, &rt, "deal-07-1984.txt")?;
+    run_deal(files, &rt, "deal-13-3735928559.txt")?;
+    run_deal(files, &rt, "deal-31-2.txt")
 }

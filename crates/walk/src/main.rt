@@ -39,9 +39,11 @@ mod tapes;
 mod wakes;
 mod zeros;
 
+use output::Onward;
 use std::io;
 
 fn main(rt: HostRuntime) -> io::Result<()> {
+    let rt = Onward { to: &rt };
     wakes::lines(&rt)?;
     starts::lines(&rt)?;
     speaks::lines(&rt)?;
