@@ -1,6 +1,6 @@
 -- Bytes of one line.
-use Rattle.std.specs.Prelude.{ℕ, suc, ◌<◌, ◌≡◌, List, length, get_or}
+use Rattle.std.specs.Prelude.{ℕ, suc, ◌<◌, ◌≡◌, List, get_or}
 
--- none of the bytes but the last is a newline
-abbrev pub OneLine : List ℕ → Type 0
-OneLine line = (i : ℕ) → suc i < length line → get_or line i 0 ≡ 10 → ⊥
+-- so many bytes are of one line: none of them but the last is a newline
+abbrev pub OneLine : ℕ → List ℕ → Type 0
+OneLine count text = (i : ℕ) → suc i < count → get_or text i 0 ≡ 10 → ⊥

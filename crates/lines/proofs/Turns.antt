@@ -1,8 +1,7 @@
 -- A line's parts read one after another, each into its place.
-use Rattle.std.proofs.Common.{◌≡◌, ℕ, suc, ◌+◌, ◌<◌, true, false, ◌&&◌, eqb, List, [], ◌∷◌, ◌++◌, map, length, set, take, refl, sym, ap, ◌∙◌, add-zero, add-one, arith}
-use mathlib.Core.List.{append-nil}
-use borrow.Author.Tests.{eq-eqb, ne_eqb}
-use lib.Seq.{take-suc-set, append_snoc, take_all}
+use Rattle.std.proofs.Common.{◌≡◌, ℕ, suc, ◌+◌, ◌<◌, true, false, ◌&&◌, eqb, List, ◌∷◌, ◌++◌, map, length, set, take, refl, sym, ap, ◌∙◌, add-zero, add-one, arith}
+use borrow.Author.Tests.{ne_eqb}
+use lib.Seq.{take-suc-set, append_snoc}
 use Rattle.lists.proofs.Tests.{and-false}
 use Rattle.lines.specs.Reading.{parts_of, value_of, is_number, all_numbers, is_numbers, numbers_of}
 
@@ -11,9 +10,9 @@ pub record Read (line : List ℕ) (count : ℕ) (left : List (List ℕ)) (number
   pub some : is_numbers count line ≡ (eqb (length left + k) count && all_numbers left)
   pub values : numbers_of line ≡ take k numbers ++ map value_of left
 
-pub begin : (line : List ℕ) (count : ℕ) (numbers : List ℕ) → Read line count (parts_of line) numbers 0
+pub begin : (line part : List ℕ) (count : ℕ) (numbers : List ℕ) → part ≡ line → Read line count (parts_of part) numbers 0
 unfolding is_numbers numbers_of
-begin line count numbers = record { some = rw (add-zero (length (parts_of line))) refl; values = refl }
+begin line part count numbers same = rw same record { some = rw (add-zero (length (parts_of line))) refl; values = refl }
 
 module _ (line : List ℕ) (count : ℕ) (part : List ℕ) (left : List (List ℕ)) (numbers : List ℕ) (k : ℕ) (was : Read line count (part ∷ left) numbers k) where
   -- a part that is a number goes to its place
@@ -33,13 +32,3 @@ module _ (line : List ℕ) (count : ℕ) (part : List ℕ) (left : List (List �
 
   pub too_many : count ≡ k → is_numbers count line ≡ false
   too_many all = was.some ∙ rw (ne_eqb (suc (length left) + k) count (λ e. omega arith)) refl
-
-module _ (line : List ℕ) (count : ℕ) (numbers : List ℕ) (k : ℕ) (was : Read line count [] numbers k) where
-  pub too_few : k < count → is_numbers count line ≡ false
-  too_few less = was.some ∙ rw (ne_eqb (0 + k) count (λ e. omega arith)) refl
-
-  pub all_fit : count ≡ k → is_numbers count line ≡ true
-  all_fit all = was.some ∙ rw (eq-eqb (0 + k) count (omega arith)) refl
-
-  pub all_values : length numbers ≡ k → numbers ≡ numbers_of line
-  all_values all = sym (was.values ∙ append-nil (take k numbers) ∙ take_all k numbers (omega arith))

@@ -1,6 +1,6 @@
 // A text's first line as so many decimal numbers.
 ghost use Rattle.std.specs.Prelude.{◌≡◌, true, ◌&&◌, ltb, length, if◌then◌else◌, IsSome, ◌↔◌};
-ghost use Rattle.lines.specs.Reading.{all_digits, value_of, is_number, is_numbers, numbers_of, is_line, line_numbers};
+ghost use Rattle.lines.specs.Reading.{all_digits, value_of, is_number, is_line, line_numbers};
 
 // A part of one byte may be the digit 0; in a longer one it would lead.
 const ONE_BYTE: usize = 1;
@@ -31,11 +31,13 @@ pub fn number_of(part: &[u8]) -> Option<u32>
     value_of(part)
 }
 
-// A line as one number for each place, with a space between two. A loop over a lent slice: over an array of N it got no proof.
-fn numbers_on(line: &[u8], numbers: &mut [u32]) -> Option<()>
-    ensures some { IsSome result ↔ (is_numbers (length numbers.old) line.now ≡ true) }
-    ensures values { IsSome result → numbers.new ≡ numbers_of line.now }
+// A text's first line as one number for each place, with a space between two. What stands after the first newline isn't looked at.
+// The numbers mean something only at Some. `split` always gives a first part.
+pub fn numbers_into(text: &[u8], numbers: &mut [u32]) -> Option<()>
+    ensures some { IsSome result ↔ (is_line (length numbers.old) text.now ≡ true) }
+    ensures values { IsSome result → numbers.new ≡ line_numbers text.now }
 {
+    let line = text.split(|&b| b == b'\n').next()?;
     let mut parts = line.split(|&b| b == b' ');
     for number in numbers.iter_mut() {
         *number = number_of(parts.next()?)?;
@@ -46,12 +48,11 @@ fn numbers_on(line: &[u8], numbers: &mut [u32]) -> Option<()>
     }
 }
 
-// A text's first line as so many numbers. What stands after the first newline isn't looked at. `split` always gives a first part.
+// The same as an array, where the count is known: a loop over one of N places got no proof.
 pub fn numbers_of<const N: usize>(text: &[u8]) -> Option<[u32; N]>
     ensures { result ≡ (if is_line N text.now then Some (line_numbers text.now) else None) }
 {
     let mut numbers = [0; N];
-    let line = text.split(|&b| b == b'\n').next()?;
-    numbers_on(line, &mut numbers)?;
+    numbers_into(text, &mut numbers)?;
     Some(numbers)
 }

@@ -1,7 +1,7 @@
 // Document 01's plainrun, from a text to what it prints.
 #![tactic(auto)]
 
-ghost use Rattle.std.specs.Prelude.{◌≡◌, ◌+◌, ◌≤◌, length};
+ghost use Rattle.std.specs.Prelude.{◌≡◌, ◌+◌, ◌≤◌, length, take};
 ghost use Rattle.lines.specs.Pages.{HasRoom, Puts};
 ghost use Rattle.plain.specs.Printed.{answer_text, text_for, printed};
 
@@ -55,15 +55,17 @@ fn put_answer(page: &mut Page<'_>, n: Width, less: u32)
     page.put_named(b"less ", less);
 }
 
-// What is printed for a text, put into room that is lent: none is longer than 78 bytes.
+// What is printed for a text, put at the front of lent room: none is longer than 78 bytes.
+// Its length is answered, and not the slice of it: then the clauses say what the room holds.
 // As plan has it, but for the function and the room: one for both would take a closure, and say over it the clauses of put_printed.
 #[tactic(auto, using(lines::proofs::Runs::read_back))]
-pub fn answer<'a>(text: &[u8], out: &'a mut [u8]) -> &'a [u8]
+pub fn answer(text: &[u8], out: &mut [u8]) -> usize
     requires { 78 ≤ length out.old }
-    ensures value { result.now ≡ printed text.now }
-    ensures most { length result.now ≤ 78 }
+    ensures out_after { take result out.new ≡ printed text.now }
+    ensures long { result ≡ length (printed text.now) }
+    ensures most { result ≤ 78 }
 {
     let mut page = Page::new(out);
     put_printed(&mut page, text);
-    page.written()
+    page.len
 }

@@ -1,6 +1,7 @@
 // Runs the function of plainrun on many lines, and prints what each gets.
 #![tactic(auto)]
 
+use output::Onward;
 use std::io::{self, Write};
 
 // Lines that are five numbers: the example, the widths, the refusals of the boxes.
@@ -74,16 +75,19 @@ const NOT_NUMBERS: [&str; 13] = [
     "1111111111111111111111111111111111111111111111111111111111111111111111111111111111111111111111 5 4 1 2\n",
 ];
 
-// As plancases has it, but for the function and the room of its text: one for both would be a crate of its own for seven lines.
+// As plancases has it, but for the function and the room of its text: one for both would be a crate of its own for nine lines.
 fn show(rt: &impl Print, title: &str, lines: &[&str]) -> io::Result<()> {
     println!(rt; "{title}")?;
     for line in lines {
-        io::writer(rt).write_all(plain::answer(line.as_bytes(), &mut [0; 78]))?;
+        let mut out = [0; 78];
+        let end = plain::answer(line.as_bytes(), &mut out);
+        io::writer(rt).write_all(&out[..end])?;
     }
     Ok(())
 }
 
 fn main(rt: HostRuntime) -> io::Result<()> {
+    let rt = Onward { to: &rt };
     show(&rt, "five numbers", &NUMBERS)?;
     show(&rt, "width refused", &REFUSED_WIDTH)?;
     show(&rt, "share refused", &REFUSED_SHARE)?;

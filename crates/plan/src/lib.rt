@@ -1,7 +1,7 @@
 // The planner's work, from a text to what it prints: how much so many jobs need (document 02, P8).
 #![tactic(auto)]
 
-ghost use Rattle.std.specs.Prelude.{◌≡◌, ◌+◌, ◌≤◌, length};
+ghost use Rattle.std.specs.Prelude.{◌≡◌, ◌+◌, ◌≤◌, length, take};
 ghost use Rattle.lines.specs.Pages.{HasRoom, Puts};
 ghost use Rattle.needs.specs.Figures.{figures_of};
 ghost use Rattle.plan.specs.Printed.{figures_text, printed};
@@ -35,14 +35,17 @@ fn put_printed(page: &mut Page<'_>, text: &[u8])
     }
 }
 
-// What is printed for a text, put into room that is lent: none is longer than 94 bytes.
+// What is printed for a text, put at the front of lent room: none is longer than 94 bytes.
+// Its length is answered, and not the slice of it: then the clauses say what the room holds.
 // As plain has it, but for the function and the room: one for both would take a closure, and say over it the clauses of put_printed.
 #[tactic(auto, using(lines::proofs::Runs::read_back))]
-pub fn answer<'a>(text: &[u8], out: &'a mut [u8; 94]) -> &'a [u8]
-    ensures value { result.now ≡ printed text.now }
-    ensures most { length result.now ≤ 94 }
+pub fn answer(text: &[u8], out: &mut [u8]) -> usize
+    requires { 94 ≤ length out.old }
+    ensures out_after { take result out.new ≡ printed text.now }
+    ensures long { result ≡ length (printed text.now) }
+    ensures most { result ≤ 94 }
 {
     let mut page = Page::new(out);
     put_printed(&mut page, text);
-    page.written()
+    page.len
 }

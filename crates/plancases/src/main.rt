@@ -1,6 +1,7 @@
 // Runs the planner's function on many lines, and prints what each gets.
 #![tactic(auto)]
 
+use output::Onward;
 use std::io::{self, Write};
 
 const ONE_JOB: [&str; 7] = [
@@ -56,16 +57,19 @@ const NOT_NUMBERS: [&str; 11] = [
     "3 1111111111111111111111111111111111111111111111111111111111111111111111111111111111111111111111\n",
 ];
 
-// As plaincases has it, but for the function and the room of its text: one for both would be a crate of its own for seven lines.
+// As plaincases has it, but for the function and the room of its text: one for both would be a crate of its own for nine lines.
 fn show(rt: &impl Print, title: &str, lines: &[&str]) -> io::Result<()> {
     println!(rt; "{title}")?;
     for line in lines {
-        io::writer(rt).write_all(plan::answer(line.as_bytes(), &mut [0; 94]))?;
+        let mut out = [0; 94];
+        let end = plan::answer(line.as_bytes(), &mut out);
+        io::writer(rt).write_all(&out[..end])?;
     }
     Ok(())
 }
 
 fn main(rt: HostRuntime) -> io::Result<()> {
+    let rt = Onward { to: &rt };
     show(&rt, "one job, every width", &ONE_JOB)?;
     show(&rt, "several jobs", &SEVERAL_JOBS)?;
     show(&rt, "width refused", &REFUSED_WIDTH)?;
